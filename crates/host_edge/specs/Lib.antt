@@ -1,0 +1,6 @@
+pub mod Count
+pub mod Folder
+pub mod MemFolder
+pub mod MemSink
+pub mod Note
+pub mod Sink

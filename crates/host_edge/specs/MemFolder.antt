@@ -1,0 +1,23 @@
+use Rattle.std.specs.Prelude.{ℕ, ◌+◌, min, ◌||◌, if◌then◌else◌, List, [], length, is_none, unwrap_or, string_bytes}
+use Rattle.host_edge.specs.declared.mem_folder.NamedFile.{NamedFile}
+use Rattle.host_edge.specs.Count.{is_listed}
+use Rattle.host_edge.specs.Folder.{ToldFiles, file_named}
+use Rattle.host_edge.specs.Note.{Note}
+
+-- a folder in memory: its files, the numbers of the calls that fail, and the notes so far
+pub record MemFolderState : Type 0 where
+  pub files : ToldFiles
+  pub fails : List ℕ
+  pub notes : List Note
+
+-- a file as a folder tells it
+abbrev pub told_file : NamedFile → List ℕ × List ℕ
+told_file file = (string_bytes file.name, file.bytes.items)
+
+-- the note of the next read: it fails where the call is listed or the file is not there, and it takes a byte more than the limit where the file has one
+abbrev pub next_note : MemFolderState → List ℕ → ℕ → Note
+next_note folder name limit =
+    let file = file_named folder.files name in
+    let failed = is_listed folder.fails (length folder.notes + 1) || is_none file in
+    let taken = if failed then 0 else min (length (unwrap_or file [])) (limit + 1) in
+    record { name = name; limit = limit; taken = taken; failed = failed }

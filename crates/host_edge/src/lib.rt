@@ -1,0 +1,24 @@
+//! The outside of a program: files that are read by name, and output.
+//!
+//! Contracts speak of the outside through two traits. A `Folder` leaves a note of each read, and a
+//! `Sink` counts its faults; both tell what they hold only where they can. `MemFolder` and
+//! `MemSink` live in memory and tell all. `DiskFolder` and `StdSink` stand for real files and
+//! standard output, and tell nothing of them.
+#![tactic(auto)]
+
+mod disk_folder;
+mod folder;
+mod mem_folder;
+mod mem_sink;
+mod note;
+mod sink;
+mod std_sink;
+#[cfg(test)]
+mod tests;
+
+pub use disk_folder::DiskFolder;
+pub use folder::{Folder, FolderFault};
+pub use mem_folder::{MemFolder, NamedFile};
+pub use mem_sink::MemSink;
+pub use sink::{Sink, WriteFailed, write_all_to};
+pub use std_sink::StdSink;

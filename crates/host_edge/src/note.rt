@@ -1,0 +1,41 @@
+ghost use Rattle.std.specs.Prelude.{◌≡◌, ◌<◌, IfOk, OnOk, string_bytes, vec_len, vec_capacity};
+
+use std::alloc::{AllocError, Global};
+use std::marker::Model;
+
+/// One read: what it was asked for, and what came of it.
+#[derive(Debug, Drop)]
+pub(crate) struct StoredNote {
+    pub(crate) name: String,
+    pub(crate) limit: u64,
+    pub(crate) taken: u64,
+    pub(crate) failed: bool,
+}
+
+impl Model for StoredNote {
+    ghost use Rattle.std.specs.Prelude.{string_bytes};
+    ghost use Rattle.host_edge.specs.Note.{Note};
+
+    ghost Value = { Note };
+
+    ghost view = { λ n. record {
+      name = string_bytes n.name;
+      limit = n.limit;
+      taken = n.taken;
+      failed = n.failed;
+    } };
+}
+
+/// Takes the room for a note of a read of this name, and answers the note's copy of the name.
+pub(crate) fn room_for_note(
+    alloc: Global,
+    notes: &mut Vec<StoredNote>,
+    name: &str,
+) -> Result<String, AllocError>
+    ensures notes { notes.new.items ≡ notes.old.items }
+    ensures room { OnOk result (vec_len notes.new < vec_capacity notes.new) }
+    ensures name { IfOk result (λ copy. string_bytes copy ≡ name.now) }
+{
+    notes.reserve(1)?;
+    String::from_str(alloc, name)
+}

@@ -1,0 +1,3 @@
+pub mod Signed
+pub mod Places
+pub mod Steps

@@ -1,0 +1,49 @@
+use Rattle.std.specs.Prelude.{ℕ, ◌<◌, ◌⊎◌, ℤ, pos, ◌+ℤ◌, ◌-ℤ◌, ◌*ℤ◌, ◌≤ℤ◌, ◌<ℤ◌}
+use Rattle.plane_geom.specs.declared.point.Point.{Point}
+use Rattle.plane_geom.specs.declared.point.Dir.{Dir}
+use Rattle.plane_geom.specs.declared.point.Dir.TheVariants.{East, South, West, North}
+use Rattle.plane_geom.specs.declared.rect.Rect.{Rect}
+use Rattle.plane_geom.specs.Point.{IsCoordinate, forward}
+
+-- all four sides lie on the sheet
+pub record IsOnSheet (r : Rect) : Type 0 where
+  pub left : IsCoordinate r.left
+  pub top : IsCoordinate r.top
+  pub right : IsCoordinate r.right
+  pub bottom : IsCoordinate r.bottom
+
+-- the rectangle with each side moved out
+abbrev pub grown : Rect → ℤ → Rect
+grown r by = record { left = r.left -ℤ by; top = r.top -ℤ by; right = r.right +ℤ by; bottom = r.bottom +ℤ by }
+
+-- the place z / q is strictly between the two numbers
+abbrev pub IsInside : ℤ → ℤ → ℕ → ℤ → Type 0
+IsInside low high q z = ((low *ℤ pos q) <ℤ z) × (z <ℤ (high *ℤ pos q))
+
+-- the place z / q is the first number, the second, or between them
+abbrev pub IsWithin : ℤ → ℤ → ℕ → ℤ → Type 0
+IsWithin low high q z = ((low *ℤ pos q) ≤ℤ z) × (z ≤ℤ (high *ℤ pos q))
+
+-- the open interval from low to high and the closed one between a and b have a place in common
+pub record Overlaps (low high a b : ℤ) : Type 0 where
+  pub q : ℕ
+  pub z : ℤ
+  pub divides : 0 < q
+  pub inside : IsInside low high q z
+  pub within : IsWithin a b q z ⊎ IsWithin b a q z
+
+-- the straight segment between the points has a point inside the open rectangle
+pub record Meets (r : Rect) (a b : Point) : Type 0 where
+  pub x : Overlaps r.left r.right a.x b.x
+  pub y : Overlaps r.top r.bottom a.y b.y
+
+-- the unit step from the point in the direction has a point inside the open rectangle
+abbrev pub StepMeets : Rect → Point → Dir → Type 0
+StepMeets r p East = (r.top <ℤ p.y) × (p.y <ℤ r.bottom) × (r.left ≤ℤ p.x) × ((p.x +ℤ pos 1) ≤ℤ r.right)
+StepMeets r p South = (r.left <ℤ p.x) × (p.x <ℤ r.right) × (r.top ≤ℤ p.y) × ((p.y +ℤ pos 1) ≤ℤ r.bottom)
+StepMeets r p West = (r.top <ℤ p.y) × (p.y <ℤ r.bottom) × (r.left ≤ℤ (p.x -ℤ pos 1)) × (p.x ≤ℤ r.right)
+StepMeets r p North = (r.left <ℤ p.x) × (p.x <ℤ r.right) × (r.top ≤ℤ (p.y -ℤ pos 1)) × (p.y ≤ℤ r.bottom)
+
+-- one of the n unit steps from the point in the direction meets the open rectangle
+abbrev pub SomeStepMeets : Rect → Point → Dir → ℕ → Type 0
+SomeStepMeets r p d n = (k : ℕ) × (k < n) × StepMeets r (forward d k p) d

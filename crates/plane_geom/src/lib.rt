@@ -1,0 +1,10 @@
+//! Points, directions and rectangles on the plane of a diagram.
+//!
+//! Coordinates are whole thousandths of a GML unit. East is +x and South is +y.
+#![tactic(auto)]
+
+mod point;
+mod rect;
+
+pub use point::{Dir, Point, Way};
+pub use rect::{Rect, Solid, meets_by_steps};
