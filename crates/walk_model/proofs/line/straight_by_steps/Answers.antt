@@ -1,0 +1,20 @@
+use Rattle.std.proofs.Common.{suc, ◌+◌, replicate, sym, ap, ◌∙◌, arith}
+use Rattle.std.proofs.lemmas.List.{append-nil, take-replicate}
+use Rattle.walk_model.specs.Cost.{bends, runs}
+use Rattle.walk_model.specs.Walk.{after}
+use Rattle.walk_model.proofs.Bends.{bends-stretch, runs-stretch}
+use Rattle.walk_model.proofs.Passing.{passes_behind}
+use Rattle.walk_model.proofs.Scan.{after-replicate}
+use Rattle.walk_model.proofs.line.straight_by_steps.Goals as goal
+
+pub returns-clause-end : goal.returns-clause-end
+returns-clause-end c = λ p d n. after-replicate p n d
+
+pub returns-clause-points : goal.returns-clause-points
+returns-clause-points c = λ p d n k h. ap (after p) (take-replicate k n d h) ∙ after-replicate p k d
+
+pub returns-clause-no_bend : goal.returns-clause-no_bend
+returns-clause-no_bend c = bends-stretch
+
+pub returns-clause-one_run : goal.returns-clause-one_run
+returns-clause-one_run c = runs-stretch

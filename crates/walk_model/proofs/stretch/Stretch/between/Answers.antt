@@ -1,0 +1,11 @@
+use Rattle.std.proofs.Common.{◌≡◌, ◌+◌, sym, subst, arith}
+use Rattle.plane_geom.specs.Point.{IsStraight, PointIsOnSheet, distance, forward, heading}
+use Rattle.plane_geom.specs.declared.point.Point.{Point}
+use Rattle.walk_model.proofs.Scan.{straight_end}
+use Rattle.walk_model.proofs.Stretches.{between_on_sheet}
+use Rattle.walk_model.proofs.stretch.Stretch.between.Goals as goal
+
+pub invariant_of-result-clause-ends_within : goal.invariant_of-result-clause-ends_within
+invariant_of-result-clause-ends_within c =
+    let end : forward c.heading.result c.distance.result c.args.from ≡ c.args.to = rw (c.heading.ensures, c.distance.ensures) (straight_end c.args.from c.args.to c.requires.straight) in
+    subst PointIsOnSheet (sym end) c.requires.to_within

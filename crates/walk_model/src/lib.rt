@@ -1,0 +1,13 @@
+//! Walks on the plane: what a legal walk of a connector is, and what it costs.
+//!
+//! Lengths and costs are in thousandths of a GML unit.
+#![tactic(auto)]
+
+mod line;
+mod route;
+mod stretch;
+mod task;
+
+pub use line::{MOST_POINTS, cost_of, passed_between, passes};
+pub use route::{Answer, Points, Route, WrittenRoute};
+pub use task::{Choice, Task};
