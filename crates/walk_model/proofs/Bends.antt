@@ -1,4 +1,4 @@
-use Rattle.std.proofs.Common.{◌≡◌, ℕ, suc, zero, ◌+◌, ◌<◌, ◌≤◌, Option, Some, None, List, [], ◌∷◌, ◌++◌, replicate, refl, sym, ap, ◌∙◌, zero-add, arith}
+use Rattle.std.proofs.Common.{◌≡◌, ℕ, suc, zero, ◌+◌, ◌<◌, ◌≤◌, Option, Some, None, List, [], ◌++◌, replicate, refl, sym, ap, ◌∙◌, zero-add, arith}
 use Rattle.std.proofs.lemmas.List.{append-nil}
 use Rattle.plane_geom.specs.declared.point.Dir.{Dir}
 use Rattle.plane_geom.specs.declared.point.Dir.TheVariants.{East, South, West, North}
@@ -14,21 +14,10 @@ turn_same North = refl
 -- a bend is at most a doubling back
 pub turn_bound : (d e : Dir) → turn d e ≤ 2
 turn_bound East East = omega arith
-turn_bound East South = omega arith
-turn_bound East West = omega arith
-turn_bound East North = omega arith
-turn_bound South East = omega arith
 turn_bound South South = omega arith
-turn_bound South West = omega arith
-turn_bound South North = omega arith
-turn_bound West East = omega arith
-turn_bound West South = omega arith
 turn_bound West West = omega arith
-turn_bound West North = omega arith
-turn_bound North East = omega arith
-turn_bound North South = omega arith
-turn_bound North West = omega arith
 turn_bound North North = omega arith
+turn_bound _ _ = omega arith
 
 -- a stretch of equal steps has no bend, and goes on the run before it
 pub bends_after-stretch : (d : Dir) (n : ℕ) (ds : List Dir) → bends_after d (replicate n d ++ ds) ≡ bends_after d ds

@@ -1,9 +1,10 @@
-use Rattle.std.proofs.Common.{◌≡◌, ℕ, ◌+◌, ◌*◌, ◌<◌, ◌≤◌, Option, Some, None, List, [], ◌∷◌, ◌++◌, length, drop, get_or, replicate, All, refl, sym, ap, subst, ◌∙◌, arith, length-append}
+use Rattle.std.proofs.Common.{◌≡◌, ℕ, ◌+◌, ◌*◌, ◌<◌, ◌≤◌, Option, Some, None, List, ◌∷◌, ◌++◌, length, drop, get_or, replicate, All, sym, ap, subst, ◌∙◌, arith, length-append}
 use Rattle.std.proofs.lemmas.List.{drop_more, length-replicate}
 use Rattle.std.proofs.lemmas.List.Elements.{All-get_or, All-head, All-tail}
 use Rattle.plane_geom.specs.declared.point.Point.{Point}
 use Rattle.plane_geom.specs.declared.point.Dir.{Dir}
 use Rattle.plane_geom.specs.Point.{PointIsOnSheet, distance, heading}
+use Rattle.walk_model.specs.declared.line.TheConstants.{MOST_POINTS}
 use Rattle.walk_model.specs.Cost.{bends}
 use Rattle.walk_model.specs.Line.{steps_of, steps_through}
 use Rattle.walk_model.proofs.Bends.{bends_from, bends_from-stretch, turn_from, turn_from_bound}
@@ -13,13 +14,13 @@ use Rattle.walk_model.proofs.Stretches.{distance_bound}
 pub record CostSoFar (all : List Dir) (rest : List Point) (i : ℕ) (at : Point) (last : Option Dir) (walked turns : ℕ) : Type 0 where
   pub within : PointIsOnSheet at
   pub rest_within : All PointIsOnSheet rest
-  pub few : length rest ≤ 40000000
+  pub few : length rest ≤ MOST_POINTS
   pub all_steps : walked + length (steps_through at (drop i rest)) ≡ length all
   pub all_bends : turns + bends_from last (steps_through at (drop i rest)) ≡ bends all
   pub few_bends : turns ≤ 2 * i
   pub few_steps : walked ≤ 8000000000 * i
 
-pub cost_none : (points : List Point) (p : Point) (rest : List Point) → points ≡ p ∷ rest → All PointIsOnSheet points → length points ≤ 40000000 → CostSoFar (steps_of points) rest 0 p None 0 0
+pub cost_none : (points : List Point) (p : Point) (rest : List Point) → points ≡ p ∷ rest → All PointIsOnSheet points → length points ≤ MOST_POINTS → CostSoFar (steps_of points) rest 0 p None 0 0
 cost_none points p rest e within few =
     let all = subst (All PointIsOnSheet) e within in
     subst (λ ps. CostSoFar (steps_of ps) rest 0 p None 0 0) (sym e) (record {
@@ -29,7 +30,8 @@ cost_none points p rest e within few =
       all_steps = omega arith;
       all_bends = omega arith;
       few_bends = omega arith;
-      few_steps = omega arith })
+      few_steps = omega arith;
+    })
 
 -- the next segment adds its length
 pub cost_fits : (all : List Dir) (rest : List Point) (i : ℕ) (at : Point) (last : Option Dir) (walked turns : ℕ) (d : Point) (n : ℕ) → i < length rest → n ≡ distance at (get_or rest i d) → CostSoFar all rest i at last walked turns → walked + n ≤ 8000000000 * (i + 1)
@@ -50,7 +52,8 @@ cost_on all rest i at last walked turns d n e some long way more so =
       all_steps = omega (arith, so.all_steps, ap length next, length-append (replicate n e) ahead, length-replicate n e);
       all_bends = omega (arith, so.all_bends, ap (bends_from last) next, bends_from-stretch last e n ahead more);
       few_bends = omega (arith, so.few_bends, turn_from_bound last e);
-      few_steps = cost_fits all rest i at last walked turns d n some long so }
+      few_steps = cost_fits all rest i at last walked turns d n some long so;
+    }
 
 -- an empty segment adds nothing
 pub cost_stay : (all : List Dir) (rest : List Point) (i : ℕ) (at : Point) (last : Option Dir) (walked turns : ℕ) (d : Point) (n : ℕ) → i < length rest → n ≡ distance at (get_or rest i d) → n ≤ 0 → CostSoFar all rest i at last walked turns → CostSoFar all rest (i + 1) (get_or rest i d) last walked turns
@@ -58,7 +61,7 @@ cost_stay all rest i at last walked turns d n some long none so =
     let q = get_or rest i d in
     let empty : distance at q ≡ 0 = omega (arith, long, none) in
     let next : steps_through at (drop i rest) ≡ steps_through q (drop (i + 1) rest) =
-      ap (steps_through at) (drop_more rest i d some) ∙ ap (λ k. replicate k (heading at q) ++ steps_through q (drop (i + 1) rest)) empty in
+    ap (steps_through at) (drop_more rest i d some) ∙ ap (λ k. replicate k (heading at q) ++ steps_through q (drop (i + 1) rest)) empty in
     record {
       within = All-get_or PointIsOnSheet rest i d some so.rest_within;
       rest_within = so.rest_within;
@@ -66,4 +69,5 @@ cost_stay all rest i at last walked turns d n some long none so =
       all_steps = omega (arith, so.all_steps, ap length next);
       all_bends = omega (arith, so.all_bends, ap (bends_from last) next);
       few_bends = omega (arith, so.few_bends);
-      few_steps = omega (arith, so.few_steps) }
+      few_steps = omega (arith, so.few_steps);
+    }

@@ -1,15 +1,14 @@
-use Rattle.std.proofs.Common.{◌≡◌, Bool, true, false, cond, ℕ, suc, zero, ◌+◌, ◌-◌, ◌<◌, ◌≤◌, ◌⊎◌, ℤ, pos, ◌+ℤ◌, ◌-ℤ◌, List, [], ◌∷◌, ◌++◌, length, take, drop, replicate, get_or, refl, sym, ap, ◌∙◌, inl, inr, arith, length-append, length-take, length-drop}
+use Rattle.std.proofs.Common.{◌≡◌, true, false, ℕ, suc, zero, ◌+◌, ◌<◌, ◌≤◌, ℤ, List, [], ◌∷◌, ◌++◌, length, take, drop, replicate, get_or, refl, sym, ap, ◌∙◌, inl, inr, arith, length-append, length-drop}
 use lib.Signed.{lt_z, ◌<ℤ◌, ◌≤ℤ◌}
 use Rattle.std.proofs.lemmas.Int.{ints, by_lt_z}
-use Rattle.std.proofs.Math.IntN.{negsuc}
 use Rattle.std.proofs.lemmas.List.{length-replicate, take-append-le, take-replicate, drop-drop, drop_at, get_or-drop, get_or-replicate, get_or_append_left}
 use Rattle.std.proofs.Math.Seq.{take-add}
 use Rattle.plane_geom.specs.declared.point.Point.{Point}
 use Rattle.plane_geom.specs.declared.point.Dir.{Dir}
 use Rattle.plane_geom.specs.declared.point.Dir.TheVariants.{East, South, West, North}
 use Rattle.plane_geom.specs.Point.{IsStraight, distance, forward, heading}
-use Rattle.walk_model.specs.Walk.{Walk, after, point_at, step_at, end_of}
-use Rattle.walk_model.specs.Line.{AreStraight, steps_through, walk_through}
+use Rattle.walk_model.specs.Walk.{Walk, after, point_at, step_at}
+use Rattle.walk_model.specs.Line.{steps_through, walk_through}
 
 -- no step leads nowhere
 pub forward-zero : (d : Dir) (p : Point) → forward d 0 p ≡ p
@@ -54,8 +53,8 @@ straight_end p q (inl x) = by_lt_z p.y q.y
 straight_end p q (inr y) = by_lt_z p.x q.x
     (λ l. rw (less _ _ l) (same_point _ q (omega (arith, ints)) y))
     (λ l. by_lt_z q.x p.x
-      (λ m. rw (not_less _ _ l, less _ _ m) (same_point _ q (omega (arith, ints)) y))
-      (λ m. rw (not_less _ _ l, not_less _ _ m, not_less p.y q.y (omega (arith, ints))) (same_point _ q (omega (arith, ints)) (omega (arith, ints)))))
+    (λ m. rw (not_less _ _ l, less _ _ m) (same_point _ q (omega (arith, ints)) y))
+    (λ m. rw (not_less _ _ l, not_less _ _ m, not_less p.y q.y (omega (arith, ints))) (same_point _ q (omega (arith, ints)) (omega (arith, ints)))))
 
 -- k steps on the walk stands at the point, and goes on along the line from there through the others
 pub record Stands (w : Walk) (k : ℕ) (p : Point) (rest : List Point) : Type 0 where
@@ -94,4 +93,5 @@ stands_next w k p q qs straight s =
     record {
       within = omega (arith, length-drop k w.steps, ap length s.ahead, length-append (replicate n d) (steps_through q qs), length-replicate n d, s.within);
       at = stands_point w k n p q qs s (omega arith) ∙ straight_end p q straight;
-      ahead = sym (drop-drop n k w.steps) ∙ ap (drop n) s.ahead ∙ drop_at (replicate n d) (steps_through q qs) n (length-replicate n d) }
+      ahead = sym (drop-drop n k w.steps) ∙ ap (drop n) s.ahead ∙ drop_at (replicate n d) (steps_through q qs) n (length-replicate n d);
+    }

@@ -1,14 +1,11 @@
 use Rattle.std.specs.Bool.{then_some}
-use Rattle.std.proofs.Common.{◌≡◌, ◌↔◌, Bool, true, false, IsTrue, Some, ℕ, suc, zero, ◌+◌, ◌-◌, ◌*◌, ◌<◌, ◌≤◌, max, ℤ, pos, ◌+ℤ◌, ◌-ℤ◌, unsigned_abs, List, [], ◌∷◌, length, All, refl, sym, ap, subst, ◌∙◌, arith, length-append}
-use Rattle.std.proofs.lemmas.Int.{ints, clamps}
-use Rattle.std.proofs.lemmas.List.{length-replicate}
-use Rattle.std.proofs.lemmas.List.Elements.{All-head, All-tail}
+use Rattle.std.proofs.Common.{◌≡◌, ◌↔◌, Bool, true, false, IsTrue, Some, ℕ, ◌+◌, ◌-◌, ◌≤◌, max, ◌-ℤ◌, unsigned_abs, refl, sym, ap, ◌∙◌, arith}
+use Rattle.std.proofs.lemmas.Int.{ints}
 use Rattle.plane_geom.specs.declared.point.Point.{Point}
 use Rattle.plane_geom.specs.declared.point.Dir.{Dir}
 use Rattle.plane_geom.specs.declared.point.Dir.TheVariants.{East, South, West, North}
-use Rattle.plane_geom.specs.Point.{IsCoordinate, PointIsOnSheet, distance, forward, heading}
+use Rattle.plane_geom.specs.Point.{PointIsOnSheet, distance, forward}
 use Rattle.walk_model.specs.declared.stretch.Stretch.{Stretch}
-use Rattle.walk_model.specs.Line.{steps_through}
 use Rattle.walk_model.specs.Stretch.{IsPointOf}
 
 -- where both ends of a stretch are on the sheet, so are its points
@@ -40,11 +37,15 @@ place_of_point s k n p e h =
 
 -- what is answered where the stretch has a point n steps on
 pub number_answer : (s : Stretch) (n k : ℕ) (p : Point) (b : Bool) → n ≤ s.steps → n ≡ max (unsigned_abs (s.start.x -ℤ p.x)) (unsigned_abs (s.start.y -ℤ p.y)) → (IsTrue b ↔ (forward s.dir n s.start ≡ p)) → (then_some b (s.number + n) ≡ Some k) ↔ IsPointOf s k p
-number_answer s n k p true h e there =
-    (λ found. let same : s.number + n ≡ k = cc in record {
-       begun = omega arith; within = omega arith;
-       at = ap (λ m. forward s.dir m s.start) (omega (arith, same)) ∙ there.0 refl },
-     λ is. let place = place_of_point s k n p e is in ap Some (omega (arith, place, is.begun)))
-number_answer s n k p false h e there =
-    (λ found. cc,
-     λ is. let no : false ≡ true = there.1 (ap (λ m. forward s.dir m s.start) (sym (place_of_point s k n p e is)) ∙ is.at) in cc)
+number_answer s n k p true h e there = (
+  λ found. let same : s.number + n ≡ k = cc in record {
+    begun = omega arith;
+    within = omega arith;
+    at = ap (λ m. forward s.dir m s.start) (omega (arith, same)) ∙ there.0 refl;
+  },
+  λ is. let place = place_of_point s k n p e is in ap Some (omega (arith, place, is.begun)),
+)
+number_answer s n k p false h e there = (
+  λ found. cc,
+  λ is. let no : false ≡ true = there.1 (ap (λ m. forward s.dir m s.start) (sym (place_of_point s k n p e is)) ∙ is.at) in cc,
+)

@@ -8,6 +8,6 @@ mod route;
 mod stretch;
 mod task;
 
-pub use line::{MOST_POINTS, cost_of, passed_between, passes};
+pub use line::{MOST_POINTS, cost_of, passed_between, passes, straight_by_steps};
 pub use route::{Answer, Points, Route, WrittenRoute};
 pub use task::{Choice, Task};

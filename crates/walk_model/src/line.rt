@@ -98,8 +98,7 @@ pub fn straight_by_steps()
     ensures steps { (p : Point) (d : Dir) (n k : ℕ) → k < n → step_at (straight_walk p d n) k ≡ d }
     ensures no_bend { (d : Dir) (n : ℕ) → bends (replicate n d) ≡ 0 }
     ensures one_run { (d : Dir) (n : ℕ) → 0 < n → runs (replicate n d) ≡ 1 }
-{
-}
+{}
 
 /// The bends between two consecutive steps.
 fn turn(from: Dir, to: Dir) -> u64
@@ -111,5 +110,72 @@ fn turn(from: Dir, to: Dir) -> u64
         2
     } else {
         1
+    }
+}
+
+#[cfg(test)]
+mod tests {
+    use super::*;
+
+    #[test]
+    fn counts_steps_and_bends(rt: HostRuntime) {
+        let straight = [
+            Point { x: 0, y: 0 },
+            Point { x: 100, y: 0 },
+            Point { x: 100, y: 0 },
+            Point { x: 150, y: 0 },
+        ];
+        let turned = [
+            Point { x: 0, y: 0 },
+            Point { x: 100, y: 0 },
+            Point { x: 100, y: 0 },
+            Point { x: 100, y: 30 },
+        ];
+        let doubled_back = [
+            Point { x: 0, y: 0 },
+            Point { x: 100, y: 0 },
+            Point { x: 40, y: 0 },
+        ];
+        assert_eq!(rt; cost_of(&straight, 50), 150);
+        assert_eq!(rt; cost_of(&turned, 50), 180);
+        assert_eq!(rt; cost_of(&doubled_back, 50), 260);
+        assert_eq!(rt; cost_of(&[], 50), 0);
+    }
+
+    #[test]
+    fn passes_in_order(rt: HostRuntime) {
+        let line = [
+            Point { x: 0, y: 0 },
+            Point { x: 100, y: 0 },
+            Point { x: 100, y: 30 },
+        ];
+        let cases = [
+            ("ends", (0, 0), (100, 30), true),
+            ("equal", (40, 0), (40, 0), true),
+            ("wrong order", (60, 0), (40, 0), false),
+            ("corner", (100, 0), (100, 10), true),
+            ("off the line", (40, 0), (40, 1), false),
+        ];
+        for (case, first, second, passed) in cases {
+            let via = [first, second].map(|(x, y)| Point { x, y });
+            assert_eq!(rt; passes(&line, &via), passed, "{case}");
+        }
+    }
+
+    #[test]
+    fn passes_between_two_points(rt: HostRuntime) {
+        let line = [
+            Point { x: 0, y: 0 },
+            Point { x: 100, y: 0 },
+            Point { x: 100, y: 30 },
+        ];
+        let via = [
+            Point { x: 40, y: 0 },
+            Point { x: 100, y: 0 },
+            Point { x: 100, y: 10 },
+        ];
+        for (from, to, passed) in [(40, 110, 3), (41, 110, 0), (40, 109, 2)] {
+            assert_eq!(rt; passed_between(&line, from, to, &via), passed, "{from}");
+        }
     }
 }

@@ -36,3 +36,49 @@ pub struct WrittenRoute {
     pub edge: u32,
     pub points: Points,
 }
+
+#[cfg(test)]
+mod tests {
+    use super::*;
+    use crate::task::{Choice, Task};
+    use plane_geom::Dir;
+    use std::test::Fail;
+
+    #[test]
+    fn answers_a_task(rt: HostRuntime) -> Result<(), Fail> {
+        let alloc = rt.alloc();
+        let pin = Point { x: 0, y: 0 };
+        let port = Point { x: 14, y: 0 };
+        let choice = Choice {
+            node: 1,
+            pin,
+            dir: Dir::East,
+            port,
+            cost: 0,
+        };
+        let task = Task {
+            starts: vec![in alloc; choice]?,
+            ends: vec![in alloc]?,
+            via: vec![in alloc; port]?,
+            penalty: 50,
+        };
+        let route = Route {
+            start: 0,
+            end: 0,
+            points: Points(vec![in alloc; pin, port]?),
+            cost: 14,
+        };
+        let answer = Answer {
+            edge: 1,
+            route: Some(route),
+        };
+        let written = WrittenRoute {
+            edge: 1,
+            points: Points(vec![in alloc; pin, port]?),
+        };
+        assert_eq!(rt; task.starts.len(), 1);
+        assert!(rt; answer.route.is_some());
+        assert_eq!(rt; written.points.0.len(), 2);
+        Ok(())
+    }
+}

@@ -40,8 +40,10 @@ impl Stretch {
     fn number_of(&self, point: Point) -> Option<u64>
         ensures { (k : ℕ) → (result ≡ Some k) ↔ IsPointOf self.now k point }
     {
-        // Of a point on the stretch, one of the two differences is 0.
-        let steps = self.start.x.abs_diff(point.x).max(self.start.y.abs_diff(point.y));
+        let across = self.start.x.abs_diff(point.x);
+        let along = self.start.y.abs_diff(point.y);
+        // Of a point on the stretch, one of the two is 0.
+        let steps = across.max(along);
         if steps > self.steps {
             return None;
         }
@@ -54,7 +56,8 @@ impl Stretch {
     pub fn passed_between(&self, from: u64, to: u64, via: &[Point]) -> usize
         ensures at_most { result ≤ length via.now }
         ensures most { (w : Walk) → GoesAlong w self.now →
-            PassesMost w (max from self.now.number) (min to (self.now.number + self.now.steps)) via.now result }
+            PassesMost w (max from self.now.number)
+            (min to (self.now.number + self.now.steps)) via.now result }
     {
         let mut place = from.max(self.number);
         for (passed, &checkpoint) in via.iter().enumerate() {

@@ -16,9 +16,11 @@ pub loop-next-preserved : goal.loop-next-preserved
 loop-next-preserved c =
     let so = c.loop-next.invariant in
     elim c.if-steps-gt0.branch [
-      then-steps-gt0 w ↦ (
-        let turned : w.match-last.bends ≡ c.loop-next.bends + turn_from c.loop-next.last w.heading-dir.result = elim w.match-last.branch [
-            in-Some-last v ↦ rw (v.bends-is, v.turn-bends.ensures, v.in-Some-last.is) refl
-          | in_default-last v ↦ rw (v.bends-is, v.in_default-last.is) (sym (add-zero c.loop-next.bends)) ] in
-        rw (w.at-is, w.last-is, w.walked-is, w.bends-is, turned) (cost_on _ _ _ _ _ _ _ _ _ _ c.loop-next-test.true c.distance-steps.ensures w.heading-dir.ensures w.if-steps-gt0.true so))
-    | else-steps-gt0 w ↦ rw (w.at-is, w.last-is, w.walked-is, w.bends-is) (cost_stay _ _ _ _ _ _ _ _ _ c.loop-next-test.true c.distance-steps.ensures w.if-steps-gt0.false so) ]
+      | then-steps-gt0 w ↦ (
+          let turned : w.match-last.bends ≡ c.loop-next.bends + turn_from c.loop-next.last w.heading-dir.result = elim w.match-last.branch [
+            | in-Some-last v ↦ rw (v.bends-is, v.turn-bends.ensures, v.in-Some-last.is) refl
+            | in_default-last v ↦ rw (v.bends-is, v.in_default-last.is) (sym (add-zero c.loop-next.bends))
+          ] in
+          rw (w.at-is, w.last-is, w.walked-is, w.bends-is, turned) (cost_on _ _ _ _ _ _ _ _ _ _ c.loop-next-test.true c.distance-steps.ensures w.heading-dir.ensures w.if-steps-gt0.true so))
+      | else-steps-gt0 w ↦ rw (w.at-is, w.last-is, w.walked-is, w.bends-is) (cost_stay _ _ _ _ _ _ _ _ _ c.loop-next-test.true c.distance-steps.ensures w.if-steps-gt0.false so)
+    ]

@@ -1,6 +1,6 @@
-use Rattle.std.proofs.Common.{◌≡◌, ◌↔◌, IsTrue, nat_eq, length, refl, ap, arith}
+use Rattle.std.proofs.Common.{◌≡◌, length, refl, ap, arith}
 use Rattle.std.proofs.lemmas.Bool.Decides.{nat_tests}
-use Rattle.walk_model.specs.Legal.{Passes, PassesMost}
+use Rattle.walk_model.specs.Legal.{PassesMost}
 use Rattle.walk_model.proofs.Passing.{most_all, most_range}
 use Rattle.walk_model.proofs.Segments.{draws_steps}
 use Rattle.walk_model.proofs.line.passes.Goals as goal

@@ -1,9 +1,7 @@
-use Rattle.std.proofs.Common.{suc, ◌+◌, replicate, sym, ap, ◌∙◌, arith}
-use Rattle.std.proofs.lemmas.List.{append-nil, take-replicate}
-use Rattle.walk_model.specs.Cost.{bends, runs}
+use Rattle.std.proofs.Common.{ap, ◌∙◌}
+use Rattle.std.proofs.lemmas.List.{take-replicate}
 use Rattle.walk_model.specs.Walk.{after}
 use Rattle.walk_model.proofs.Bends.{bends-stretch, runs-stretch}
-use Rattle.walk_model.proofs.Passing.{passes_behind}
 use Rattle.walk_model.proofs.Scan.{after-replicate}
 use Rattle.walk_model.proofs.line.straight_by_steps.Goals as goal
 

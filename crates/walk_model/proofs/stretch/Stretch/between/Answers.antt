@@ -1,8 +1,6 @@
-use Rattle.std.proofs.Common.{◌≡◌, ◌+◌, sym, subst, arith}
-use Rattle.plane_geom.specs.Point.{IsStraight, PointIsOnSheet, distance, forward, heading}
-use Rattle.plane_geom.specs.declared.point.Point.{Point}
+use Rattle.std.proofs.Common.{◌≡◌, sym, subst}
+use Rattle.plane_geom.specs.Point.{PointIsOnSheet, forward}
 use Rattle.walk_model.proofs.Scan.{straight_end}
-use Rattle.walk_model.proofs.Stretches.{between_on_sheet}
 use Rattle.walk_model.proofs.stretch.Stretch.between.Goals as goal
 
 pub invariant_of-result-clause-ends_within : goal.invariant_of-result-clause-ends_within

@@ -1,8 +1,6 @@
-use Rattle.std.proofs.Common.{◌≡◌, ◌↔◌, ◌+◌, ◌-◌, ◌<◌, ◌≤◌, max, ℤ, ◌-ℤ◌, unsigned_abs, IsTrue, None, Some, true, false, w64, FitsSigned, refl, sym, ap, subst, ◌∙◌, arith, rules}
-use Rattle.std.proofs.lemmas.Int.{to_z-of_z}
+use Rattle.std.proofs.Common.{◌≡◌, ◌↔◌, max, ◌-ℤ◌, unsigned_abs, IsTrue, arith, rules}
 use Rattle.plane_geom.specs.Point.{forward}
 use Rattle.plane_geom.proofs.Signed.{coordinate_fits, signed}
-use Rattle.walk_model.specs.Stretch.{IsPointOf}
 use Rattle.walk_model.proofs.Stretches.{between_on_sheet, number_answer, place_of_point}
 use Rattle.walk_model.proofs.stretch.Stretch.number_of.Goals as goal
 
@@ -17,10 +15,12 @@ returns-then-steps-self c = λ k.
     let p = c.args.point in
     let x = coordinate_fits s.start.x s.starts_within.x in
     let y = coordinate_fits s.start.y s.starts_within.y in
-    let steps : c.max-steps.result ≡ max (unsigned_abs (s.start.x -ℤ p.x)) (unsigned_abs (s.start.y -ℤ p.y)) = grind (arith, signed) in
-    (λ e. cc, λ h.
-      let n = place_of_point s k c.max-steps.result p steps h in
-      absurd (omega (arith, n, h.within, c.if-steps-self.true)))
+    let steps : c.max-steps.result ≡ max (unsigned_abs (s.start.x -ℤ p.x)) (unsigned_abs (s.start.y -ℤ p.y)) = grind (arith, signed) in (
+      λ e. cc,
+      λ h.
+          let n = place_of_point s k c.max-steps.result p steps h in
+          absurd (omega (arith, n, h.within, c.if-steps-self.true)),
+    )
 
 pub returns : goal.returns
 returns c = λ k.
