@@ -1,3 +1,5 @@
 pub mod Signed
 pub mod Places
 pub mod Steps
+pub mod Ways
+pub mod Pieces

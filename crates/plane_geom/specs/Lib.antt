@@ -1,2 +1,4 @@
 pub mod Point
 pub mod Rect
+pub mod Floor
+pub mod Axes

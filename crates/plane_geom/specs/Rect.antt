@@ -1,9 +1,9 @@
-use Rattle.std.specs.Prelude.{ℕ, ◌<◌, ◌⊎◌, ℤ, pos, ◌+ℤ◌, ◌-ℤ◌, ◌*ℤ◌, ◌≤ℤ◌, ◌<ℤ◌}
+use Rattle.std.specs.Prelude.{◌≡◌, ℕ, ◌+◌, ◌<◌, ◌⊎◌, ℤ, pos, ◌+ℤ◌, ◌-ℤ◌, ◌*ℤ◌, ◌≤ℤ◌, ◌<ℤ◌, unsigned_abs}
 use Rattle.plane_geom.specs.declared.point.Point.{Point}
 use Rattle.plane_geom.specs.declared.point.Dir.{Dir}
 use Rattle.plane_geom.specs.declared.point.Dir.TheVariants.{East, South, West, North}
 use Rattle.plane_geom.specs.declared.rect.Rect.{Rect}
-use Rattle.plane_geom.specs.Point.{IsCoordinate, forward}
+use Rattle.plane_geom.specs.Point.{IsCoordinate, distance, forward}
 
 -- all four sides lie on the sheet
 pub record IsOnSheet (r : Rect) : Type 0 where
@@ -47,3 +47,34 @@ StepMeets r p North = (r.left <ℤ p.x) × (p.x <ℤ r.right) × (r.top ≤ℤ (
 -- one of the n unit steps from the point in the direction meets the open rectangle
 abbrev pub SomeStepMeets : Rect → Point → Dir → ℕ → Type 0
 SomeStepMeets r p d n = (k : ℕ) × (k < n) × StepMeets r (forward d k p) d
+
+-- the point lies inside the open rectangle
+pub record HasInside (r : Rect) (p : Point) : Type 0 where
+  pub x : (r.left <ℤ p.x) × (p.x <ℤ r.right)
+  pub y : (r.top <ℤ p.y) × (p.y <ℤ r.bottom)
+
+-- the point lies in the closed rectangle
+pub record HasWithin (r : Rect) (p : Point) : Type 0 where
+  pub left : r.left ≤ℤ p.x
+  pub right : p.x ≤ℤ r.right
+  pub top : r.top ≤ℤ p.y
+  pub bottom : p.y ≤ℤ r.bottom
+
+-- a number from low to high that lies on the way from z to each number from low to high
+pub record IsOnTheWay (low z high number : ℤ) : Type 0 where
+  pub from : low ≤ℤ number
+  pub to : number ≤ℤ high
+  pub between : (other : ℤ) → low ≤ℤ other → other ≤ℤ high →
+      unsigned_abs (z -ℤ number) + unsigned_abs (number -ℤ other) ≡ unsigned_abs (z -ℤ other)
+
+-- a point of the closed rectangle that lies on a shortest way from the other point to each point of the rectangle
+pub record IsNearest (r : Rect) (p nearest : Point) : Type 0 where
+  pub x : IsOnTheWay r.left p.x r.right nearest.x
+  pub y : IsOnTheWay r.top p.y r.bottom nearest.y
+
+-- a way from the one point through the closed rectangle to the other has this length, and none is shorter
+pub record IsLeastThrough (r : Rect) (a b : Point) (length : ℤ) : Type 0 where
+  pub through : Point
+  pub within : HasWithin r through
+  pub reached : length ≡ pos (distance a through + distance through b)
+  pub least : (p : Point) → HasWithin r p → length ≤ℤ pos (distance a p + distance p b)

@@ -1,6 +1,6 @@
-ghost use Rattle.std.specs.Prelude.{◌≡◌, ◌↔◌, ◌<◌, ℕ, IsTrue};
+ghost use Rattle.std.specs.Prelude.{◌≡◌, ◌↔◌, ◌<◌, ◌≤ℤ◌, ◌<ℤ◌, ℕ, IsTrue};
 ghost use Rattle.plane_geom.specs.Point.{forward};
-ghost use Rattle.plane_geom.specs.Rect.{Meets, Overlaps, SomeStepMeets};
+ghost use Rattle.plane_geom.specs.Rect.{IsOnTheWay, Meets, Overlaps, SomeStepMeets};
 ghost use Rattle.plane_geom.specs.declared.point.Dir.{Dir};
 ghost use Rattle.plane_geom.specs.declared.point.Point.{Point};
 ghost use Rattle.plane_geom.specs.declared.rect.Rect.{Rect};
@@ -16,7 +16,7 @@ pub struct Rect {
     pub bottom: i64,
 }
 
-/// The open inside of a node's buffered box, which no route may enter.
+/// The open inside of a node's buffered box, which no route may enter but by a stub of that node.
 #[derive(Clone, Copy, Debug, PartialEq, Eq, Hash)]
 pub struct Solid {
     pub node: i64,
@@ -24,7 +24,7 @@ pub struct Solid {
 }
 
 impl Rect {
-    ghost use Rattle.plane_geom.specs.Rect.{IsOnSheet, grown, Meets};
+    ghost use Rattle.plane_geom.specs.Rect.{HasInside, IsLeastThrough, IsNearest, IsOnSheet, Meets, grown};
     ghost use Rattle.plane_geom.specs.Point.{IsStraight, PointIsOnSheet};
 
     /// The rectangle with each side moved out by `by` thousandths.
@@ -44,6 +44,55 @@ impl Rect {
             top: top - by,
             right: right + by,
             bottom: bottom + by,
+        }
+    }
+
+    /// Whether the point lies inside the open rectangle.
+    pub fn has_inside(&self, p: Point) -> bool
+        ensures { IsTrue result ↔ HasInside self.now p }
+    {
+        let Rect {
+            left,
+            top,
+            right,
+            bottom,
+        } = *self;
+        is_between(left, p.x, right) && is_between(top, p.y, bottom)
+    }
+
+    /// The least length of a way from `a` to `b` through a point of the closed rectangle.
+    ///
+    /// The point of the rectangle that is nearest to `a` is on such a way.
+    pub fn l1_through(&self, a: Point, b: Point) -> i64
+        requires within { IsOnSheet self.now }
+        requires from_within { PointIsOnSheet a }
+        requires to_within { PointIsOnSheet b }
+        requires wide { self.now.left ≤ℤ self.now.right }
+        requires high { self.now.top ≤ℤ self.now.bottom }
+        ensures { IsLeastThrough self.now a b result }
+    {
+        let nearest = self.nearest_to(a);
+        (a.distance(nearest) + nearest.distance(b)) as i64
+    }
+
+    /// The point of the closed rectangle that is nearest to the other point.
+    fn nearest_to(&self, p: Point) -> Point
+        requires within { IsOnSheet self.now }
+        requires point_within { PointIsOnSheet p }
+        requires wide { self.now.left ≤ℤ self.now.right }
+        requires high { self.now.top ≤ℤ self.now.bottom }
+        ensures on_the_way { IsNearest self.now p result }
+        ensures on_sheet { PointIsOnSheet result }
+    {
+        let Rect {
+            left,
+            top,
+            right,
+            bottom,
+        } = *self;
+        Point {
+            x: nearest(left, p.x, right),
+            y: nearest(top, p.y, bottom),
         }
     }
 
@@ -72,6 +121,21 @@ pub fn meets_by_steps()
     ensures { (r : Rect) (p : Point) (d : Dir) (n : ℕ) → 0 < n →
         Meets r p (forward d n p) ↔ SomeStepMeets r p d n }
 {}
+
+/// The number from `low` to `high` that is nearest to `z`. It is on the way from `z` to each other of them.
+fn nearest(low: i64, z: i64, high: i64) -> i64
+    requires { low ≤ℤ high }
+    ensures { IsOnTheWay low z high result }
+{
+    z.max(low).min(high)
+}
+
+/// Whether the number is above the one and below the other.
+fn is_between(low: i64, z: i64, high: i64) -> bool
+    ensures { IsTrue result ↔ (low <ℤ z) × (z <ℤ high) }
+{
+    low < z && z < high
+}
 
 /// Whether the open interval from `low` to `high` and the closed one between `a` and `b` overlap.
 fn overlaps(low: i64, high: i64, a: i64, b: i64) -> bool
@@ -103,6 +167,46 @@ mod tests {
                 bottom: 44
             }
         );
+    }
+
+    #[test]
+    fn has_inside_what_is_on_no_side(rt: HostRuntime) {
+        let rect = Rect {
+            left: 0,
+            top: 0,
+            right: 2,
+            bottom: 4,
+        };
+        for (x, y, want) in [
+            (1, 1, true),
+            (1, 3, true),
+            (0, 1, false),
+            (2, 1, false),
+            (1, 4, false),
+        ] {
+            assert_eq!(rt; rect.has_inside(Point { x, y }), want, "at ({x}, {y})");
+        }
+    }
+
+    #[test]
+    fn goes_through_the_closed_rectangle(rt: HostRuntime) {
+        let rect = Rect {
+            left: 0,
+            top: 0,
+            right: 10,
+            bottom: 4,
+        };
+        let cases = [
+            ((-5, 2), (20, 2), 25),
+            ((-5, -5), (20, -5), 35),
+            ((12, 6), (13, 7), 10),
+            ((3, 3), (3, 3), 0),
+            ((-5, 2), (-5, 9), 17),
+        ];
+        for ((ax, ay), (bx, by), want) in cases {
+            let found = rect.l1_through(Point { x: ax, y: ay }, Point { x: bx, y: by });
+            assert_eq!(rt; found, want, "from ({ax}, {ay}) to ({bx}, {by})");
+        }
     }
 
     #[test]

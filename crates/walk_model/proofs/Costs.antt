@@ -8,7 +8,7 @@ use Rattle.walk_model.specs.declared.line.TheConstants.{MOST_POINTS}
 use Rattle.walk_model.specs.Cost.{bends}
 use Rattle.walk_model.specs.Line.{steps_of, steps_through}
 use Rattle.walk_model.proofs.Bends.{bends_from, bends_from-stretch, turn_from, turn_from_bound}
-use Rattle.walk_model.proofs.Stretches.{distance_bound}
+use Rattle.plane_geom.proofs.Signed.{distance_bound}
 
 -- at a corner, with what came before, and with what the corners ahead add, the steps and the bends are all
 pub record CostSoFar (all : List Dir) (rest : List Point) (i : ℕ) (at : Point) (last : Option Dir) (walked turns : ℕ) : Type 0 where

@@ -5,3 +5,10 @@ pub mod Stretches
 pub mod Along
 pub mod Costs
 pub mod Segments
+pub mod First
+pub mod StepLists
+pub mod StepOrder
+pub mod Shapes
+pub mod Keys
+pub mod Tests
+pub mod Cases

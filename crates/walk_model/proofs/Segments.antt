@@ -11,7 +11,8 @@ use Rattle.walk_model.specs.Legal.{PassesMost}
 use Rattle.walk_model.specs.Stretch.{GoesAlong, IsBetween}
 use Rattle.walk_model.proofs.Scan.{Stands, stands_first, stands_last, stands_next, stands_point}
 use Rattle.walk_model.proofs.Passing.{most-append, most_range}
-use Rattle.walk_model.proofs.Stretches.{distance_bound, distance_same}
+use Rattle.plane_geom.proofs.Signed.{distance_bound}
+use Rattle.walk_model.proofs.Stretches.{distance_same}
 
 -- the steps of a walk are those of the line that draws it
 pub draws_steps : (points : List Point) (w : Walk) → Draws points w → w.steps ≡ steps_of points

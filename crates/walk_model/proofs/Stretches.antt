@@ -26,10 +26,6 @@ difference-forward p North n = omega (arith, ints)
 pub distance_same : (p : Point) → distance p p ≡ 0
 distance_same p = omega (arith, ints)
 
--- how far two points of the sheet can be apart
-pub distance_bound : (p q : Point) → PointIsOnSheet p → PointIsOnSheet q → distance p q ≤ 8000000000
-distance_bound p q h g = omega (arith, ints, h.x.low, h.x.high, h.y.low, h.y.high, g.x.low, g.x.high, g.y.low, g.y.high)
-
 -- a point is on the stretch as many steps on as the greater of its two differences, or nowhere
 pub place_of_point : (s : Stretch) (k n : ℕ) (p : Point) → n ≡ max (unsigned_abs (s.start.x -ℤ p.x)) (unsigned_abs (s.start.y -ℤ p.y)) → IsPointOf s k p → k - s.number ≡ n
 place_of_point s k n p e h =

@@ -4,3 +4,7 @@ pub mod Cost
 pub mod Choice
 pub mod Legal
 pub mod Stretch
+pub mod Lean
+pub mod Order
+pub mod OneFirst
+pub mod RemainingSteps

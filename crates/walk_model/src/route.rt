@@ -1,3 +1,5 @@
+ghost use Rattle.std.specs.Prelude.{◌≡◌};
+
 use plane_geom::Point;
 use std::marker::Model;
 
@@ -12,6 +14,15 @@ impl Model for Points {
     ghost Value = { List Point };
 
     ghost view = { λ p. p.0.items };
+}
+
+impl Points {
+    /// The points, in order.
+    pub fn as_slice(&self) -> &[Point]
+        ensures { result.now ≡ self.now }
+    {
+        &self.0
+    }
 }
 
 /// A legal walk of a task. `start` and `end` are places in its `starts` and `ends`, from 0.

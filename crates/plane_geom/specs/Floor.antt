@@ -1,0 +1,71 @@
+use Rattle.std.specs.Prelude.{◌≡◌, ◌⊎◌, ℤ, ◌≤ℤ◌, ◌<ℤ◌, Any, All}
+use Rattle.plane_geom.specs.declared.point.Point.{Point}
+use Rattle.plane_geom.specs.declared.point.Way.{Way}
+use Rattle.plane_geom.specs.declared.point.Way.TheVariants.{Vertical, Horizontal}
+use Rattle.plane_geom.specs.declared.rect.Rect.{Rect}
+use Rattle.plane_geom.specs.declared.floor.Line.{Line}
+use Rattle.plane_geom.specs.declared.floor.Floor.{Floor}
+use Rattle.plane_geom.specs.Point.{IsCoordinate}
+use Rattle.plane_geom.specs.Rect.{Meets}
+
+-- the point of a whole line, which runs this way at this coordinate, that stands at z along it
+abbrev pub point_on : Way → ℤ → ℤ → Point
+point_on Vertical at z = record { x = at; y = z }
+point_on Horizontal at z = record { x = z; y = at }
+
+-- the two ends of a line
+abbrev pub first_point : Line → Point
+first_point l = point_on l.way l.at l.lo
+
+abbrev pub last_point : Line → Point
+last_point l = point_on l.way l.at l.hi
+
+-- the point lies on the line
+pub record Holds (l : Line) (p : Point) : Type 0 where
+  pub place : ℤ
+  pub from : l.lo ≤ℤ place
+  pub to : place ≤ℤ l.hi
+  pub here : p ≡ point_on l.way l.at place
+
+-- the two lines are pieces of one whole line
+pub record AreOnOneWholeLine (l m : Line) : Type 0 where
+  pub way : l.way ≡ m.way
+  pub at : l.at ≡ m.at
+
+-- a piece of a whole line within the sheet, with no point inside a solid; it may be a single point
+pub record IsFreePiece (floor : Floor) (l : Line) : Type 0 where
+  pub at : IsCoordinate l.at
+  pub lo : IsCoordinate l.lo
+  pub hi : IsCoordinate l.hi
+  pub ordered : l.lo ≤ℤ l.hi
+  pub free : All (λ s. Meets s.rect (first_point l) (last_point l) → ⊥) floor.solids.items
+
+-- a free piece that lies in no other
+pub record IsLongestFreePiece (floor : Floor) (l : Line) : Type 0 where
+  pub piece : IsFreePiece floor l
+  pub longest : (m : Line) → IsFreePiece floor m → AreOnOneWholeLine l m → m.lo ≤ℤ l.lo → l.hi ≤ℤ m.hi → m ≡ l
+
+-- the whole line at the coordinate has a closed side of the rectangle on it, from the one number to the other
+abbrev pub SideOn : Rect → Way → ℤ → ℤ → ℤ → Type 0
+SideOn r Vertical at lo hi = ((r.left ≡ at) ⊎ (r.right ≡ at)) × (r.top ≡ lo) × (r.bottom ≡ hi)
+SideOn r Horizontal at lo hi = ((r.top ≡ at) ⊎ (r.bottom ≡ at)) × (r.left ≡ lo) × (r.right ≡ hi)
+
+-- the line shares a point with a closed side of the rectangle that lies on its whole line
+abbrev pub SharesSide : Line → Rect → Type 0
+SharesSide l r = (lo : ℤ) × (hi : ℤ) × SideOn r l.way l.at lo hi × (l.lo ≤ℤ hi) × (lo ≤ℤ l.hi)
+
+-- a longest free piece that has some length and shares a point with a side on its whole line, or that holds an anchor
+pub record IsKept (floor : Floor) (l : Line) : Type 0 where
+  pub longest : IsLongestFreePiece floor l
+  pub reason : ((l.lo <ℤ l.hi) × Any (λ s. SharesSide l s.rect) floor.solids.items) ⊎ Any (Holds l) floor.anchors.items
+
+-- a point that lies on a vertical and on a horizontal kept line
+pub record IsCrossing (floor : Floor) (p : Point) : Type 0 where
+  pub vertical : Line
+  pub horizontal : Line
+  pub is_vertical : vertical.way ≡ Vertical
+  pub is_horizontal : horizontal.way ≡ Horizontal
+  pub vertical_kept : IsKept floor vertical
+  pub horizontal_kept : IsKept floor horizontal
+  pub on_vertical : Holds vertical p
+  pub on_horizontal : Holds horizontal p

@@ -1,0 +1,141 @@
+ghost use Rattle.std.specs.Prelude.{◌≡◌};
+
+use crate::point::Point;
+
+/// One of the two ways of lines, so that what is done for the one is written once for both.
+///
+/// Of a line, `across` is the coordinate at which it runs, and `along` goes from its one end to the other.
+pub trait Axis {
+    ghost use Rattle.std.specs.Prelude.{◌≡◌, ℤ};
+    ghost use Rattle.plane_geom.specs.declared.point.Point.{Point};
+    ghost use Rattle.plane_geom.specs.Point.{distance};
+
+    ghost across_of: { Point → ℤ };
+
+    ghost along_of: { Point → ℤ };
+
+    ghost point_of: { ℤ → ℤ → Point };
+
+    fn across(p: Point) -> i64
+        ensures { result ≡ across_of p };
+
+    fn along(p: Point) -> i64
+        ensures { result ≡ along_of p };
+
+    fn point(across: i64, along: i64) -> Point
+        ensures { result ≡ point_of across along };
+
+    /// A point is that of its own coordinates.
+    ghost point_again: { (p : Point) → point_of (across_of p) (along_of p) ≡ p };
+
+    ghost across_again: { (a b : ℤ) → across_of (point_of a b) ≡ a };
+
+    ghost along_again: { (a b : ℤ) → along_of (point_of a b) ≡ b };
+
+    /// To exchange the two coordinates twice changes nothing.
+    ghost swapped_twice: { (p : Point) →
+        let swapped = λ (q : Point). point_of (along_of q) (across_of q) in swapped (swapped p) ≡ p };
+
+    /// To exchange the two coordinates keeps lengths.
+    ghost swapped_lengths: { (p q : Point) →
+        distance (point_of (along_of p) (across_of p)) (point_of (along_of q) (across_of q)) ≡ distance p q };
+}
+
+/// Vertical lines, each at one x.
+#[derive(Clone, Copy, Debug, PartialEq, Eq, Hash)]
+pub struct XAxis;
+
+/// Horizontal lines, each at one y.
+#[derive(Clone, Copy, Debug, PartialEq, Eq, Hash)]
+pub struct YAxis;
+
+impl Axis for XAxis {
+    ghost use Rattle.std.specs.Prelude.{refl};
+    ghost use Rattle.plane_geom.specs.Axes.{turned_length};
+
+    ghost across_of = { λ p. p.x };
+
+    ghost along_of = { λ p. p.y };
+
+    ghost point_of = { λ a b. record { x = a; y = b } };
+
+    ghost point_again = { λ p. refl };
+
+    ghost across_again = { λ a b. refl };
+
+    ghost along_again = { λ a b. refl };
+
+    ghost swapped_twice = { λ p. refl };
+
+    ghost swapped_lengths = { turned_length };
+
+    fn across(p: Point) -> i64 {
+        p.x
+    }
+
+    fn along(p: Point) -> i64 {
+        p.y
+    }
+
+    fn point(across: i64, along: i64) -> Point {
+        Point {
+            x: across,
+            y: along,
+        }
+    }
+}
+
+impl Axis for YAxis {
+    ghost use Rattle.std.specs.Prelude.{refl};
+    ghost use Rattle.plane_geom.specs.Axes.{turned_length};
+
+    ghost across_of = { λ p. p.y };
+
+    ghost along_of = { λ p. p.x };
+
+    ghost point_of = { λ a b. record { x = b; y = a } };
+
+    ghost point_again = { λ p. refl };
+
+    ghost across_again = { λ a b. refl };
+
+    ghost along_again = { λ a b. refl };
+
+    ghost swapped_twice = { λ p. refl };
+
+    ghost swapped_lengths = { turned_length };
+
+    fn across(p: Point) -> i64 {
+        p.y
+    }
+
+    fn along(p: Point) -> i64 {
+        p.x
+    }
+
+    fn point(across: i64, along: i64) -> Point {
+        Point {
+            x: along,
+            y: across,
+        }
+    }
+}
+
+#[cfg(test)]
+mod tests {
+    use super::*;
+
+    fn turned<A: Axis>(p: Point) -> Point {
+        A::point(A::along(p), A::across(p))
+    }
+
+    #[test]
+    fn each_axis_exchanges_the_coordinates(rt: HostRuntime) {
+        let p = Point { x: 3, y: -7 };
+        let turned_once = Point { x: -7, y: 3 };
+        assert_eq!(rt; turned::<XAxis>(p), turned_once);
+        assert_eq!(rt; turned::<YAxis>(p), turned_once);
+        assert_eq!(rt; XAxis::across(p), 3);
+        assert_eq!(rt; YAxis::across(p), -7);
+    }
+}

@@ -1,0 +1,5 @@
+use Rattle.walk_model.proofs.First.{one_first}
+use Rattle.walk_model.proofs.order.one_first_walk.Goals as goal
+
+pub returns : goal.returns
+returns c = one_first

@@ -1,0 +1,160 @@
+ghost use Rattle.std.specs.Prelude.{◌≡◌, ◌+◌, ◌+ℤ◌, ◌<◌, ◌≤◌, ◌^◌, ◌↔◌, List, length, All, IfOk, IsTrue, unsigned_abs};
+ghost use Rattle.plane_geom.specs.declared.rect.Solid.{Solid};
+ghost use Rattle.plane_geom.specs.Point.{PointIsOnSheet};
+ghost use Rattle.walk_model.specs.Cost.{runs};
+ghost use Rattle.walk_model.specs.Lean.{across, line_lean};
+ghost use Rattle.walk_model.specs.Line.{IsStraightLine, steps_of};
+ghost use Rattle.walk_model.specs.OneFirst.{HasOneFirst};
+ghost use Rattle.walk_model.specs.Order.{IsRouteOf, Triple, compare_by_keys, compare_triples};
+ghost use Rattle.walk_model.specs.declared.task.Task.{Task};
+
+use crate::line::MOST_POINTS;
+use crate::route::Route;
+use crate::steps::compare_steps;
+use plane_geom::{Dir, Point};
+use std::cmp::Ordering;
+
+/// The runs of a line: how many they are, and the sum of their coordinates across.
+#[derive(Clone, Copy)]
+struct Shape {
+    runs: u64,
+    lean: i64,
+}
+
+impl Shape {
+    /// The shape with one run more, at the coordinate.
+    fn with_run(self, across: i64) -> Shape
+        requires runs { self.runs < 2 ^ 63 }
+        requires lean { unsigned_abs self.lean + unsigned_abs across < 2 ^ 63 }
+        ensures runs { result.runs ≡ self.runs + 1 }
+        ensures lean { result.lean ≡ self.lean +ℤ across }
+    {
+        Shape {
+            runs: self.runs + 1,
+            lean: self.lean + across,
+        }
+    }
+}
+
+/// Whether a step in the direction goes on the run of the last step.
+fn goes_on(last: Option<Dir>, dir: Dir) -> bool
+    ensures { IsTrue result ↔ (last ≡ Some dir) }
+{
+    last == Some(dir)
+}
+
+/// How many runs the walk along the line has: its longest blocks of equal steps.
+pub fn run_count(points: &[Point]) -> u64
+    requires straight { IsStraightLine points.now }
+    requires within { All PointIsOnSheet points.now }
+    requires few { length points.now ≤ MOST_POINTS }
+    ensures { result ≡ runs (steps_of points.now) }
+{
+    shape_of(points).runs
+}
+
+/// The coordinate across a step in the direction at the point.
+fn across(dir: Dir, at: Point) -> i64
+    ensures { result ≡ across dir at }
+{
+    match dir {
+        Dir::East | Dir::West => at.y,
+        Dir::South | Dir::North => at.x,
+    }
+}
+
+fn shape_of(points: &[Point]) -> Shape
+    requires straight { IsStraightLine points.now }
+    requires within { All PointIsOnSheet points.now }
+    requires few { length points.now ≤ MOST_POINTS }
+    ensures runs { result.runs ≡ runs (steps_of points.now) }
+    ensures lean { result.lean ≡ line_lean points.now }
+{
+    let mut shape = Shape { runs: 0, lean: 0 };
+    let Some((&first, rest)) = points.split_first() else {
+        return shape;
+    };
+    let mut at = first;
+    let mut last = None;
+    for &next in rest {
+        if at.distance(next) > 0 {
+            let dir = at.heading(next);
+            if !goes_on(last, dir) {
+                shape = shape.with_run(across(dir, at));
+                last = Some(dir);
+            }
+        }
+        at = next;
+    }
+    shape
+}
+
+/// The order of two routes of one task: by cost, then by the number of runs, the lean, the start choice,
+/// the list of unit steps and the end choice. A list of steps that begins another stands before it.
+///
+/// The steps are compared run by run, and none is made.
+pub fn compare_routes(a: &Route, b: &Route) -> Ordering
+    requires a_straight { IsStraightLine a.now.points }
+    requires b_straight { IsStraightLine b.now.points }
+    requires a_within { All PointIsOnSheet a.now.points }
+    requires b_within { All PointIsOnSheet b.now.points }
+    requires a_few { length a.now.points ≤ MOST_POINTS }
+    requires b_few { length b.now.points ≤ MOST_POINTS }
+    ensures keys { result ≡ compare_by_keys a.now b.now }
+    ensures order { (task : Task) (t u : Triple) → IsRouteOf task a.now t → IsRouteOf task b.now u →
+        result ≡ compare_triples task t u }
+{
+    let a_shape = shape_of(a.points.as_slice());
+    let b_shape = shape_of(b.points.as_slice());
+    a.cost
+        .cmp(&b.cost)
+        .then(a_shape.runs.cmp(&b_shape.runs))
+        .then(a_shape.lean.cmp(&b_shape.lean))
+        .then(a.start.cmp(&b.start))
+        .then(compare_steps(a.points.as_slice(), b.points.as_slice()))
+        .then(a.end.cmp(&b.end))
+}
+
+/// Of the legal walks of a task one stands before all others, where there is a legal walk at all.
+pub fn one_first_walk()
+    ensures { (solids : List Solid) (task : Task) → HasOneFirst solids task }
+{}
+
+#[cfg(test)]
+mod tests {
+    use super::*;
+    use crate::route::Points;
+    use std::alloc::{AllocError, Global};
+    use std::test::Fail;
+
+    const PIN: Point = Point { x: 0, y: 0 };
+
+    fn route(alloc: Global, end: u32, points: [Point; 3]) -> Result<Route, AllocError>
+        ensures { IfOk result (λ r. r.points ≡ points) }
+    {
+        Ok(Route {
+            start: 0,
+            end,
+            points: Points(Vec::from_slice(alloc, &points)?),
+            cost: 7,
+        })
+    }
+
+    #[test]
+    fn orders_routes_of_one_cost(rt: HostRuntime) -> Result<(), Fail> {
+        let alloc = rt.alloc();
+        let short = route(alloc, 1, [PIN, Point { x: 2, y: 0 }, Point { x: 2, y: 1 }])?;
+        let long = route(alloc, 0, [PIN, Point { x: 2, y: 0 }, Point { x: 2, y: 2 }])?;
+        let later = route(alloc, 0, [PIN, Point { x: 0, y: 2 }, Point { x: 2, y: 2 }])?;
+        let back = route(alloc, 0, [PIN, Point { x: 2, y: 0 }, Point { x: 1, y: 0 }])?;
+        // A list of steps that begins another stands first, whatever the end choices are.
+        assert_eq!(rt; compare_routes(&short, &long), Ordering::Less);
+        // Both have two runs and the lean 2, and East comes before South.
+        assert_eq!(rt; compare_routes(&long, &later), Ordering::Less);
+        // The lower lean stands first.
+        assert_eq!(rt; compare_routes(&long, &back), Ordering::Greater);
+        assert_eq!(rt; compare_routes(&back, &back), Ordering::Equal);
+        assert_eq!(rt; run_count(back.points.as_slice()), 2);
+        Ok(())
+    }
+}
