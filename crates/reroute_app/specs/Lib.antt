@@ -1,0 +1,8 @@
+pub mod Diagram
+pub mod Outcome
+pub mod Plain
+pub mod Reading
+pub mod Report
+pub mod Status
+pub mod Verdict
+pub mod View

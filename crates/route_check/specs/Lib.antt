@@ -1,0 +1,5 @@
+pub mod Steps
+pub mod Run
+pub mod Choices
+pub mod Verdict
+pub mod Hit

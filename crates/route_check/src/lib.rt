@@ -1,0 +1,11 @@
+//! The verdict on a drawn line: what it costs, or the first rule that it breaks.
+#![tactic(auto)]
+
+mod choice;
+mod hit;
+mod run;
+mod steps;
+mod straight;
+mod verdict;
+
+pub use verdict::{Breach, check};

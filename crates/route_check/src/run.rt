@@ -1,0 +1,75 @@
+ghost use Rattle.std.specs.Prelude.{◌≤◌, length, All};
+ghost use Rattle.plane_geom.specs.Point.{PointIsOnSheet};
+ghost use Rattle.walk_model.specs.Line.{AreStraight, walk_through};
+ghost use Rattle.walk_model.specs.declared.line.TheConstants.{MOST_POINTS};
+ghost use Rattle.route_check.specs.Run.{IsFirstRun, IsLastRun};
+
+use plane_geom::{Dir, Point};
+
+/// So many unit steps in one direction.
+#[derive(Clone, Copy)]
+pub struct Run {
+    pub heading: Dir,
+    pub length: u64,
+}
+
+const NO_STEPS: Run = Run {
+    heading: Dir::East,
+    length: 0,
+};
+
+/// The steps with which the line begins, as far as they go in one direction.
+pub fn first_run(first: Point, rest: &[Point]) -> Run
+    requires straight { AreStraight first rest.now }
+    requires begin_within { PointIsOnSheet first }
+    requires within { All PointIsOnSheet rest.now }
+    requires few { length rest.now ≤ MOST_POINTS }
+    ensures { IsFirstRun (walk_through first rest.now) result }
+{
+    let mut run = NO_STEPS;
+    let mut from = first;
+    for &to in rest {
+        let heading = from.heading(to);
+        let length = from.distance(to);
+        if length > 0 {
+            if run.length > 0 && heading != run.heading {
+                return run;
+            }
+            run = Run {
+                heading,
+                length: run.length + length,
+            };
+        }
+        from = to;
+    }
+    run
+}
+
+/// The steps with which the line ends, as far as they go in one direction.
+pub fn last_run(first: Point, rest: &[Point]) -> Run
+    requires straight { AreStraight first rest.now }
+    requires begin_within { PointIsOnSheet first }
+    requires within { All PointIsOnSheet rest.now }
+    requires few { length rest.now ≤ MOST_POINTS }
+    ensures { let w = walk_through first rest.now in IsLastRun w (length w.steps) result }
+{
+    let mut run = NO_STEPS;
+    let mut from = first;
+    for &to in rest {
+        let heading = from.heading(to);
+        let length = from.distance(to);
+        if length > 0 {
+            let before = if heading == run.heading {
+                run.length
+            } else {
+                0
+            };
+            run = Run {
+                heading,
+                length: before + length,
+            };
+        }
+        from = to;
+    }
+    run
+}
