@@ -1,0 +1,5 @@
+pub mod Number
+pub mod Split
+pub mod Numeral
+pub mod Digits
+pub mod Milli

@@ -1,0 +1,35 @@
+use Rattle.std.specs.Prelude.{◌≡◌, ℕ, ◌≤◌, ◌≢◌, ◌⊎◌, Bool, true, false, List, [], ◌∷◌, ◌++◌}
+use Rattle.std.specs.Char.{digit_value}
+use Rattle.std.specs.Str.Parse.{AllDigits}
+
+-- the first byte, if there is one, is no sign
+abbrev pub BeginsUnsigned : List ℕ → Type 0
+BeginsUnsigned [] = Unit {0}
+BeginsUnsigned (b ∷ bs) = (b ≢ 45) × (b ≢ 43)
+
+-- the first byte, if there is one, is no point
+abbrev pub BeginsPointless : List ℕ → Type 0
+BeginsPointless [] = Unit {0}
+BeginsPointless (b ∷ bs) = b ≢ 46
+
+-- the first byte, if there is one, is no digit
+abbrev pub EndsDigits : List ℕ → Type 0
+EndsDigits [] = Unit {0}
+EndsDigits (b ∷ bs) = 10 ≤ digit_value b
+
+-- the rest follows the sign, if one stands first
+abbrev pub SplitsSign : List ℕ → Bool → List ℕ → Type 0
+SplitsSign bytes true rest = bytes ≡ 45 ∷ rest
+SplitsSign bytes false rest = (bytes ≡ 43 ∷ rest) ⊎ ((bytes ≡ rest) × BeginsUnsigned bytes)
+
+-- the digits are all that stand first, and the rest follows them
+pub record SplitsDigits (bytes digits rest : List ℕ) : Type 0 where
+  pub spelled : bytes ≡ digits ++ rest
+  pub all_digits : AllDigits 10 digits
+  pub ended : EndsDigits rest
+
+-- the digits are all that follow the point, if one stands first, and the rest follows them
+abbrev pub SplitsFraction : List ℕ → List ℕ → List ℕ → Type 0
+SplitsFraction bytes fraction rest =
+    ((behind : List ℕ) × (bytes ≡ 46 ∷ behind) × SplitsDigits behind fraction rest)
+    ⊎ ((bytes ≡ rest) × (fraction ≡ []) × BeginsPointless bytes)
