@@ -1,0 +1,9 @@
+pub mod Everywhere
+pub mod Before
+pub mod Placed
+pub mod Reaching
+pub mod Heights
+pub mod AtNode
+pub mod Listed
+pub mod Free
+pub mod Keyed

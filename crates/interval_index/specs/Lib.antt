@@ -1,0 +1,5 @@
+pub mod Order
+pub mod Ends
+pub mod Height
+pub mod Tree
+pub mod Index
