@@ -1,7 +1,9 @@
 -- A sorted list round one of its spans.
 use Rattle.std.proofs.Common.{◌≡◌, Bool, true, false, cond, ◌||◌, List, [], ◌∷◌, ◌++◌, length, ◌+◌, ◌≤◌, refl, ap, ◌∙◌, arith}
 use Rattle.std.specs.List.{AllByRecursion, filter}
+use Rattle.std.proofs.lemmas.Bool.{or_left, or_right}
 use Rattle.std.proofs.lemmas.List.Elements.{filter-append}
+use Rattle.std.proofs.lemmas.List.Sums.{length-filter, count_by-le-length}
 use Rattle.interval_index.specs.declared.span.Span.{Span}
 use Rattle.interval_index.specs.Order.{is_before, IsSorted, inserted, without}
 use Rattle.interval_index.proofs.Everywhere.{all_map, all_front, all_back, filter_all}
@@ -44,13 +46,6 @@ inserted_right s n l r p h = inserted_past s n l r p (sorted_round l n r h).befo
 filter_round : (p : Span → Bool) (l : List Span) (n : Span) (r fl fr : List Span) → filter p l ≡ fl → filter p r ≡ fr → filter p (l ++ n ∷ r) ≡ fl ++ cond (p n) (n ∷ fr) fr
 filter_round p l n r fl fr e f = filter-append p l (n ∷ r) ∙ rw (e, f) refl
 
-or_left : (a b : Bool) → a ≡ true → (a || b) ≡ true
-or_left a b e = rw e refl
-
-or_right : (a b : Bool) → b ≡ true → (a || b) ≡ true
-or_right true b e = refl
-or_right false b e = e
-
 pub without_left : (s n : Span) (l r : List Span) → is_before s n ≡ true → IsSorted (l ++ n ∷ r) → without s (l ++ n ∷ r) ≡ without s l ++ n ∷ r
 without_left s n l r p h =
     let k = sorted_round l n r h in
@@ -82,14 +77,7 @@ pub length-inserted : (s : Span) (l : List Span) → length (inserted s l) ≡ l
 length-inserted s [] = refl
 length-inserted s (t ∷ l) = inserted_count (is_before s t) s t l (inserted s l) (length-inserted s l)
 
--- a filter keeps no more than there is
-filter_count : (b : Bool) (t : Span) (l m : List Span) → length m ≤ length l → length (cond b (t ∷ m) m) ≤ length (t ∷ l)
-filter_count true t l m e = omega arith
-filter_count false t l m e = omega arith
-
-length-filter-le : (p : Span → Bool) (l : List Span) → length (filter p l) ≤ length l
-length-filter-le p [] = omega arith
-length-filter-le p (t ∷ l) = filter_count (p t) t l (filter p l) (length-filter-le p l)
-
 pub length-without : (s : Span) (l : List Span) → length (without s l) ≤ length l
-length-without s l = length-filter-le (λ t. is_before s t || is_before t s) l
+length-without s l =
+    let test : Span → Bool = λ t. is_before s t || is_before t s in
+    rw (length-filter test l) (count_by-le-length test l)
