@@ -12,4 +12,3 @@ pub mod Verdicts
 pub mod PlainSizes
 pub mod Words
 pub mod Outcomes
-pub mod ThreeDigits

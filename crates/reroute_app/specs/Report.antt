@@ -1,18 +1,12 @@
-use Rattle.std.specs.Prelude.{ℕ, ◌+◌, ◌/◌, ◌%◌, List, [], ◌∷◌, ◌++◌, Result, Ok, Err, codes, decimal}
+use Rattle.std.specs.Prelude.{ℕ, ◌+◌, List, [], ◌∷◌, ◌++◌, Result, Ok, Err, codes, decimal}
 use Rattle.std.specs.Fmt.{signed_decimal}
+use Rattle.fixed_milli.specs.Milli.{size_text}
 use Rattle.route_check.specs.declared.verdict.Breach.{Breach}
 use Rattle.route_check.specs.declared.verdict.Breach.TheVariants.{Slanted, StartOff, EndOff, Hits, MissesVia}
 
--- the byte of a digit
-abbrev pub glyph : ℕ → ℕ
-glyph digit = 48 + digit
-
--- thousandths as units, a point and three digits
-abbrev pub units : ℕ → List ℕ
-units n = decimal (n / 1000) ++ codes "." ++ glyph (n / 100 % 10) ∷ glyph (n / 10 % 10) ∷ glyph (n % 10) ∷ []
-
+-- what is said of a line
 abbrev pub verdict_text : Result ℕ Breach → List ℕ
-verdict_text (Ok cost) = codes "cost " ++ units cost
+verdict_text (Ok cost) = codes "cost " ++ size_text cost
 verdict_text (Err (Slanted segment)) = codes "Slanted " ++ decimal segment
 verdict_text (Err StartOff) = codes "StartOff"
 verdict_text (Err EndOff) = codes "EndOff"
