@@ -1,0 +1,34 @@
+use Rattle.std.specs.Prelude.{ℕ, Bool, true, false, ◌==◌, ◌||◌, if◌then◌else◌, Option, Some, None}
+use Rattle.std.specs.Char.{is_ascii_digit}
+use Rattle.gml_text.specs.declared.token.NumberPart.{NumberPart}
+use Rattle.gml_text.specs.declared.token.NumberPart.TheVariants.{Sign, Whole, Point, Fraction, Mark, MarkSign, Exponent}
+
+abbrev pub is_sign : ℕ → Bool
+is_sign b = b == 43 || b == 45
+
+abbrev pub is_mark : ℕ → Bool
+is_mark b = b == 101 || b == 69
+
+-- the part after a number's first byte
+abbrev pub begun : ℕ → Option NumberPart
+begun b = if is_sign b then Some Sign else if b == 46 then Some Point else if is_ascii_digit b then Some Whole else None
+
+-- the part after one more byte
+abbrev pub after : NumberPart → ℕ → Option NumberPart
+after Sign b = if is_ascii_digit b then Some Whole else if b == 46 then Some Point else None
+after Whole b = if is_ascii_digit b then Some Whole else if b == 46 then Some Fraction else if is_mark b then Some Mark else None
+after Point b = if is_ascii_digit b then Some Fraction else None
+after Fraction b = if is_ascii_digit b then Some Fraction else if is_mark b then Some Mark else None
+after Mark b = if is_sign b then Some MarkSign else if is_ascii_digit b then Some Exponent else None
+after MarkSign b = if is_ascii_digit b then Some Exponent else None
+after Exponent b = if is_ascii_digit b then Some Exponent else None
+
+-- whether a number may end with the part
+abbrev pub is_complete : NumberPart → Bool
+is_complete Sign = false
+is_complete Whole = true
+is_complete Point = false
+is_complete Fraction = true
+is_complete Mark = false
+is_complete MarkSign = false
+is_complete Exponent = true

@@ -1,0 +1,36 @@
+use Rattle.std.specs.Prelude.{ℕ, List, [], ◌∷◌, map}
+use Rattle.gml_text.specs.Tree.{Content, number, text, list, Pairs, no_pairs, pair}
+use Rattle.gml_text.specs.declared.tree.Value.{Value, fold-Value}
+use Rattle.gml_text.specs.declared.tree.Pair.{Pair, fold-Pair}
+use Rattle.gml_text.specs.declared.tree.Value.TheOpen.{Value-F, Pair-F}
+
+-- a key with the content behind it
+abbrev pub Entry : Type 0
+Entry = List ℕ × Content
+
+-- entries, one after the other
+abbrev pub pairs_of : List Entry → Pairs
+pairs_of [] = no_pairs
+pairs_of (e ∷ es) = pair e.0 e.1 (pairs_of es)
+
+-- one level of a value, with each pair inside already seen as its entry
+abbrev pub content_step : Value-F Content Entry → Content
+content_step (Value-F.Number bytes) = number bytes
+content_step (Value-F.Text bytes) = text bytes
+content_step (Value-F.List pairs) = list (pairs_of pairs.items)
+
+-- one level of a pair
+abbrev pub entry_step : Pair-F Content Entry → Entry
+entry_step p = (p.key, p.value)
+
+-- what a value stands for, without where it lies in memory
+abbrev pub content : Value → Content
+content = fold-Value Content Entry content_step entry_step
+
+-- what a pair stands for
+abbrev pub entry : Pair → Entry
+entry = fold-Pair Content Entry content_step entry_step
+
+-- what some pairs stand for
+abbrev pub pairs : List Pair → Pairs
+pairs ps = pairs_of (map entry ps)

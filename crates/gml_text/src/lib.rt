@@ -1,0 +1,17 @@
+//! GML both ways: bytes as a tree of pairs, and a tree as bytes.
+#![tactic(auto)]
+
+mod fault;
+mod read;
+mod reader;
+mod token;
+mod tree;
+mod write;
+
+pub use fault::GmlFault;
+pub use read::parse;
+pub use tree::{Bytes, Doc, Pair, Value};
+pub use write::print;
+
+#[cfg(test)]
+mod tests;

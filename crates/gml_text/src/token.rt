@@ -1,0 +1,117 @@
+//! What a reader stands in, from one byte to the next.
+
+ghost use Rattle.std.specs.Prelude.{◌≡◌};
+ghost use Rattle.gml_text.specs.Bytes.{is_space, begins_key, is_key_byte, is_word_byte};
+ghost use Rattle.gml_text.specs.Token.{begun, after, is_complete};
+
+/// Where white space stands.
+#[derive(Clone, Copy)]
+pub(crate) enum Place {
+    /// Before a key, a closing bracket or the end of the document.
+    BetweenPairs,
+    /// Behind a key.
+    BeforeValue,
+}
+
+/// How far a number has been read.
+#[derive(Clone, Copy)]
+pub(crate) enum NumberPart {
+    /// The sign alone.
+    Sign,
+    /// Digits, and no point yet.
+    Whole,
+    /// A point with no digit before it or behind it.
+    Point,
+    /// Behind the point, with a digit on one of its sides.
+    Fraction,
+    /// The mark of the exponent alone.
+    Mark,
+    /// The mark and the sign of the exponent.
+    MarkSign,
+    /// Digits of the exponent.
+    Exponent,
+}
+
+/// What the byte that was read last belongs to.
+#[derive(Clone, Copy)]
+pub(crate) enum Token {
+    Gap(Place),
+    Comment(Place),
+    Key,
+    Number(NumberPart),
+    Text,
+}
+
+impl NumberPart {
+    /// The part after a number's first byte, if a number begins with it.
+    pub(crate) fn begun(byte: u8) -> Option<NumberPart>
+        ensures { result ≡ begun byte }
+    {
+        match byte {
+            b'+' | b'-' => Some(NumberPart::Sign),
+            b'.' => Some(NumberPart::Point),
+            _ if byte.is_ascii_digit() => Some(NumberPart::Whole),
+            _ => None,
+        }
+    }
+
+    /// The part after one more byte, if the number goes on with it.
+    pub(crate) fn after(self, byte: u8) -> Option<NumberPart>
+        ensures { result ≡ after self byte }
+    {
+        let digit = byte.is_ascii_digit();
+        let point = byte == b'.';
+        let sign = byte == b'+' || byte == b'-';
+        let mark = byte == b'e' || byte == b'E';
+        match self {
+            NumberPart::Sign | NumberPart::Whole if digit => Some(NumberPart::Whole),
+            NumberPart::Sign if point => Some(NumberPart::Point),
+            NumberPart::Whole if point => Some(NumberPart::Fraction),
+            NumberPart::Point | NumberPart::Fraction if digit => Some(NumberPart::Fraction),
+            NumberPart::Whole | NumberPart::Fraction if mark => Some(NumberPart::Mark),
+            NumberPart::Mark if sign => Some(NumberPart::MarkSign),
+            NumberPart::Mark | NumberPart::MarkSign | NumberPart::Exponent if digit => {
+                Some(NumberPart::Exponent)
+            }
+            _ => None,
+        }
+    }
+
+    /// Whether the number may end here.
+    pub(crate) fn is_complete(self) -> bool
+        ensures { result ≡ is_complete self }
+    {
+        matches!(
+            self,
+            NumberPart::Whole | NumberPart::Fraction | NumberPart::Exponent
+        )
+    }
+}
+
+/// Whether the byte is white space.
+pub(crate) fn is_space(byte: u8) -> bool
+    ensures { result ≡ is_space byte }
+{
+    matches!(byte, b' ' | b'\t' | b'\n' | b'\r')
+}
+
+/// Whether a key begins with the byte.
+pub(crate) fn begins_key(byte: u8) -> bool
+    ensures { result ≡ begins_key byte }
+{
+    byte.is_ascii_alphabetic() || byte == b'_'
+}
+
+/// Whether a key goes on with the byte.
+pub(crate) fn is_key_byte(byte: u8) -> bool
+    ensures { result ≡ is_key_byte byte }
+{
+    byte.is_ascii_alphanumeric() || byte == b'_'
+}
+
+/// Whether the byte is one of a word.
+pub(crate) fn is_word_byte(byte: u8) -> bool
+    ensures { result ≡ is_word_byte byte }
+{
+    is_key_byte(byte) || matches!(byte, b'+' | b'-' | b'.')
+}
