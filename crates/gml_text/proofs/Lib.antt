@@ -1,1 +1,4 @@
 pub mod Views
+pub mod ByteLemmas
+pub mod Numbers
+pub mod Accepting

@@ -2,6 +2,7 @@
 #![tactic(auto)]
 
 mod fault;
+mod laws;
 mod read;
 mod reader;
 mod token;
@@ -9,6 +10,7 @@ mod tree;
 mod write;
 
 pub use fault::GmlFault;
+pub use laws::spelled_once;
 pub use read::parse;
 pub use tree::{Bytes, Doc, Pair, Value};
 pub use write::print;
