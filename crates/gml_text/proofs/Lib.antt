@@ -2,3 +2,4 @@ pub mod Views
 pub mod ByteLemmas
 pub mod Numbers
 pub mod Accepting
+pub mod Spelling
