@@ -3,3 +3,5 @@ pub mod ByteLemmas
 pub mod Numbers
 pub mod Accepting
 pub mod Spelling
+pub mod Depths
+pub mod Parsing

@@ -6,3 +6,4 @@ pub mod View
 pub mod Token
 pub mod Reading
 pub mod Reader
+pub mod Fault

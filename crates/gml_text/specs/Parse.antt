@@ -36,9 +36,9 @@ pub record IsDocument (tree : Pairs) (bytes : List ℕ) : Type 0 where
   pub spelled : Spells tree bytes
   pub within_limit : depth tree ≤ most_open
 
--- what the bytes are read as; memory may be wanting before that is found
+-- what the bytes are read as; that memory is wanting the bytes do not say
 abbrev pub Reads : List ℕ → Result Pairs GmlFault → Type 0
 Reads bytes (Ok tree) = IsDocument tree bytes
 Reads bytes (Err (Syntax at)) = IsSyntaxAt bytes at
 Reads bytes (Err (TooDeep at)) = IsTooDeepAt bytes at
-Reads bytes (Err Memory) = Unit {0}
+Reads bytes (Err Memory) = ⊥

@@ -1,5 +1,8 @@
-use Rattle.std.specs.Prelude.{ℕ, List, [], ◌∷◌, map}
+use Rattle.std.specs.Prelude.{◌≡◌, ℕ, List, [], ◌∷◌, map, Result, Ok, Err}
 use Rattle.gml_text.specs.Tree.{Content, number, text, list, Pairs, no_pairs, pair}
+use Rattle.gml_text.specs.declared.fault.GmlFault.{GmlFault}
+use Rattle.gml_text.specs.declared.fault.GmlFault.TheVariants.{Memory}
+use Rattle.gml_text.specs.declared.tree.Doc.{Doc}
 use Rattle.gml_text.specs.declared.tree.Value.{Value, fold-Value}
 use Rattle.gml_text.specs.declared.tree.Pair.{Pair, fold-Pair}
 use Rattle.gml_text.specs.declared.tree.Value.TheOpen.{Value-F, Pair-F}
@@ -34,3 +37,13 @@ entry = fold-Pair Content Entry content_step entry_step
 -- what some pairs stand for
 abbrev pub pairs : List Pair → Pairs
 pairs ps = pairs_of (map entry ps)
+
+-- what a document stands for
+abbrev pub tree : Doc → Pairs
+tree doc = pairs doc.pairs.items
+
+-- the answer is this one, unless memory is wanting
+abbrev pub Answers : Result Doc GmlFault → Result Pairs GmlFault → Type 0
+Answers (Ok doc) answer = answer ≡ Ok (tree doc)
+Answers (Err Memory) answer = Unit {0}
+Answers (Err fault) answer = answer ≡ Err fault

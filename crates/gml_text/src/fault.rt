@@ -24,8 +24,13 @@ pub(crate) enum Refusal {
 }
 
 impl Refusal {
+    ghost use Rattle.std.specs.Prelude.{◌≡◌};
+    ghost use Rattle.gml_text.specs.Fault.{fault_at};
+
     /// The fault of a refusal at an offset.
-    pub(crate) fn at(self, at: usize) -> GmlFault {
+    pub(crate) fn at(self, at: usize) -> GmlFault
+        ensures { result ≡ fault_at self at }
+    {
         let at = at as u64;
         match self {
             Refusal::Syntax => GmlFault::Syntax { at },
