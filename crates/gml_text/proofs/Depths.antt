@@ -242,3 +242,24 @@ mode_completes (in_text key inner) fs ps = record {
 
 pub completion : (s : State) → Completion s
 completion s = mode_completes s.mode s.lists s.pairs
+
+no_deeper_whole : (fs : List Frame) (ps tree : Pairs) → whole fs ps ≡ Some tree → depth tree ≤ depth (closed_up fs ps)
+no_deeper_whole [] ps tree h = subst (λ t. depth t ≤ depth ps) (same_Some ps tree h) (omega arith)
+no_deeper_whole (f ∷ fs) ps tree h = absurd (none-some tree h)
+
+no_deeper_complete : (t : Bool) (fs : List Frame) (ps tree : Pairs) → cond t (whole fs ps) None ≡ Some tree → depth tree ≤ depth (closed_up fs ps)
+no_deeper_complete true fs ps tree h = no_deeper_whole fs ps tree h
+no_deeper_complete false fs ps tree h = absurd (none-some tree h)
+
+-- a document that ends is no deeper than its state
+pub no_deeper_end : (mode : Mode) (fs : List Frame) (ps tree : Pairs) → finished mode fs ps ≡ Some tree → depth tree ≤ depth (closed_up fs ps)
+no_deeper_end (in_gap between) fs ps tree h = no_deeper_whole fs ps tree h
+no_deeper_end (in_gap (behind key)) fs ps tree h = absurd (none-some tree h)
+no_deeper_end (in_comment between) fs ps tree h = no_deeper_whole fs ps tree h
+no_deeper_end (in_comment (behind key)) fs ps tree h = absurd (none-some tree h)
+no_deeper_end (in_key key) fs ps tree h = absurd (none-some tree h)
+no_deeper_end (in_number key digits part) fs ps tree h =
+    let e = height-flat fs ps key (number digits) refl in
+    let below = no_deeper_complete (is_complete part) fs (ps then pair key (number digits) no_pairs) tree h in
+    omega arith
+no_deeper_end (in_text key inner) fs ps tree h = absurd (none-some tree h)

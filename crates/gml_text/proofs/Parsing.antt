@@ -1,16 +1,24 @@
 -- From the states of a reader to what the bytes are read as.
-use Rattle.std.proofs.Common.{◌≡◌, ℕ, zero, suc, ◌+◌, ◌≤◌, ◌<◌, List, [], ◌∷◌, ◌++◌, length, take, Option, Some, None, ◌⊎◌, inl, inr, refl, sym, ap, ◌∙◌, subst, arith, append_assoc}
+use Rattle.std.proofs.Common.{◌≡◌, ℕ, zero, suc, ◌+◌, ◌≤◌, ◌<◌, List, [], ◌∷◌, ◌++◌, length, take, Option, Some, None, Result, Ok, Err, IsSomeAnd, ◌⊎◌, inl, inr, refl, sym, ap, ◌∙◌, subst, arith, append_assoc}
 use Rattle.std.specs.Option.{option_and_then}
-use Rattle.std.proofs.lemmas.Bool.{cases_lt}
-use Rattle.std.proofs.lemmas.Option.{none-some}
+use Rattle.std.proofs.lemmas.Bool.{cases_lt, cases_order}
+use Rattle.std.proofs.lemmas.Option.{none-some, same_Some}
 use Rattle.std.proofs.lemmas.List.{append-nil}
 use Rattle.gml_text.specs.Tree.{Pairs, depth}
 use Rattle.gml_text.specs.Grammar.{Spells}
-use Rattle.gml_text.specs.Parse.{most_open, Begins, BeginsWithinLimit, IsTooDeepAt, IsSyntaxAt}
-use Rattle.gml_text.specs.Reading.{State, start, stepped, accepted}
+use Rattle.gml_text.specs.Parse.{most_open, Begins, BeginsWithinLimit, IsTooDeepAt, IsSyntaxAt, IsDocument, Reads, IsFaultOf}
+use Rattle.gml_text.specs.Fault.{fault_at}
+use Rattle.gml_text.specs.Reader.{FinishGives}
+use Rattle.gml_text.specs.View.{Answers}
+use Rattle.gml_text.specs.declared.fault.GmlFault.{GmlFault}
+use Rattle.gml_text.specs.declared.fault.GmlFault.TheVariants as faults
+use Rattle.gml_text.specs.declared.fault.Refusal.{Refusal}
+use Rattle.gml_text.specs.declared.fault.Refusal.TheVariants.{Syntax, TooDeep, Memory}
+use Rattle.gml_text.specs.declared.tree.Doc.{Doc}
+use Rattle.gml_text.specs.Reading.{State, start, stepped, accepted, finished, Gives}
 use Rattle.gml_text.proofs.Accepting.{spelled_is_accepted}
 use Rattle.gml_text.proofs.Spelling.{accepted_is_spelled}
-use Rattle.gml_text.proofs.Depths.{height, lists_below, Keeps, step_keeps, accepted_height, completion}
+use Rattle.gml_text.proofs.Depths.{height, lists_below, Keeps, step_keeps, accepted_height, completion, no_deeper_end}
 
 -- the bytes lead from the start to the state
 abbrev pub Leads : List ℕ → State → Type 0
@@ -125,3 +133,99 @@ too_deep_at bytes at b s t h more r e many =
 pub document_at_end : (bytes : List ℕ) (s : State) (tree : Pairs) → LeadsWithinLimit bytes s → accepted [] s ≡ Some tree → Spells tree bytes
 document_at_end bytes s tree r e =
     accepted_is_spelled bytes tree (ap (λ x. accepted x start) (sym (append-nil bytes)) ∙ (r.leads [] ∙ e))
+
+too_deep_step : (bytes : List ℕ) (at b : ℕ) (s : State) (o : Option State) → at < length bytes → take (at + 1) bytes ≡ take at bytes ++ b ∷ []
+    → LeadsWithinLimit (take at bytes) s → stepped s b ≡ o → IsSomeAnd o (λ u. most_open < length u.lists) → IsTooDeepAt bytes at
+too_deep_step bytes at b s None h more r e many = absurd many
+too_deep_step bytes at b s (Some u) h more r e many = too_deep_at bytes at b s u h more r e many
+
+-- the fault of a refused byte
+pub step_fault : (bytes : List ℕ) (at b : ℕ) (s t : State) (refusal : Refusal) → at < length bytes → take (at + 1) bytes ≡ take at bytes ++ b ∷ []
+    → LeadsWithinLimit (take at bytes) s → Gives (stepped s b) (Err refusal) t → IsFaultOf bytes (fault_at refusal at)
+step_fault bytes at b s t Syntax h more r g = syntax_at_byte bytes at b s h more r g
+step_fault bytes at b s t TooDeep h more r g = too_deep_step bytes at b s (stepped s b) h more r refl g
+step_fault bytes at b s t Memory h more r g = tt
+
+-- the fault of a refused end
+pub end_fault : (bytes : List ℕ) (s : State) (refusal : Refusal) → LeadsWithinLimit bytes s → FinishGives s (Err refusal)
+    → IsFaultOf bytes (fault_at refusal (length bytes))
+end_fault bytes s Syntax r g = syntax_at_end bytes s r g
+end_fault bytes s TooDeep r g = absurd g
+end_fault bytes s Memory r g = tt
+
+spelled_one : (tree other : Pairs) (bytes : List ℕ) → Spells tree bytes → Spells other bytes → tree ≡ other
+spelled_one tree other bytes s t = same_Some tree other (sym (spelled_is_accepted tree bytes s) ∙ spelled_is_accepted other bytes t)
+
+document_not_deep : (bytes : List ℕ) (tree : Pairs) (deep : ℕ) → IsDocument tree bytes → IsTooDeepAt bytes deep → ⊥
+document_not_deep bytes tree deep d t =
+    shallow_front deep (length bytes) bytes t.within
+    ([], tree, subst (Spells tree) (sym (all_of bytes) ∙ sym (append-nil (take (length bytes) bytes))) d.spelled, d.within_limit) t
+
+one_syntax : (bytes : List ℕ) (a b : ℕ) → IsSyntaxAt bytes a → IsSyntaxAt bytes b → a ≡ b
+one_syntax bytes a b s t =
+    elim (cases_order a b) [
+        inl same ↦ same
+        | inr apart ↦ elim apart [
+            inl below ↦ absurd (s.longest b below t.within t.begins)
+            | inr above ↦ absurd (t.longest a above s.within s.begins)
+        ]
+    ]
+
+one_too_deep : (bytes : List ℕ) (a b : ℕ) → IsTooDeepAt bytes a → IsTooDeepAt bytes b → a ≡ b
+one_too_deep bytes a b s t =
+    elim (cases_order a b) [
+        inl same ↦ same
+        | inr apart ↦ elim apart [
+            inl below ↦ absurd (shallow_front a b bytes below t.before s)
+            | inr above ↦ absurd (shallow_front b a bytes above s.before t)
+        ]
+    ]
+
+-- bytes are read in one way
+pub reads_once : (bytes : List ℕ) (r s : Result Pairs GmlFault) → Reads bytes r → Reads bytes s → r ≡ s
+reads_once bytes (Ok tree) (Ok other) x y = ap Ok (spelled_one tree other bytes x.spelled y.spelled)
+reads_once bytes (Ok tree) (Err (faults.Syntax at)) x y = absurd (y.no_document tree x.spelled)
+reads_once bytes (Ok tree) (Err (faults.TooDeep at)) x y = absurd (document_not_deep bytes tree at x y)
+reads_once bytes (Ok tree) (Err faults.Memory) x y = absurd y
+reads_once bytes (Err (faults.Syntax at)) (Ok other) x y = absurd (x.no_document other y.spelled)
+reads_once bytes (Err (faults.Syntax at)) (Err (faults.Syntax to)) x y = ap (λ n. Err (faults.Syntax n)) (one_syntax bytes at to x y)
+reads_once bytes (Err (faults.Syntax at)) (Err (faults.TooDeep to)) x y = absurd (x.not_too_deep to y)
+reads_once bytes (Err (faults.Syntax at)) (Err faults.Memory) x y = absurd y
+reads_once bytes (Err (faults.TooDeep at)) (Ok other) x y = absurd (document_not_deep bytes other at y x)
+reads_once bytes (Err (faults.TooDeep at)) (Err (faults.Syntax to)) x y = absurd (y.not_too_deep at x)
+reads_once bytes (Err (faults.TooDeep at)) (Err (faults.TooDeep to)) x y = ap (λ n. Err (faults.TooDeep n)) (one_too_deep bytes at to x y)
+reads_once bytes (Err (faults.TooDeep at)) (Err faults.Memory) x y = absurd y
+reads_once bytes (Err faults.Memory) s x y = absurd x
+
+-- what a fault of the bytes says of each answer
+pub fault_answers : (bytes : List ℕ) (fault : GmlFault) → IsFaultOf bytes fault → (answer : Result Pairs GmlFault) → Reads bytes answer → Answers (Err fault) answer
+fault_answers bytes (faults.Syntax at) f answer r = reads_once bytes answer (Err (faults.Syntax at)) r f
+fault_answers bytes (faults.TooDeep at) f answer r = reads_once bytes answer (Err (faults.TooDeep at)) r f
+fault_answers bytes faults.Memory f answer r = tt
+
+same_fault : (bytes : List ℕ) (fault other : GmlFault) → ◌≡◌ {A = Result Doc GmlFault} (Err fault) (Err other) → IsFaultOf bytes fault → IsFaultOf bytes other
+same_fault bytes fault other e f = let same : fault ≡ other = cc in subst (IsFaultOf bytes) same f
+
+-- a fault as each clause says it
+pub is_syntax : (bytes : List ℕ) (fault : GmlFault) → IsFaultOf bytes fault → (at : ℕ)
+    → ◌≡◌ {A = Result Doc GmlFault} (Err fault) (Err (faults.Syntax at)) → IsSyntaxAt bytes at
+is_syntax bytes fault f at e = same_fault bytes fault (faults.Syntax at) e f
+
+pub is_too_deep : (bytes : List ℕ) (fault : GmlFault) → IsFaultOf bytes fault → (at : ℕ)
+    → ◌≡◌ {A = Result Doc GmlFault} (Err fault) (Err (faults.TooDeep at)) → IsTooDeepAt bytes at
+is_too_deep bytes fault f at e = same_fault bytes fault (faults.TooDeep at) e f
+
+-- at the end of a document within the limit
+pub document_within : (bytes : List ℕ) (s : State) (tree : Pairs) → LeadsWithinLimit bytes s → finished s.mode s.lists s.pairs ≡ Some tree → IsDocument tree bytes
+document_within bytes s tree r e =
+    record { spelled = document_at_end bytes s tree r e; within_limit = omega (arith, r.within, no_deeper_end s.mode s.lists s.pairs tree e) }
+
+-- the front that is all of the bytes
+pub whole_front : (bytes : List ℕ) (at : ℕ) (s : State) → length bytes ≤ at → at ≤ length bytes → LeadsWithinLimit (take at bytes) s → LeadsWithinLimit bytes s
+whole_front bytes at s above below r =
+    let same : at ≡ length bytes = omega arith in
+    subst (λ x. LeadsWithinLimit x s) (ap (λ n. take n bytes) same ∙ all_of bytes) r
+
+-- before the first byte
+pub leads_at_start : (s : State) → s ≡ start → LeadsWithinLimit [] s
+leads_at_start s e = subst (LeadsWithinLimit []) (sym e) (record { leads = λ more. refl; within = omega arith })

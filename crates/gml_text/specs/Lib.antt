@@ -7,3 +7,4 @@ pub mod Token
 pub mod Reading
 pub mod Reader
 pub mod Fault
+pub mod Printed

@@ -1,4 +1,4 @@
-use Rattle.std.specs.Prelude.{ℕ, suc, max, List}
+use Rattle.std.specs.Prelude.{ℕ, suc, max, List, [], ◌∷◌}
 
 mutual
   -- what stands behind a key
@@ -29,3 +29,8 @@ infixl 20 ◌then◌
 abbrev pub ◌then◌ : Pairs → Pairs → Pairs
 no_pairs then more = more
 (pair key value rest) then more = pair key value (rest then more)
+
+-- the keys of the pairs, in order
+abbrev pub keys : Pairs → List (List ℕ)
+keys no_pairs = []
+keys (pair key value rest) = key ∷ keys rest

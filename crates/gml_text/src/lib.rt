@@ -6,12 +6,14 @@ mod laws;
 mod read;
 mod reader;
 mod token;
+mod search;
 mod tree;
 mod write;
 
 pub use fault::GmlFault;
 pub use laws::spelled_once;
 pub use read::parse;
+pub use search::find;
 pub use tree::{Bytes, Doc, Pair, Value};
 pub use write::print;
 

@@ -1,41 +1,94 @@
-use crate::tree::{Doc, Pair, Value};
+ghost use Rattle.std.specs.Prelude.{◌≡◌, ◌+◌, ◌++◌, ◌≤◌, ◌∷◌, [], IfOk, OnOk, length};
+ghost use Rattle.gml_text.specs.Grammar.{Spells};
+ghost use Rattle.gml_text.specs.Printed.{indent, printed, printed_inside, printed_value, IsPrintable};
+ghost use Rattle.gml_text.specs.Tree.{depth, value_depth, pair, no_pairs};
+ghost use Rattle.gml_text.specs.View.{content, entry, pairs, tree};
+
+use crate::tree::{Bytes, Doc, Pair, Value};
 use std::alloc::{AllocError, Global};
 
 /// Spaces for a line inside so many open lists.
-fn indent(out: &mut Vec<u8>, level: usize) -> Result<(), AllocError> {
+fn put_indent(out: &mut Vec<u8>, level: usize) -> Result<(), AllocError>
+    ensures { OnOk result (out.new.items ≡ out.old.items ++ indent level) }
+{
     for _ in 0..level {
         out.extend_from_slice(b"  ")?;
     }
     Ok(())
 }
 
-/// The lines of the pairs, inside so many open lists.
-fn lines(out: &mut Vec<u8>, pairs: &[Pair], level: usize) -> Result<(), AllocError> {
-    for pair in pairs {
-        indent(out, level)?;
-        out.extend_from_slice(pair.key.as_slice())?;
-        out.push(b' ')?;
-        match &pair.value {
-            Value::Number(digits) => out.extend_from_slice(digits.as_slice())?,
-            Value::Text(text) => {
-                out.push(b'"')?;
-                out.extend_from_slice(text.as_slice())?;
-                out.push(b'"')?;
-            }
-            Value::List(inner) => {
-                out.extend_from_slice(b"[\n")?;
-                lines(out, inner, level + 1)?;
-                indent(out, level)?;
-                out.push(b']')?;
-            }
+/// A string in quotes.
+fn put_text(out: &mut Vec<u8>, text: &Bytes) -> Result<(), AllocError>
+    ensures { OnOk result (out.new.items ≡ out.old.items ++ 34 ∷ (text.now ++ 34 ∷ [])) }
+{
+    out.push(b'"')?;
+    out.extend_from_slice(text.as_slice())?;
+    out.push(b'"')?;
+    Ok(())
+}
+
+/// A value behind its key, inside so many open lists.
+#[cycle(lines)]
+fn put_value(out: &mut Vec<u8>, value: &Value, level: usize) -> Result<(), AllocError>
+    requires { value_depth (content value.now) + level ≤ 64 }
+    ensures { OnOk result (out.new.items ≡ out.old.items ++ printed_value level (content value.now)) }
+{
+    match value {
+        Value::Number(digits) => out.extend_from_slice(digits.as_slice()),
+        Value::Text(text) => put_text(out, text),
+        Value::List(inner) => {
+            out.extend_from_slice(b"[\n")?;
+            put_lines(out, inner, level + 1)?;
+            put_indent(out, level)?;
+            out.push(b']')?;
+            Ok(())
         }
-        out.push(b'\n')?;
+    }
+}
+
+/// The line or lines of a pair, inside so many open lists.
+#[cycle(lines)]
+fn put_pair(out: &mut Vec<u8>, pair: &Pair, level: usize) -> Result<(), AllocError>
+    requires { depth (pairs (pair.now ∷ [])) + level ≤ 64 }
+    ensures { OnOk result (out.new.items ≡ out.old.items ++ printed_inside level (pairs (pair.now ∷ []))) }
+{
+    put_indent(out, level)?;
+    out.extend_from_slice(pair.key.as_slice())?;
+    out.push(b' ')?;
+    put_value(out, &pair.value, level)?;
+    out.push(b'\n')?;
+    Ok(())
+}
+
+/// The lines of the pairs, inside so many open lists.
+#[cycle(lines)]
+fn put_lines(out: &mut Vec<u8>, list: &[Pair], level: usize) -> Result<(), AllocError>
+    requires { depth (pairs list.now) + level ≤ 64 }
+    ensures { OnOk result (out.new.items ≡ out.old.items ++ printed_inside level (pairs list.now)) }
+{
+    for pair in list {
+        put_pair(out, pair, level)?;
     }
     Ok(())
 }
 
-pub fn print(alloc: Global, doc: &Doc) -> Result<Vec<u8>, AllocError> {
+/// Writes a document in its printed form.
+///
+/// Each pair stands on a line of its own, behind two spaces for each open list, with one space
+/// between its key and its value. A list opens on the line of its key and closes on a line of its
+/// own. Each line ends with a line feed. All bytes of keys, numbers and strings are kept; comments
+/// and layout of a source are in no document.
+///
+/// The document's keys, numbers and strings have to be of the grammar, and at most 64 lists open.
+/// Of every document that `parse` gives that is so.
+pub fn print(alloc: Global, doc: &Doc) -> Result<Vec<u8>, AllocError>
+    requires { IsPrintable (tree doc.now) }
+    ensures printed { IfOk result (λ out. out.items ≡ printed (tree doc.now)) }
+
+    // So it is read again as the same tree.
+    ensures spelled { IfOk result (λ out. Spells (tree doc.now) out.items) }
+{
     let mut out = Vec::new(alloc);
-    lines(&mut out, &doc.pairs, 0)?;
+    put_lines(&mut out, &doc.pairs, 0)?;
     Ok(out)
 }

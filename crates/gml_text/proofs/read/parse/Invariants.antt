@@ -1,10 +1,8 @@
-use Rattle.std.proofs.Common.{◌≡◌, ℕ, IfOk, Ok, Err, Result, ◌+◌, ◌-◌, ◌*◌, ◌<◌, ◌≤◌, length}
-use Rattle.gml_text.specs.Parse.{IsDocument, IsSyntaxAt, IsTooDeepAt, Reads}
-use Rattle.gml_text.specs.Tree.{Pairs}
-use Rattle.gml_text.specs.View.{Answers, tree}
-use Rattle.gml_text.specs.declared.fault.GmlFault.{GmlFault}
-use Rattle.gml_text.specs.declared.fault.GmlFault.TheVariants.{Syntax, TooDeep}
+use Rattle.std.proofs.Common.{take}
+use Rattle.gml_text.specs.Reader.{state_of}
+use Rattle.gml_text.proofs.Parsing.{LeadsWithinLimit}
 use Rattle.gml_text.proofs.read.parse.Given as goal
 
+-- the bytes so far lead to what the reader stands for
 abbrev pub invariant-loop-at : goal.invariant-loop-at
-invariant-loop-at l = ?
+invariant-loop-at l = LeadsWithinLimit (take l.at l.bytes) (state_of l.reader)
