@@ -5,3 +5,4 @@ pub mod Accepting
 pub mod Spelling
 pub mod Depths
 pub mod Parsing
+pub mod Printing
