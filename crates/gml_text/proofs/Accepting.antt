@@ -164,7 +164,7 @@ ends_word_append : (a b : List ℕ) → EndsWord a → EndsWord b → EndsWord (
 ends_word_append [] b x y = y
 ends_word_append (c ∷ a) b x y = x
 
-stands_apart_append : (value : Content) (space after_it more : List ℕ) → StandsApart value space after_it → EndsWord more → StandsApart value space (after_it ++ more)
+pub stands_apart_append : (value : Content) (space after_it more : List ℕ) → StandsApart value space after_it → EndsWord more → StandsApart value space (after_it ++ more)
 stands_apart_append (number digits) space after_it more h e = (h.0, ends_word_append after_it more h.1 e)
 stands_apart_append (text inner) space after_it more h e = tt
 stands_apart_append (list inner) space after_it more h e = tt

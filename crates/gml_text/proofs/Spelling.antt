@@ -76,13 +76,13 @@ went : (t : Bool) (x y : Option State) (more : List ℕ) (tree : Pairs) → Afte
 went true x y more tree h = inl (refl, h)
 went false x y more tree h = inr (refl, h)
 
-gap_cons : (blank gap : List ℕ) → IsBlank blank → IsGap gap → IsGap (blank ++ gap)
+pub gap_cons : (blank gap : List ℕ) → IsBlank blank → IsGap gap → IsGap (blank ++ gap)
 gap_cons blank gap b g = (blank ∷ g.0, ap (λ x. blank ++ x) g.1, (b, g.2))
 
-no_gap : IsGap []
+pub no_gap : IsGap []
 no_gap = ([], refl, tt)
 
-blank_in_front : (tree : Pairs) (blank bytes : List ℕ) → IsBlank blank → SpellsPairs tree bytes → SpellsPairs tree (blank ++ bytes)
+pub blank_in_front : (tree : Pairs) (blank bytes : List ℕ) → IsBlank blank → SpellsPairs tree bytes → SpellsPairs tree (blank ++ bytes)
 blank_in_front no_pairs blank bytes b h = gap_cons blank bytes b h
 blank_in_front (pair key value rest) blank bytes b h =
     (blank ++ h.0, h.1, h.2, h.3,
@@ -212,7 +212,7 @@ comment_between fs ps b bs tree e (inr h) =
         body = []; ending = b ∷ bs; spelled = refl; pairs = no_gap; is_ending = inr (bs, ap (λ x. x ∷ bs) (eqb-true b 35 e), h.1);
     }, h.2 ∙ sym (then-none ps))
 
-space_blank : (b : ℕ) → is_space b ≡ true → IsBlank (b ∷ [])
+pub space_blank : (b : ℕ) → is_space b ≡ true → IsBlank (b ∷ [])
 space_blank b h = inl (b, refl, h)
 
 space_back : (place : Where) (fs : List Frame) (ps : Pairs) (b : ℕ) (bs : List ℕ) (tree : Pairs) → After (in_space place fs ps b) bs tree

@@ -11,7 +11,7 @@ mod tree;
 mod write;
 
 pub use fault::GmlFault;
-pub use laws::spelled_once;
+pub use laws::{printed_is_read, read_once, spelled_once};
 pub use read::parse;
 pub use search::find;
 pub use tree::{Bytes, Doc, Pair, Value};

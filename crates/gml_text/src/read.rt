@@ -1,5 +1,6 @@
 ghost use Rattle.std.specs.Prelude.{◌≡◌, ℕ, IfOk, Ok, Err, Result};
 ghost use Rattle.gml_text.specs.Parse.{IsDocument, IsSyntaxAt, IsTooDeepAt, Reads};
+ghost use Rattle.gml_text.specs.Printed.{IsPrintable};
 ghost use Rattle.gml_text.specs.Tree.{Pairs};
 ghost use Rattle.gml_text.specs.View.{Answers, tree};
 ghost use Rattle.gml_text.specs.declared.fault.GmlFault.{GmlFault};
@@ -24,6 +25,7 @@ pub fn parse(alloc: Global, bytes: &[u8]) -> Result<Doc, GmlFault>
     ensures ok { IfOk result (λ doc. IsDocument (tree doc) bytes.now) }
     ensures syntax { (at : ℕ) → result ≡ Err (Syntax at) → IsSyntaxAt bytes.now at }
     ensures too_deep { (at : ℕ) → result ≡ Err (TooDeep at) → IsTooDeepAt bytes.now at }
+    ensures printable { IfOk result (λ doc. IsPrintable (tree doc)) }
 
     // Whatever the bytes are read as is the answer, unless memory is wanting.
     ensures exact { (answer : Result Pairs GmlFault) → Reads bytes.now answer → Answers result answer }

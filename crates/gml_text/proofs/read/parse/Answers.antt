@@ -6,6 +6,7 @@ use Rattle.gml_text.specs.View.{pairs}
 use Rattle.std.proofs.Common.{Ok}
 use Rattle.gml_text.proofs.Views.{few_lists}
 use Rattle.gml_text.proofs.Parsing.{LeadsWithinLimit, leads_on_within, step_fault, end_fault, is_syntax, is_too_deep, fault_answers, whole_front, document_within, reads_once, leads_at_start}
+use Rattle.gml_text.proofs.Printing.{document_is_printable}
 use Rattle.gml_text.proofs.read.parse.Goals as goal
 
 pub loop-at-init : goal.loop-at-init
@@ -62,3 +63,9 @@ returns-in-Err-finish-clause-exact c =
     (subst (IsFaultOf c.args.bytes.now) (sym c.at-in-Err-finish.ensures)
         (end_fault c.args.bytes.now (state_of c.loop-at.reader) c.in-Err-finish.refusal
             (whole_front c.args.bytes.now c.loop-at.at _ (omega arith) (omega arith) c.loop-at.invariant) c.in-Err-finish.ensures))
+
+pub returns-in-Ok-clause-printable : goal.returns-in-Ok-clause-printable
+returns-in-Ok-clause-printable c =
+    document_is_printable (pairs c.in-Ok.pairs.items) c.args.bytes.now
+    (document_within c.args.bytes.now (state_of c.loop-at.reader) (pairs c.in-Ok.pairs.items)
+        (whole_front c.args.bytes.now c.loop-at.at _ (omega arith) (omega arith) c.loop-at.invariant) c.in-Ok.ensures)
