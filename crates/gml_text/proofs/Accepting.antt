@@ -1,6 +1,5 @@
 -- What is spelled is accepted: the states of a reader over each part of a spelling.
-use Rattle.std.proofs.Common.{◌≡◌, ℕ, ◌+◌, ◌<◌, Bool, true, false, not, ◌||◌, cond, ◌==◌, IsTrue, List, [], ◌∷◌, ◌++◌, length, Option, Some, None, ◌⊎◌, inl, inr, refl, sym, ap, ◌∙◌, subst, arith, append_assoc}
-use Rattle.std.specs.Prelude.{codes}
+use Rattle.std.proofs.Common.{◌≡◌, ℕ, ◌<◌, true, false, not, ◌||◌, cond, ◌==◌, List, [], ◌∷◌, ◌++◌, length, Option, Some, None, ◌⊎◌, inl, inr, refl, sym, ap, ◌∙◌, subst, arith, append_assoc}
 use Rattle.std.specs.List.{AllByRecursion, concat, list_all}
 use Rattle.std.specs.Option.{option_map, option_and_then, option_map_or}
 use Rattle.std.proofs.lemmas.Bool.{and_parts, not-true, cond-true, cond-false, false≢true}
@@ -8,10 +7,10 @@ use Rattle.std.proofs.lemmas.List.{append-nil}
 use Rattle.gml_text.specs.Bytes.{is_space, begins_key, is_key_byte, is_word_byte}
 use Rattle.gml_text.specs.Tree.{Content, number, text, list, Pairs, no_pairs, pair, ◌then◌}
 use Rattle.gml_text.specs.Grammar.{Lacks, IsBlank, IsGap, IsKey, IsNumber, EndsWord, StandsApart, SpellsPairs, SpellsValue, IsEnding, Spells}
-use Rattle.gml_text.specs.Reading.{Where, between, behind, Mode, in_gap, in_comment, in_key, in_number, in_text, Frame, State, start, ended, in_space, number_ended, number_step, accepted}
+use Rattle.gml_text.specs.Reading.{Where, between, behind, Mode, in_gap, in_comment, in_key, in_number, in_text, Frame, State, start, number_step, accepted}
 use Rattle.gml_text.specs.Token.{begun, after, is_complete}
 use Rattle.gml_text.specs.declared.token.NumberPart.{NumberPart}
-use Rattle.gml_text.proofs.ByteLemmas.{key_begin, no_word, space_no_word, begun_no_word, after_no_word, number_begin}
+use Rattle.gml_text.proofs.ByteLemmas.{key_begin, no_word, space_no_word, after_no_word, number_begin}
 use Rattle.gml_text.proofs.Numbers.{ends, number_ends}
 
 abbrev pub at : Mode → List Frame → Pairs → State
@@ -81,7 +80,7 @@ key_passes (b ∷ bs) more key fs ps h =
     let parts = and_parts (is_key_byte b) _ h in
     ap (option_and_then (accepted (bs ++ more))) (cond-true (is_key_byte b) _ _ parts.0)
     ∙ (key_passes bs more (key ++ b ∷ []) fs ps parts.1
-        ∙ ap (λ k. accepted more (at (in_key k) fs ps)) (append_assoc key (b ∷ []) bs))
+    ∙ ap (λ k. accepted more (at (in_key k) fs ps)) (append_assoc key (b ∷ []) bs))
 
 -- a key ends before what is of no word
 pub key_ends : (more key : List ℕ) (fs : List Frame) (ps : Pairs) → EndsWord more
@@ -97,7 +96,7 @@ key_is_read [] more fs ps k h = absurd k
 key_is_read (b ∷ bs) more fs ps k h =
     let first = key_begin b k.0 in
     ap (option_and_then (accepted (bs ++ more)))
-        (cond-false (is_space b) _ _ first.0 ∙ (cond-false (b == 35) _ _ first.1 ∙ (cond-false (b == 93) _ _ first.2 ∙ cond-true (begins_key b) _ _ k.0)))
+    (cond-false (is_space b) _ _ first.0 ∙ (cond-false (b == 35) _ _ first.1 ∙ (cond-false (b == 93) _ _ first.2 ∙ cond-true (begins_key b) _ _ k.0)))
     ∙ (key_passes bs more (b ∷ []) fs ps k.1 ∙ key_ends more (b ∷ bs) fs ps h)
 
 -- a number ends before what is of no word
@@ -110,11 +109,11 @@ number_stops (b ∷ bs) key digits part fs ps c h =
 
 number_goes : (b : ℕ) (bs more key digits : List ℕ) (part : NumberPart) (fs : List Frame) (ps : Pairs) (next : Option NumberPart)
     → ((done : List ℕ) (after : NumberPart) → ends bs after ≡ true
-        → accepted (bs ++ more) (at (in_number key done after) fs ps)
-            ≡ accepted more (at (in_gap between) fs (ps then pair key (number (done ++ bs)) no_pairs)))
+    → accepted (bs ++ more) (at (in_number key done after) fs ps)
+    ≡ accepted more (at (in_gap between) fs (ps then pair key (number (done ++ bs)) no_pairs)))
     → option_map_or (ends bs) next false ≡ true
     → option_and_then (accepted (bs ++ more)) (number_step key digits part fs ps b next)
-        ≡ accepted more (at (in_gap between) fs (ps then pair key (number (digits ++ b ∷ bs)) no_pairs))
+    ≡ accepted more (at (in_gap between) fs (ps then pair key (number (digits ++ b ∷ bs)) no_pairs))
 number_goes b bs more key digits part fs ps None later e = absurd (false≢true e)
 number_goes b bs more key digits part fs ps (Some next) later e =
     later (digits ++ b ∷ []) next e
@@ -122,7 +121,7 @@ number_goes b bs more key digits part fs ps (Some next) later e =
 
 number_passes : (bs more key digits : List ℕ) (part : NumberPart) (fs : List Frame) (ps : Pairs) → ends bs part ≡ true → EndsWord more
     → accepted (bs ++ more) (at (in_number key digits part) fs ps)
-        ≡ accepted more (at (in_gap between) fs (ps then pair key (number (digits ++ bs)) no_pairs))
+    ≡ accepted more (at (in_gap between) fs (ps then pair key (number (digits ++ bs)) no_pairs))
 number_passes [] more key digits part fs ps e h =
     number_stops more key digits part fs ps e h
     ∙ ap (λ d. accepted more (at (in_gap between) fs (ps then pair key (number d) no_pairs))) (sym (append-nil digits))
@@ -131,34 +130,34 @@ number_passes (b ∷ bs) more key digits part fs ps e h =
 
 number_is_read_at : (b : ℕ) (bs more key : List ℕ) (part : NumberPart) (fs : List Frame) (ps : Pairs) → begun b ≡ Some part → ends bs part ≡ true → EndsWord more
     → accepted (b ∷ (bs ++ more)) (at (in_gap (behind key)) fs ps)
-        ≡ accepted more (at (in_gap between) fs (ps then pair key (number (b ∷ bs)) no_pairs))
+    ≡ accepted more (at (in_gap between) fs (ps then pair key (number (b ∷ bs)) no_pairs))
 number_is_read_at b bs more key part fs ps h e apart =
     let first = number_begin b part h in
     ap (option_and_then (accepted (bs ++ more)))
-        (cond-false (is_space b) _ _ first.0 ∙ (cond-false (b == 35) _ _ first.1 ∙ (cond-false (b == 91) _ _ first.2 ∙ (cond-false (b == 34) _ _ first.3
-        ∙ ap (option_map (λ p. at (in_number key (b ∷ []) p) fs ps)) h))))
+    (cond-false (is_space b) _ _ first.0 ∙ (cond-false (b == 35) _ _ first.1 ∙ (cond-false (b == 91) _ _ first.2 ∙ (cond-false (b == 34) _ _ first.3
+    ∙ ap (option_map (λ p. at (in_number key (b ∷ []) p) fs ps)) h))))
     ∙ number_passes bs more key (b ∷ []) part fs ps e apart
 
 -- a number is read
 number_is_read : (digits more key : List ℕ) (fs : List Frame) (ps : Pairs) → IsNumber digits → EndsWord more
     → accepted (digits ++ more) (at (in_gap (behind key)) fs ps)
-        ≡ accepted more (at (in_gap between) fs (ps then pair key (number digits) no_pairs))
+    ≡ accepted more (at (in_gap between) fs (ps then pair key (number digits) no_pairs))
 number_is_read digits more key fs ps n apart =
     let e = number_ends digits n in
     subst (λ d. accepted (d ++ more) (at (in_gap (behind key)) fs ps)
-            ≡ accepted more (at (in_gap between) fs (ps then pair key (number d) no_pairs))) (sym e.3)
+    ≡ accepted more (at (in_gap between) fs (ps then pair key (number d) no_pairs))) (sym e.3)
     (number_is_read_at e.0 e.1 more key e.2 fs ps e.4 e.5 apart)
 
 text_passes : (inner more key done : List ℕ) (fs : List Frame) (ps : Pairs) → Lacks 34 inner
     → accepted ((inner ++ 34 ∷ []) ++ more) (at (in_text key done) fs ps)
-        ≡ accepted more (at (in_gap between) fs (ps then pair key (text (done ++ inner)) no_pairs))
+    ≡ accepted more (at (in_gap between) fs (ps then pair key (text (done ++ inner)) no_pairs))
 text_passes [] more key done fs ps h =
     ap (λ d. accepted more (at (in_gap between) fs (ps then pair key (text d) no_pairs))) (sym (append-nil done))
 text_passes (b ∷ inner) more key done fs ps h =
     let parts = and_parts (not (b == 34)) _ h in
     ap (option_and_then (accepted ((inner ++ 34 ∷ []) ++ more))) (cond-false (b == 34) _ _ (not-true (b == 34) parts.0))
     ∙ (text_passes inner more key (done ++ b ∷ []) fs ps parts.1
-        ∙ ap (λ d. accepted more (at (in_gap between) fs (ps then pair key (text d) no_pairs))) (append_assoc done (b ∷ []) inner))
+    ∙ ap (λ d. accepted more (at (in_gap between) fs (ps then pair key (text d) no_pairs))) (append_assoc done (b ∷ []) inner))
 
 ends_word_append : (a b : List ℕ) → EndsWord a → EndsWord b → EndsWord (a ++ b)
 ends_word_append [] b x y = y
@@ -182,18 +181,18 @@ mutual
   pub value_is_read : (value : Content) (written space more key : List ℕ) (fs : List Frame) (ps : Pairs)
       → SpellsValue value written → StandsApart value space more
       → accepted (written ++ more) (at (in_gap (behind key)) fs ps)
-          ≡ accepted more (at (in_gap between) fs (ps then pair key value no_pairs))
+      ≡ accepted more (at (in_gap between) fs (ps then pair key value no_pairs))
   value_is_read (number digits) written space more key fs ps v a =
       subst (λ x. accepted (x ++ more) (at (in_gap (behind key)) fs ps)
-              ≡ accepted more (at (in_gap between) fs (ps then pair key (number digits) no_pairs))) (sym v.0)
+      ≡ accepted more (at (in_gap between) fs (ps then pair key (number digits) no_pairs))) (sym v.0)
       (number_is_read digits more key fs ps v.1 a.1)
   value_is_read (text inner) written space more key fs ps v a =
       subst (λ x. accepted (x ++ more) (at (in_gap (behind key)) fs ps)
-              ≡ accepted more (at (in_gap between) fs (ps then pair key (text inner) no_pairs))) (sym v.0)
+      ≡ accepted more (at (in_gap between) fs (ps then pair key (text inner) no_pairs))) (sym v.0)
       (text_passes inner more key [] fs ps v.1)
   value_is_read (list inner) written space more key fs ps v a =
       subst (λ x. accepted (x ++ more) (at (in_gap (behind key)) fs ps)
-              ≡ accepted more (at (in_gap between) fs (ps then pair key (list inner) no_pairs))) (sym v.1)
+      ≡ accepted more (at (in_gap between) fs (ps then pair key (list inner) no_pairs))) (sym v.1)
       (ap (λ x. accepted x (at (in_gap between) (record { key = key; before = ps } ∷ fs) no_pairs)) (append_assoc v.0 (93 ∷ []) more)
       ∙ pairs_are_read inner v.0 (93 ∷ more) (record { key = key; before = ps } ∷ fs) no_pairs v.2 refl)
 

@@ -1,10 +1,10 @@
 -- How deep the documents are that a state leads to.
-use Rattle.std.proofs.Common.{◌≡◌, ℕ, suc, ◌+◌, ◌≤◌, ◌<◌, max, Bool, true, false, not, ◌||◌, cond, ◌==◌, List, [], ◌∷◌, ◌++◌, length, Option, Some, None, refl, sym, ap, ◌∙◌, subst, arith}
+use Rattle.std.proofs.Common.{◌≡◌, ℕ, suc, ◌+◌, ◌≤◌, max, Bool, true, false, not, ◌||◌, cond, ◌==◌, List, [], ◌∷◌, ◌++◌, length, Option, Some, None, refl, ap, ◌∙◌, subst, arith}
 use Rattle.std.specs.Option.{option_map, option_and_then}
 use Rattle.std.proofs.lemmas.Option.{none-some, same_Some}
 use Rattle.gml_text.specs.Bytes.{is_space, begins_key, is_key_byte, is_word_byte}
 use Rattle.gml_text.specs.Tree.{Content, number, text, list, Pairs, no_pairs, pair, depth, value_depth, ◌then◌}
-use Rattle.gml_text.specs.Reading.{Where, between, behind, Mode, in_gap, in_comment, in_key, in_number, in_text, Frame, State, start, ended, closed, opened, begins, in_space, key_step, number_ended, number_step, text_step, mode_step, stepped, whole, finished, accepted}
+use Rattle.gml_text.specs.Reading.{Where, between, behind, Mode, in_gap, in_comment, in_key, in_number, in_text, Frame, State, closed, opened, begins, in_space, key_step, number_step, text_step, mode_step, stepped, whole, finished, accepted}
 use Rattle.gml_text.specs.Token.{begun, after, is_complete}
 use Rattle.gml_text.specs.declared.token.NumberPart.{NumberPart}
 use Rattle.gml_text.specs.declared.token.NumberPart.TheVariants.{Sign, Whole, Point, Fraction, Mark, MarkSign, Exponent}
@@ -110,7 +110,7 @@ keeps_number_step : (key digits : List ℕ) (part : NumberPart) (fs : List Frame
 keeps_number_step key digits part fs ps b None =
     keeps_cond (is_word_byte b || not (is_complete part)) _ _ _ tt
     (subst (λ h. Keeps h (in_space between fs (ps then pair key (number digits) no_pairs) b)) (height-flat fs ps key (number digits) refl)
-        (keeps_space between fs (ps then pair key (number digits) no_pairs) b))
+    (keeps_space between fs (ps then pair key (number digits) no_pairs) b))
 keeps_number_step key digits part fs ps b (Some next) = (omega arith, omega arith)
 
 keeps_text : (key inner : List ℕ) (fs : List Frame) (ps : Pairs) (b : ℕ) → Keeps (depth (closed_up fs ps)) (text_step key inner fs ps b)
@@ -192,17 +192,20 @@ complete_number key digits Exponent fs ps h = brackets_close fs (ps then pair ke
 ended_number : (key digits : List ℕ) (part : NumberPart) (fs : List Frame) (ps : Pairs) → is_complete part ≡ true
     → Completion (at (in_number key digits part) fs ps)
 ended_number key digits part fs ps h = record {
-    more = 32 ∷ brackets fs; tree = closed_up fs (ps then pair key (number digits) no_pairs);
-    is_accepted = complete_number key digits part fs ps h; no_deeper = after_value fs ps key (number digits) refl;
+  more = 32 ∷ brackets fs;
+  tree = closed_up fs (ps then pair key (number digits) no_pairs);
+  is_accepted = complete_number key digits part fs ps h;
+  no_deeper = after_value fs ps key (number digits) refl;
 }
 
 more_number : (key digits : List ℕ) (part next : NumberPart) (fs : List Frame) (ps : Pairs) → after part 48 ≡ Some next → is_complete next ≡ true
     → Completion (at (in_number key digits part) fs ps)
 more_number key digits part next fs ps e h = record {
-    more = 48 ∷ 32 ∷ brackets fs; tree = closed_up fs (ps then pair key (number (digits ++ 48 ∷ [])) no_pairs);
-    is_accepted = ap (λ o. option_and_then (accepted (32 ∷ brackets fs)) (number_step key digits part fs ps 48 o)) e
-        ∙ complete_number key (digits ++ 48 ∷ []) next fs ps h;
-    no_deeper = after_value fs ps key (number (digits ++ 48 ∷ [])) refl;
+  more = 48 ∷ 32 ∷ brackets fs;
+  tree = closed_up fs (ps then pair key (number (digits ++ 48 ∷ [])) no_pairs);
+  is_accepted = ap (λ o. option_and_then (accepted (32 ∷ brackets fs)) (number_step key digits part fs ps 48 o)) e
+      ∙ complete_number key (digits ++ 48 ∷ []) next fs ps h;
+  no_deeper = after_value fs ps key (number (digits ++ 48 ∷ [])) refl;
 }
 
 number_completes : (key digits : List ℕ) (part : NumberPart) (fs : List Frame) (ps : Pairs) → Completion (at (in_number key digits part) fs ps)
@@ -217,27 +220,41 @@ number_completes key digits Exponent fs ps = ended_number key digits Exponent fs
 -- each state can be completed
 mode_completes : (mode : Mode) (fs : List Frame) (ps : Pairs) → Completion (at mode fs ps)
 mode_completes (in_gap between) fs ps = record {
-    more = brackets fs; tree = closed_up fs ps; is_accepted = brackets_close fs ps; no_deeper = omega arith;
+  more = brackets fs;
+  tree = closed_up fs ps;
+  is_accepted = brackets_close fs ps;
+  no_deeper = omega arith;
 }
 mode_completes (in_gap (behind key)) fs ps = record {
-    more = 48 ∷ 32 ∷ brackets fs; tree = closed_up fs (ps then pair key (number (48 ∷ [])) no_pairs);
-    is_accepted = brackets_close fs (ps then pair key (number (48 ∷ [])) no_pairs); no_deeper = after_value fs ps key (number (48 ∷ [])) refl;
+  more = 48 ∷ 32 ∷ brackets fs;
+  tree = closed_up fs (ps then pair key (number (48 ∷ [])) no_pairs);
+  is_accepted = brackets_close fs (ps then pair key (number (48 ∷ [])) no_pairs);
+  no_deeper = after_value fs ps key (number (48 ∷ [])) refl;
 }
 mode_completes (in_comment between) fs ps = record {
-    more = 10 ∷ brackets fs; tree = closed_up fs ps; is_accepted = brackets_close fs ps; no_deeper = omega arith;
+  more = 10 ∷ brackets fs;
+  tree = closed_up fs ps;
+  is_accepted = brackets_close fs ps;
+  no_deeper = omega arith;
 }
 mode_completes (in_comment (behind key)) fs ps = record {
-    more = 10 ∷ 48 ∷ 32 ∷ brackets fs; tree = closed_up fs (ps then pair key (number (48 ∷ [])) no_pairs);
-    is_accepted = brackets_close fs (ps then pair key (number (48 ∷ [])) no_pairs); no_deeper = after_value fs ps key (number (48 ∷ [])) refl;
+  more = 10 ∷ 48 ∷ 32 ∷ brackets fs;
+  tree = closed_up fs (ps then pair key (number (48 ∷ [])) no_pairs);
+  is_accepted = brackets_close fs (ps then pair key (number (48 ∷ [])) no_pairs);
+  no_deeper = after_value fs ps key (number (48 ∷ [])) refl;
 }
 mode_completes (in_key key) fs ps = record {
-    more = 32 ∷ 48 ∷ 32 ∷ brackets fs; tree = closed_up fs (ps then pair key (number (48 ∷ [])) no_pairs);
-    is_accepted = brackets_close fs (ps then pair key (number (48 ∷ [])) no_pairs); no_deeper = after_value fs ps key (number (48 ∷ [])) refl;
+  more = 32 ∷ 48 ∷ 32 ∷ brackets fs;
+  tree = closed_up fs (ps then pair key (number (48 ∷ [])) no_pairs);
+  is_accepted = brackets_close fs (ps then pair key (number (48 ∷ [])) no_pairs);
+  no_deeper = after_value fs ps key (number (48 ∷ [])) refl;
 }
 mode_completes (in_number key digits part) fs ps = number_completes key digits part fs ps
 mode_completes (in_text key inner) fs ps = record {
-    more = 34 ∷ brackets fs; tree = closed_up fs (ps then pair key (text inner) no_pairs);
-    is_accepted = brackets_close fs (ps then pair key (text inner) no_pairs); no_deeper = after_value fs ps key (text inner) refl;
+  more = 34 ∷ brackets fs;
+  tree = closed_up fs (ps then pair key (text inner) no_pairs);
+  is_accepted = brackets_close fs (ps then pair key (text inner) no_pairs);
+  no_deeper = after_value fs ps key (text inner) refl;
 }
 
 pub completion : (s : State) → Completion s

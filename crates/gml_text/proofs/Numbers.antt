@@ -1,12 +1,11 @@
 -- Numbers part by part, and as the grammar spells them.
-use Rattle.std.proofs.Common.{◌≡◌, ℕ, ◌+◌, ◌<◌, Bool, true, false, not, ◌||◌, ◌&&◌, cond, ◌==◌, IsTrue, List, [], ◌∷◌, ◌++◌, length, Option, Some, None, ◌⊎◌, inl, inr, refl, sym, ap, ◌∙◌, subst, arith, append_assoc}
+use Rattle.std.proofs.Common.{◌≡◌, ℕ, ◌+◌, ◌<◌, Bool, true, false, cond, ◌==◌, List, [], ◌∷◌, ◌++◌, length, Option, Some, None, ◌⊎◌, inl, inr, refl, sym, ap, ◌∙◌, subst, arith}
 use Rattle.std.specs.Prelude.{codes}
 use Rattle.std.specs.Char.{is_ascii_digit}
-use Rattle.std.specs.List.{list_all}
 use Rattle.std.specs.Option.{option_map_or}
 use Rattle.std.proofs.lemmas.Bool.{and_parts, and_from, or_cases, eqb-true, cond-true, cond-false, false≢true}
 use Rattle.std.proofs.lemmas.Bool.Decides.{nat_tests}
-use Rattle.gml_text.specs.Grammar.{IsNumber, IsSign, AreDigits, IsExponent, IsWrittenExponent}
+use Rattle.gml_text.specs.Grammar.{IsNumber, IsSign, AreDigits, IsExponent}
 use Rattle.gml_text.specs.Token.{begun, after, is_complete, is_sign, is_mark}
 use Rattle.gml_text.specs.declared.token.NumberPart.{NumberPart}
 use Rattle.gml_text.specs.declared.token.NumberPart.TheVariants.{Sign, Whole, Point, Fraction, Mark, MarkSign, Exponent}
@@ -137,8 +136,8 @@ pub number_ends : (bytes : List ℕ) → IsNumber bytes → Begun bytes
 number_ends bytes n =
     subst Begun (sym n.spelled)
     (begun_signed n.sign (n.whole ++ (n.point ++ (n.fraction ++ n.ending))) n.is_sign
-        (ends_sign n.whole n.point n.fraction n.ending n.whole_digits n.is_point n.fraction_digits n.some_digit n.is_exponent)
-        (begun_unsigned n.whole n.point n.fraction n.ending n.whole_digits n.is_point n.fraction_digits n.some_digit n.is_exponent))
+    (ends_sign n.whole n.point n.fraction n.ending n.whole_digits n.is_point n.fraction_digits n.some_digit n.is_exponent)
+    (begun_unsigned n.whole n.point n.fraction n.ending n.whole_digits n.is_point n.fraction_digits n.some_digit n.is_exponent))
 
 -- which way a test went
 went : (t : Bool) (next : NumberPart) (other : Option NumberPart) (f : NumberPart → Bool) → option_map_or f (cond t (Some next) other) false ≡ true
@@ -150,8 +149,8 @@ exponent_digits : (bs : List ℕ) → ends bs Exponent ≡ true → AreDigits bs
 exponent_digits [] h = refl
 exponent_digits (b ∷ bs) h =
     elim (went (is_ascii_digit b) Exponent None (ends bs) h) [
-        inl y ↦ and_from (is_ascii_digit b) _ y.0 (exponent_digits bs y.1)
-        | inr n ↦ absurd (false≢true n.1)
+      | inl y ↦ and_from (is_ascii_digit b) _ y.0 (exponent_digits bs y.1)
+      | inr n ↦ absurd (false≢true n.1)
     ]
 
 -- a sign and digits, of which there is one
@@ -170,45 +169,61 @@ mark_sign_rest : (bs : List ℕ) → ends bs MarkSign ≡ true → AreDigits bs 
 mark_sign_rest [] h = absurd (false≢true h)
 mark_sign_rest (b ∷ bs) h =
     elim (went (is_ascii_digit b) Exponent None (ends bs) h) [
-        inl y ↦ (digits_at b bs y.0 y.1, omega arith)
-        | inr n ↦ absurd (false≢true n.1)
+      | inl y ↦ (digits_at b bs y.0 y.1, omega arith)
+      | inr n ↦ absurd (false≢true n.1)
     ]
 
 sign_of : (b : ℕ) → is_sign b ≡ true → IsSign (b ∷ [])
 sign_of b h =
     elim (or_cases (b == 43) (b == 45) h) [
-        inl p ↦ inl (ap (λ x. x ∷ []) (eqb-true b 43 p))
-        | inr m ↦ inr (inl (ap (λ x. x ∷ []) (eqb-true b 45 m)))
+      | inl p ↦ inl (ap (λ x. x ∷ []) (eqb-true b 43 p))
+      | inr m ↦ inr (inl (ap (λ x. x ∷ []) (eqb-true b 45 m)))
     ]
 
 mark_rest : (bs : List ℕ) → ends bs Mark ≡ true → MarkRest bs
 mark_rest [] h = absurd (false≢true h)
 mark_rest (b ∷ bs) h =
     elim (went (is_sign b) MarkSign _ (ends bs) h) [
-        inl s ↦ let r = mark_sign_rest bs s.1 in record {
-            sign = b ∷ []; digits = bs; is_sign = sign_of b s.0; are_digits = r.0; some_digit = r.1; spelled = refl;
+      | inl s ↦ let r = mark_sign_rest bs s.1 in record {
+        sign = b ∷ [];
+        digits = bs;
+        is_sign = sign_of b s.0;
+        are_digits = r.0;
+        some_digit = r.1;
+        spelled = refl;
+      }
+      | inr o ↦ elim (went (is_ascii_digit b) Exponent None (ends bs) o.1) [
+        | inl y ↦ record {
+          sign = [];
+          digits = b ∷ bs;
+          is_sign = inr (inr refl);
+          are_digits = digits_at b bs y.0 y.1;
+          some_digit = omega arith;
+          spelled = refl;
         }
-        | inr o ↦ elim (went (is_ascii_digit b) Exponent None (ends bs) o.1) [
-            inl y ↦ record {
-                sign = []; digits = b ∷ bs; is_sign = inr (inr refl); are_digits = digits_at b bs y.0 y.1; some_digit = omega arith; spelled = refl;
-            }
-            | inr n ↦ absurd (false≢true n.1)
-        ]
+        | inr n ↦ absurd (false≢true n.1)
+      ]
     ]
 
 mark_of : (b : ℕ) → is_mark b ≡ true → (b ∷ [] ≡ codes "e") ⊎ (b ∷ [] ≡ codes "E")
 mark_of b h =
     elim (or_cases (b == 101) (b == 69) h) [
-        inl p ↦ inl (ap (λ x. x ∷ []) (eqb-true b 101 p))
-        | inr m ↦ inr (ap (λ x. x ∷ []) (eqb-true b 69 m))
+      | inl p ↦ inl (ap (λ x. x ∷ []) (eqb-true b 101 p))
+      | inr m ↦ inr (ap (λ x. x ∷ []) (eqb-true b 69 m))
     ]
 
 exponent_of : (b : ℕ) (bs : List ℕ) → is_mark b ≡ true → ends bs Mark ≡ true → IsExponent (b ∷ bs)
 exponent_of b bs m h =
     let r = mark_rest bs h in
     inl (record {
-        mark = b ∷ []; sign = r.sign; digits = r.digits; is_mark = mark_of b m; is_sign = r.is_sign;
-        are_digits = r.are_digits; some_digit = r.some_digit; spelled = ap (λ x. b ∷ x) r.spelled;
+      mark = b ∷ [];
+      sign = r.sign;
+      digits = r.digits;
+      is_mark = mark_of b m;
+      is_sign = r.is_sign;
+      are_digits = r.are_digits;
+      some_digit = r.some_digit;
+      spelled = ap (λ x. b ∷ x) r.spelled;
     })
 
 -- digits and an exponent
@@ -221,19 +236,22 @@ pub record FractionRest (bs : List ℕ) : Type 0 where
 
 abbrev more_fraction : (b : ℕ) (bs : List ℕ) → is_ascii_digit b ≡ true → FractionRest bs → FractionRest (b ∷ bs)
 more_fraction b bs d r = record {
-    digits = b ∷ r.digits; ending = r.ending; are_digits = and_from (is_ascii_digit b) _ d r.are_digits;
-    is_exponent = r.is_exponent; spelled = ap (λ x. b ∷ x) r.spelled;
+  digits = b ∷ r.digits;
+  ending = r.ending;
+  are_digits = and_from (is_ascii_digit b) _ d r.are_digits;
+  is_exponent = r.is_exponent;
+  spelled = ap (λ x. b ∷ x) r.spelled;
 }
 
 fraction_rest : (bs : List ℕ) → ends bs Fraction ≡ true → FractionRest bs
 fraction_rest [] h = record { digits = []; ending = []; are_digits = refl; is_exponent = inr refl; spelled = refl }
 fraction_rest (b ∷ bs) h =
     elim (went (is_ascii_digit b) Fraction _ (ends bs) h) [
-        inl y ↦ more_fraction b bs y.0 (fraction_rest bs y.1)
-        | inr o ↦ elim (went (is_mark b) Mark None (ends bs) o.1) [
-            inl m ↦ record { digits = []; ending = b ∷ bs; are_digits = refl; is_exponent = exponent_of b bs m.0 m.1; spelled = refl }
-            | inr n ↦ absurd (false≢true n.1)
-        ]
+      | inl y ↦ more_fraction b bs y.0 (fraction_rest bs y.1)
+      | inr o ↦ elim (went (is_mark b) Mark None (ends bs) o.1) [
+        | inl m ↦ record { digits = []; ending = b ∷ bs; are_digits = refl; is_exponent = exponent_of b bs m.0 m.1; spelled = refl }
+        | inr n ↦ absurd (false≢true n.1)
+      ]
     ]
 
 -- digits, a point, digits and an exponent
@@ -250,36 +268,62 @@ pub record WholeRest (bs : List ℕ) : Type 0 where
 
 abbrev more_whole : (b : ℕ) (bs : List ℕ) → is_ascii_digit b ≡ true → WholeRest bs → WholeRest (b ∷ bs)
 more_whole b bs d r = record {
-    whole = b ∷ r.whole; point = r.point; fraction = r.fraction; ending = r.ending;
-    whole_digits = and_from (is_ascii_digit b) _ d r.whole_digits; is_point = r.is_point; fraction_digits = r.fraction_digits;
-    is_exponent = r.is_exponent; spelled = ap (λ x. b ∷ x) r.spelled;
+  whole = b ∷ r.whole;
+  point = r.point;
+  fraction = r.fraction;
+  ending = r.ending;
+  whole_digits = and_from (is_ascii_digit b) _ d r.whole_digits;
+  is_point = r.is_point;
+  fraction_digits = r.fraction_digits;
+  is_exponent = r.is_exponent;
+  spelled = ap (λ x. b ∷ x) r.spelled;
 }
 
 abbrev point_of : (b : ℕ) (bs : List ℕ) → (b == 46) ≡ true → FractionRest bs → WholeRest (b ∷ bs)
 point_of b bs p r = record {
-    whole = []; point = b ∷ []; fraction = r.digits; ending = r.ending; whole_digits = refl;
-    is_point = inl (ap (λ x. x ∷ []) (eqb-true b 46 p)); fraction_digits = r.are_digits; is_exponent = r.is_exponent;
-    spelled = ap (λ x. b ∷ x) r.spelled;
+  whole = [];
+  point = b ∷ [];
+  fraction = r.digits;
+  ending = r.ending;
+  whole_digits = refl;
+  is_point = inl (ap (λ x. x ∷ []) (eqb-true b 46 p));
+  fraction_digits = r.are_digits;
+  is_exponent = r.is_exponent;
+  spelled = ap (λ x. b ∷ x) r.spelled;
 }
 
 whole_rest : (bs : List ℕ) → ends bs Whole ≡ true → WholeRest bs
 whole_rest [] h = record {
-    whole = []; point = []; fraction = []; ending = []; whole_digits = refl; is_point = inr (refl, refl); fraction_digits = refl;
-    is_exponent = inr refl; spelled = refl;
+  whole = [];
+  point = [];
+  fraction = [];
+  ending = [];
+  whole_digits = refl;
+  is_point = inr (refl, refl);
+  fraction_digits = refl;
+  is_exponent = inr refl;
+  spelled = refl;
 }
 whole_rest (b ∷ bs) h =
     elim (went (is_ascii_digit b) Whole _ (ends bs) h) [
-        inl y ↦ more_whole b bs y.0 (whole_rest bs y.1)
-        | inr o ↦ elim (went (b == 46) Fraction _ (ends bs) o.1) [
-            inl p ↦ point_of b bs p.0 (fraction_rest bs p.1)
-            | inr q ↦ elim (went (is_mark b) Mark None (ends bs) q.1) [
-                inl m ↦ record {
-                    whole = []; point = []; fraction = []; ending = b ∷ bs; whole_digits = refl; is_point = inr (refl, refl);
-                    fraction_digits = refl; is_exponent = exponent_of b bs m.0 m.1; spelled = refl;
-                }
-                | inr n ↦ absurd (false≢true n.1)
-            ]
+      | inl y ↦ more_whole b bs y.0 (whole_rest bs y.1)
+      | inr o ↦ elim (went (b == 46) Fraction _ (ends bs) o.1) [
+        | inl p ↦ point_of b bs p.0 (fraction_rest bs p.1)
+        | inr q ↦ elim (went (is_mark b) Mark None (ends bs) q.1) [
+          | inl m ↦ record {
+            whole = [];
+            point = [];
+            fraction = [];
+            ending = b ∷ bs;
+            whole_digits = refl;
+            is_point = inr (refl, refl);
+            fraction_digits = refl;
+            is_exponent = exponent_of b bs m.0 m.1;
+            spelled = refl;
+          }
+          | inr n ↦ absurd (false≢true n.1)
         ]
+      ]
     ]
 
 -- the same with a digit
@@ -294,26 +338,35 @@ unsigned_point : (b : ℕ) (bs : List ℕ) → (b == 46) ≡ true → ends bs Po
 unsigned_point b [] p h = absurd (false≢true h)
 unsigned_point b (c ∷ bs) p h =
     elim (went (is_ascii_digit c) Fraction None (ends bs) h) [
-        inl y ↦ record { rest = point_of b (c ∷ bs) p (more_fraction c bs y.0 (fraction_rest bs y.1)); some_digit = omega arith }
-        | inr n ↦ absurd (false≢true n.1)
+      | inl y ↦ record { rest = point_of b (c ∷ bs) p (more_fraction c bs y.0 (fraction_rest bs y.1)); some_digit = omega arith }
+      | inr n ↦ absurd (false≢true n.1)
     ]
 
 sign_rest : (bs : List ℕ) → ends bs Sign ≡ true → UnsignedRest bs
 sign_rest [] h = absurd (false≢true h)
 sign_rest (b ∷ bs) h =
     elim (went (is_ascii_digit b) Whole _ (ends bs) h) [
-        inl y ↦ unsigned_digit b bs y.0 y.1
-        | inr o ↦ elim (went (b == 46) Point None (ends bs) o.1) [
-            inl p ↦ unsigned_point b bs p.0 p.1
-            | inr n ↦ absurd (false≢true n.1)
-        ]
+      | inl y ↦ unsigned_digit b bs y.0 y.1
+      | inr o ↦ elim (went (b == 46) Point None (ends bs) o.1) [
+        | inl p ↦ unsigned_point b bs p.0 p.1
+        | inr n ↦ absurd (false≢true n.1)
+      ]
     ]
 
 number_of : (sign bs : List ℕ) → IsSign sign → UnsignedRest bs → IsNumber (sign ++ bs)
 number_of sign bs s r = record {
-    sign = sign; whole = r.rest.whole; point = r.rest.point; fraction = r.rest.fraction; ending = r.rest.ending;
-    is_sign = s; whole_digits = r.rest.whole_digits; is_point = r.rest.is_point; fraction_digits = r.rest.fraction_digits;
-    some_digit = r.some_digit; is_exponent = r.rest.is_exponent; spelled = ap (λ x. sign ++ x) r.rest.spelled;
+  sign = sign;
+  whole = r.rest.whole;
+  point = r.rest.point;
+  fraction = r.rest.fraction;
+  ending = r.rest.ending;
+  is_sign = s;
+  whole_digits = r.rest.whole_digits;
+  is_point = r.rest.is_point;
+  fraction_digits = r.rest.fraction_digits;
+  some_digit = r.some_digit;
+  is_exponent = r.rest.is_exponent;
+  spelled = ap (λ x. sign ++ x) r.rest.spelled;
 }
 
 -- which way the first byte went
@@ -326,12 +379,12 @@ began false next part other h = inr (refl, h)
 pub number_spelled : (b : ℕ) (bs : List ℕ) (part : NumberPart) → begun b ≡ Some part → ends bs part ≡ true → IsNumber (b ∷ bs)
 number_spelled b bs part h e =
     elim (began (is_sign b) Sign part _ h) [
-        inl s ↦ number_of (b ∷ []) bs (sign_of b s.0) (sign_rest bs (subst (λ p. ends bs p ≡ true) (sym s.1) e))
-        | inr o ↦ elim (began (b == 46) Point part _ o.1) [
-            inl p ↦ number_of [] (b ∷ bs) (inr (inr refl)) (unsigned_point b bs p.0 (subst (λ q. ends bs q ≡ true) (sym p.1) e))
-            | inr q ↦ elim (began (is_ascii_digit b) Whole part None q.1) [
-                inl d ↦ number_of [] (b ∷ bs) (inr (inr refl)) (unsigned_digit b bs d.0 (subst (λ q. ends bs q ≡ true) (sym d.1) e))
-                | inr n ↦ absurd cc
-            ]
+      | inl s ↦ number_of (b ∷ []) bs (sign_of b s.0) (sign_rest bs (subst (λ p. ends bs p ≡ true) (sym s.1) e))
+      | inr o ↦ elim (began (b == 46) Point part _ o.1) [
+        | inl p ↦ number_of [] (b ∷ bs) (inr (inr refl)) (unsigned_point b bs p.0 (subst (λ q. ends bs q ≡ true) (sym p.1) e))
+        | inr q ↦ elim (began (is_ascii_digit b) Whole part None q.1) [
+          | inl d ↦ number_of [] (b ∷ bs) (inr (inr refl)) (unsigned_digit b bs d.0 (subst (λ q. ends bs q ≡ true) (sym d.1) e))
+          | inr n ↦ absurd cc
         ]
+      ]
     ]

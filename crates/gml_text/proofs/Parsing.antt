@@ -1,12 +1,12 @@
 -- From the states of a reader to what the bytes are read as.
-use Rattle.std.proofs.Common.{◌≡◌, ℕ, zero, suc, ◌+◌, ◌≤◌, ◌<◌, List, [], ◌∷◌, ◌++◌, length, take, Option, Some, None, Result, Ok, Err, IsSomeAnd, ◌⊎◌, inl, inr, refl, sym, ap, ◌∙◌, subst, arith, append_assoc}
+use Rattle.std.proofs.Common.{◌≡◌, ℕ, zero, suc, ◌+◌, ◌≤◌, ◌<◌, List, [], ◌∷◌, ◌++◌, length, take, Option, Some, None, Result, Ok, Err, IsSomeAnd, inl, inr, refl, sym, ap, ◌∙◌, subst, arith, append_assoc}
 use Rattle.std.specs.Option.{option_and_then}
 use Rattle.std.proofs.lemmas.Bool.{cases_lt, cases_order}
 use Rattle.std.proofs.lemmas.Option.{none-some, same_Some}
 use Rattle.std.proofs.lemmas.List.{append-nil}
 use Rattle.gml_text.specs.Tree.{Pairs, depth}
 use Rattle.gml_text.specs.Grammar.{Spells}
-use Rattle.gml_text.specs.Parse.{most_open, Begins, BeginsWithinLimit, IsTooDeepAt, IsSyntaxAt, IsDocument, Reads, IsFaultOf}
+use Rattle.gml_text.specs.Parse.{most_open, Begins, BeginsWithinLimit, IsTooDeepAt, IsSyntaxAt, IsDocument, Reads}
 use Rattle.gml_text.specs.Fault.{fault_at}
 use Rattle.gml_text.specs.Reader.{FinishGives}
 use Rattle.gml_text.specs.View.{Answers}
@@ -19,6 +19,12 @@ use Rattle.gml_text.specs.Reading.{State, start, stepped, accepted, finished, Gi
 use Rattle.gml_text.proofs.Accepting.{spelled_is_accepted}
 use Rattle.gml_text.proofs.Spelling.{accepted_is_spelled}
 use Rattle.gml_text.proofs.Depths.{height, lists_below, Keeps, step_keeps, accepted_height, completion, no_deeper_end}
+
+-- the fault that the bytes have; want of memory is none of theirs
+abbrev pub IsFaultOf : List ℕ → GmlFault → Type 0
+IsFaultOf bytes (faults.Syntax at) = IsSyntaxAt bytes at
+IsFaultOf bytes (faults.TooDeep at) = IsTooDeepAt bytes at
+IsFaultOf bytes faults.Memory = Unit {0}
 
 -- the bytes lead from the start to the state
 abbrev pub Leads : List ℕ → State → Type 0
@@ -90,16 +96,16 @@ pub syntax_at_byte : (bytes : List ℕ) (at : ℕ) (b : ℕ) (s : State) → at 
     → LeadsWithinLimit (take at bytes) s → stepped s b ≡ None → IsSyntaxAt bytes at
 syntax_at_byte bytes at b s h more r e =
     let none : (n : ℕ) → at < n → Begins (take n bytes) → ⊥ = λ n above begun.
-        refused (take at bytes) b s r.leads e (subst Begins more (shorter_begins (at + 1) n bytes (omega arith) begun)) in
+    refused (take at bytes) b s r.leads e (subst Begins more (shorter_begins (at + 1) n bytes (omega arith) begun)) in
     record {
-        no_document = λ tree spelled. none (length bytes) h ([], tree, subst (Spells tree) (sym (all_of bytes) ∙ sym (append-nil (take (length bytes) bytes))) spelled);
-        not_too_deep = λ deep t. elim (cases_lt deep at) [
-            inl before ↦ shallow_front deep at bytes before (begins_within (take at bytes) s r) t
-            | inr from ↦ none (deep + 1) (omega arith) t.begins
-        ];
-        within = omega arith;
-        begins = begins_at (take at bytes) s r.leads;
-        longest = λ n above _ begun. none n above begun;
+      no_document = λ tree spelled. none (length bytes) h ([], tree, subst (Spells tree) (sym (all_of bytes) ∙ sym (append-nil (take (length bytes) bytes))) spelled);
+      not_too_deep = λ deep t. elim (cases_lt deep at) [
+        | inl before ↦ shallow_front deep at bytes before (begins_within (take at bytes) s r) t
+        | inr from ↦ none (deep + 1) (omega arith) t.begins
+      ];
+      within = omega arith;
+      begins = begins_at (take at bytes) s r.leads;
+      longest = λ n above _ begun. none n above begun;
     }
 
 -- where no document may end at the end of the bytes
@@ -107,12 +113,12 @@ pub syntax_at_end : (bytes : List ℕ) (s : State) → LeadsWithinLimit bytes s 
 syntax_at_end bytes s r e =
     let all = all_of bytes in
     record {
-        no_document = λ tree spelled.
-            none-some tree (sym e ∙ (sym (r.leads []) ∙ (ap (λ x. accepted x start) (append-nil bytes) ∙ spelled_is_accepted tree bytes spelled)));
-        not_too_deep = λ deep t. shallow_front deep (length bytes) bytes t.within (subst BeginsWithinLimit (sym all) (begins_within bytes s r)) t;
-        within = omega arith;
-        begins = subst Begins (sym all) (begins_at bytes s r.leads);
-        longest = λ n above below _. absurd (omega arith);
+      no_document = λ tree spelled.
+          none-some tree (sym e ∙ (sym (r.leads []) ∙ (ap (λ x. accepted x start) (append-nil bytes) ∙ spelled_is_accepted tree bytes spelled)));
+      not_too_deep = λ deep t. shallow_front deep (length bytes) bytes t.within (subst BeginsWithinLimit (sym all) (begins_within bytes s r)) t;
+      within = omega arith;
+      begins = subst Begins (sym all) (begins_at bytes s r.leads);
+      longest = λ n above below _. absurd (omega arith);
     }
 
 -- where a list too many is opened
@@ -121,12 +127,12 @@ pub too_deep_at : (bytes : List ℕ) (at : ℕ) (b : ℕ) (s t : State) → at <
 too_deep_at bytes at b s t h more r e many =
     let leads = leads_on (take at bytes) b s t r.leads e in
     record {
-        within = h;
-        before = begins_within (take at bytes) s r;
-        begins = subst Begins (sym more) (begins_at (take at bytes ++ b ∷ []) t leads);
-        deeper = λ rest tree spelled.
-            let over = as_deep (take at bytes ++ b ∷ []) t leads rest tree (subst (λ x. Spells tree (x ++ rest)) more spelled) in
-            omega (arith, many, over, lists_below t);
+      within = h;
+      before = begins_within (take at bytes) s r;
+      begins = subst Begins (sym more) (begins_at (take at bytes ++ b ∷ []) t leads);
+      deeper = λ rest tree spelled.
+          let over = as_deep (take at bytes ++ b ∷ []) t leads rest tree (subst (λ x. Spells tree (x ++ rest)) more spelled) in
+          omega (arith, many, over, lists_below t);
     }
 
 -- at the end of a document
@@ -164,21 +170,21 @@ document_not_deep bytes tree deep d t =
 one_syntax : (bytes : List ℕ) (a b : ℕ) → IsSyntaxAt bytes a → IsSyntaxAt bytes b → a ≡ b
 one_syntax bytes a b s t =
     elim (cases_order a b) [
-        inl same ↦ same
-        | inr apart ↦ elim apart [
-            inl below ↦ absurd (s.longest b below t.within t.begins)
-            | inr above ↦ absurd (t.longest a above s.within s.begins)
-        ]
+      | inl same ↦ same
+      | inr apart ↦ elim apart [
+        | inl below ↦ absurd (s.longest b below t.within t.begins)
+        | inr above ↦ absurd (t.longest a above s.within s.begins)
+      ]
     ]
 
 one_too_deep : (bytes : List ℕ) (a b : ℕ) → IsTooDeepAt bytes a → IsTooDeepAt bytes b → a ≡ b
 one_too_deep bytes a b s t =
     elim (cases_order a b) [
-        inl same ↦ same
-        | inr apart ↦ elim apart [
-            inl below ↦ absurd (shallow_front a b bytes below t.before s)
-            | inr above ↦ absurd (shallow_front b a bytes above s.before t)
-        ]
+      | inl same ↦ same
+      | inr apart ↦ elim apart [
+        | inl below ↦ absurd (shallow_front a b bytes below t.before s)
+        | inr above ↦ absurd (shallow_front b a bytes above s.before t)
+      ]
     ]
 
 -- bytes are read in one way

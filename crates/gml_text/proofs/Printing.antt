@@ -1,5 +1,5 @@
 -- The printed form, piece by piece, and as a spelling.
-use Rattle.std.proofs.Common.{◌≡◌, ℕ, zero, suc, ◌+◌, ◌≤◌, ◌<◌, max, List, [], ◌∷◌, ◌++◌, length, take, get_or, inl, inr, refl, sym, ap, ◌∙◌, subst, arith, append_assoc, add-one}
+use Rattle.std.proofs.Common.{◌≡◌, ℕ, zero, suc, ◌+◌, ◌≤◌, ◌<◌, List, [], ◌∷◌, ◌++◌, length, take, get_or, inl, inr, refl, sym, ap, ◌∙◌, subst, arith, append_assoc, add-one}
 use Rattle.std.proofs.lemmas.List.{take_more}
 use Rattle.gml_text.proofs.Views.{pairs-push}
 use Rattle.gml_text.specs.Tree.{Content, number, text, list, Pairs, no_pairs, pair, depth, ◌then◌}
@@ -10,7 +10,7 @@ use Rattle.gml_text.specs.Parse.{IsDocument}
 use Rattle.gml_text.specs.Printed.{indent, printed, printed_inside, printed_value, IsGrammatical, IsGrammaticalValue, IsPrintable}
 use Rattle.gml_text.proofs.Accepting.{gap_ends_word, stands_apart_append}
 use Rattle.gml_text.proofs.Spelling.{gap_cons, no_gap, blank_in_front, space_blank}
-use Rattle.gml_text.specs.View.{entry, pairs}
+use Rattle.gml_text.specs.View.{pairs}
 use Rattle.gml_text.specs.declared.tree.Pair.{Pair}
 
 indent_suc : (level : ℕ) → indent level ++ indent 1 ≡ indent (suc level)
@@ -68,9 +68,19 @@ regroup a b c d e f = simp append_assoc
 gap_behind : (tree : Pairs) (bytes gap : List ℕ) → SpellsPairs tree bytes → IsGap gap → SpellsPairs tree (bytes ++ gap)
 gap_behind no_pairs bytes gap h g = gap_append bytes gap h g
 gap_behind (pair key value rest) bytes gap h g =
-    let ends = subst EndsWord (append-nil gap) (gap_ends_word gap [] g (inr tt)) in
-    (h.0, h.1, h.2, h.3 ++ gap, ap (λ x. x ++ gap) h.4 ∙ regroup h.0 key h.1 h.2 h.3 gap, h.5, h.6, h.7, h.8,
-        stands_apart_append value h.1 h.3 gap h.9 ends, gap_behind rest h.3 gap h.10 g)
+    let ends = subst EndsWord (append-nil gap) (gap_ends_word gap [] g (inr tt)) in (
+      h.0,
+      h.1,
+      h.2,
+      h.3 ++ gap,
+      ap (λ x. x ++ gap) h.4 ∙ regroup h.0 key h.1 h.2 h.3 gap,
+      h.5,
+      h.6,
+      h.7,
+      h.8,
+      stands_apart_append value h.1 h.3 gap h.9 ends,
+      gap_behind rest h.3 gap h.10 g,
+    )
 
 one_space_apart : (value : Content) (behind : List ℕ) → StandsApart value (32 ∷ []) (10 ∷ behind)
 one_space_apart (number digits) behind = (omega arith, refl)
@@ -83,26 +93,38 @@ line_regroup a b c d = simp append_assoc
 mutual
   printed_spells : (tree : Pairs) (level : ℕ) → IsGrammatical tree → SpellsPairs tree (printed_inside level tree)
   printed_spells no_pairs level g = no_gap
-  printed_spells (pair key value rest) level g =
-      (indent level, 32 ∷ [], printed_value level value, 10 ∷ printed_inside level rest,
-          line_regroup (indent level) key (printed_value level value) (printed_inside level rest),
-          indent_gap level, g.0, gap_cons (32 ∷ []) [] (space_blank 32 refl) no_gap, printed_value_spells value level g.1,
-          one_space_apart value (printed_inside level rest),
-          blank_in_front rest (10 ∷ []) (printed_inside level rest) (space_blank 10 refl) (printed_spells rest level g.2))
+  printed_spells (pair key value rest) level g = (
+    indent level,
+    32 ∷ [],
+    printed_value level value,
+    10 ∷ printed_inside level rest,
+    line_regroup (indent level) key (printed_value level value) (printed_inside level rest),
+    indent_gap level,
+    g.0,
+    gap_cons (32 ∷ []) [] (space_blank 32 refl) no_gap,
+    printed_value_spells value level g.1,
+    one_space_apart value (printed_inside level rest),
+    blank_in_front rest (10 ∷ []) (printed_inside level rest) (space_blank 10 refl) (printed_spells rest level g.2),
+  )
 
   printed_value_spells : (value : Content) (level : ℕ) → IsGrammaticalValue value → SpellsValue value (printed_value level value)
   printed_value_spells (number digits) level g = (refl, g)
   printed_value_spells (text inner) level g = (refl, g)
-  printed_value_spells (list inner) level g =
-      (10 ∷ (printed_inside (level + 1) inner ++ indent level),
-          ap (λ x. 91 ∷ 10 ∷ x) (sym (append_assoc (printed_inside (level + 1) inner) (indent level) (93 ∷ []))),
-          blank_in_front inner (10 ∷ []) (printed_inside (level + 1) inner ++ indent level) (space_blank 10 refl)
-              (gap_behind inner (printed_inside (level + 1) inner) (indent level) (printed_spells inner (level + 1) g) (indent_gap level)))
+  printed_value_spells (list inner) level g = (
+    10 ∷ (printed_inside (level + 1) inner ++ indent level),
+    ap (λ x. 91 ∷ 10 ∷ x) (sym (append_assoc (printed_inside (level + 1) inner) (indent level) (93 ∷ []))),
+    blank_in_front inner (10 ∷ []) (printed_inside (level + 1) inner ++ indent level) (space_blank 10 refl)
+        (gap_behind inner (printed_inside (level + 1) inner) (indent level) (printed_spells inner (level + 1) g) (indent_gap level)),
+  )
 
 -- what is printed is a spelling
 pub printed_is_spelling : (tree : Pairs) → IsGrammatical tree → Spells tree (printed tree)
 printed_is_spelling tree g = record {
-    body = printed tree; ending = []; spelled = sym (append-nil (printed tree)); pairs = printed_spells tree 0 g; is_ending = inl refl;
+  body = printed tree;
+  ending = [];
+  spelled = sym (append-nil (printed tree));
+  pairs = printed_spells tree 0 g;
+  is_ending = inl refl;
 }
 
 mutual

@@ -1,12 +1,12 @@
 -- Values and pairs of the code beside what they stand for.
-use Rattle.std.proofs.Common.{◌≡◌, ℕ, zero, suc, ◌≤◌, ◌<◌, get_or, slice_get, Option, Some, None, sym, List, [], ◌∷◌, ◌++◌, length, map, reverse, Vec, Global, refl, ap, ◌∙◌, arith, rules}
+use Rattle.std.proofs.Common.{◌≡◌, ℕ, zero, suc, ◌≤◌, ◌<◌, get_or, slice_get, Some, None, sym, List, [], ◌∷◌, ◌++◌, length, map, refl, ap, ◌∙◌, arith, rules}
 use Rattle.std.proofs.lemmas.List.{length-reverse}
 use Rattle.gml_text.specs.Reader.{frame_of, state_of}
 use Rattle.gml_text.specs.declared.reader.OpenList.{OpenList}
 use Rattle.gml_text.specs.declared.reader.Reader.{Reader}
-use Rattle.gml_text.specs.Tree.{Content, list, Pairs, no_pairs, pair, keys, ◌then◌}
-use Rattle.gml_text.specs.View.{content, entry, pairs}
-use Rattle.gml_text.specs.declared.tree.Value.{Value, List', the_lemmas}
+use Rattle.gml_text.specs.Tree.{no_pairs, pair, keys, ◌then◌}
+use Rattle.gml_text.specs.View.{entry, pairs}
+use Rattle.gml_text.specs.declared.tree.Value.{the_lemmas}
 use Rattle.gml_text.specs.declared.tree.Pair.{Pair}
 
 -- one more pair goes last

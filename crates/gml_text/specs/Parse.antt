@@ -1,4 +1,4 @@
-use Rattle.std.specs.Prelude.{◌≡◌, ℕ, ◌+◌, ◌<◌, ◌≤◌, List, ◌++◌, length, take, Result, Ok, Err}
+use Rattle.std.specs.Prelude.{ℕ, ◌+◌, ◌<◌, ◌≤◌, List, ◌++◌, length, take, Result, Ok, Err}
 use Rattle.gml_text.specs.Tree.{Pairs, depth}
 use Rattle.gml_text.specs.Grammar.{Spells}
 use Rattle.gml_text.specs.declared.fault.GmlFault.{GmlFault}
@@ -42,9 +42,3 @@ Reads bytes (Ok tree) = IsDocument tree bytes
 Reads bytes (Err (Syntax at)) = IsSyntaxAt bytes at
 Reads bytes (Err (TooDeep at)) = IsTooDeepAt bytes at
 Reads bytes (Err Memory) = ⊥
-
--- the fault that the bytes have; want of memory is none of theirs
-abbrev pub IsFaultOf : List ℕ → GmlFault → Type 0
-IsFaultOf bytes (Syntax at) = IsSyntaxAt bytes at
-IsFaultOf bytes (TooDeep at) = IsTooDeepAt bytes at
-IsFaultOf bytes Memory = Unit {0}

@@ -1,4 +1,4 @@
-use Rattle.std.specs.Prelude.{ℕ, zero, suc, ◌≤◌, ◌+◌, List, [], ◌∷◌, ◌++◌, codes}
+use Rattle.std.specs.Prelude.{ℕ, zero, suc, ◌≤◌, ◌+◌, List, [], ◌++◌, codes}
 use Rattle.gml_text.specs.Tree.{Content, number, text, list, Pairs, no_pairs, pair, depth}
 use Rattle.gml_text.specs.Grammar.{IsKey, IsNumber, Lacks}
 use Rattle.gml_text.specs.Parse.{most_open}

@@ -1,6 +1,5 @@
 use Rattle.std.specs.Prelude.{◌≡◌, ℕ, List, map, reverse, Some, None, Result, Ok, Err, Vec}
 use Rattle.std.specs.declared.alloc.Global.{Global}
-use Rattle.gml_text.specs.Tree.{Pairs}
 use Rattle.gml_text.specs.View.{pairs}
 use Rattle.gml_text.specs.Reading.{Where, between, behind, Mode, in_gap, in_comment, in_key, in_number, in_text, Frame, State, finished}
 use Rattle.gml_text.specs.declared.fault.Refusal.{Refusal}

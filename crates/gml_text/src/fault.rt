@@ -5,7 +5,7 @@ use thiserror::Error;
 #[derive(Clone, Copy, Debug, PartialEq, Eq, Error)]
 pub enum GmlFault {
     /// The bytes are no document: so many of them begin one, and no more do.
-    #[error("there is no document from byte {at} on")]
+    #[error("no document goes on so at byte {at}")]
     Syntax { at: u64 },
     /// The byte at this offset, from 0, opens a list inside 64 open ones.
     #[error("the list at byte {at} is too deep")]

@@ -10,18 +10,15 @@ ghost use Rattle.gml_text.specs.declared.fault.GmlFault.{GmlFault};
 /// No bytes are a spelling of two trees.
 pub fn spelled_once()
     ensures { (bytes : List ℕ) (tree other : Pairs) → Spells tree bytes → Spells other bytes → tree ≡ other }
-{
-}
+{}
 
 /// No bytes are read in two ways: as two trees, as a tree and with a fault, or with two faults.
 pub fn read_once()
     ensures { (bytes : List ℕ) (r s : Result Pairs GmlFault) → Reads bytes r → Reads bytes s → r ≡ s }
-{
-}
+{}
 
 /// What is printed is read again as the tree.
 pub fn printed_is_read()
     ensures spelled { (tree : Pairs) → IsGrammatical tree → Spells tree (printed tree) }
     ensures read { (tree : Pairs) → IsPrintable tree → Reads (printed tree) (Ok tree) }
-{
-}
+{}

@@ -5,8 +5,8 @@ mod fault;
 mod laws;
 mod read;
 mod reader;
-mod token;
 mod search;
+mod token;
 mod tree;
 mod write;
 

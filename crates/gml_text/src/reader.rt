@@ -85,15 +85,14 @@ impl Reader {
     pub(crate) fn finish(mut self) -> Result<Vec<Pair>, Refusal>
         ensures { FinishGives (state_of self) result }
     {
-        if let Token::Number(part) = self.token && part.is_complete() {
+        if let Token::Number(part) = self.token
+            && part.is_complete()
+        {
             self.end_number()?;
         }
         match self.token {
             Token::Gap(Place::BetweenPairs) | Token::Comment(Place::BetweenPairs)
-                if self.lists.is_empty() =>
-            {
-                Ok(self.pairs)
-            }
+                if self.lists.is_empty() => { Ok(self.pairs) }
             _ => Err(Refusal::Syntax),
         }
     }

@@ -1,4 +1,4 @@
-use Rattle.std.proofs.Common.{◌≡◌, Some, sym, ◌∙◌}
+use Rattle.std.proofs.Common.{sym, ◌∙◌}
 use Rattle.std.proofs.lemmas.Option.{same_Some}
 use Rattle.gml_text.proofs.Accepting.{spelled_is_accepted}
 use Rattle.gml_text.proofs.laws.spelled_once.Goals as goal

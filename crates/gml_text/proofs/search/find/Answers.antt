@@ -1,4 +1,4 @@
-use Rattle.std.proofs.Common.{◌≡◌, ◌<◌, length, Some, sym, ap, ◌∙◌, inl, inr, arith, below_more}
+use Rattle.std.proofs.Common.{Some, sym, ap, ◌∙◌, inl, inr, arith, below_more}
 use Rattle.std.proofs.lemmas.Bool.{false≢true, cases_lt}
 use Rattle.std.proofs.lemmas.Option.{none-some, same_Some}
 use Rattle.std.proofs.lemmas.Slice.Eq.{bytes_eq-Decides}
@@ -14,13 +14,13 @@ pub loop-place-preserved : goal.loop-place-preserved
 loop-place-preserved c =
     below_more _ _ c.loop-place.invariant
     (λ e.
-        let here = keys_at c.args.list.now c.loop-place.place c.index-list-place.result c.loop-place-test.true c.index-list-place.is in
-        let same = same_Some c.index-list-place.result.key c.args.key.now (sym here ∙ e) in
-        false≢true (sym c.if-eq.false ∙ (c.eq.ensures ∙ (bytes_eq-Decides c.as_slice.result.now c.args.key.now).1 (c.as_slice.ensures ∙ same))))
+    let here = keys_at c.args.list.now c.loop-place.place c.index-list-place.result c.loop-place-test.true c.index-list-place.is in
+    let same = same_Some c.index-list-place.result.key c.args.key.now (sym here ∙ e) in
+    false≢true (sym c.if-eq.false ∙ (c.eq.ensures ∙ (bytes_eq-Decides c.as_slice.result.now c.args.key.now).1 (c.as_slice.ensures ∙ same))))
 
 pub returns-clause-none : goal.returns-clause-none
 returns-clause-none c k e =
     elim (cases_lt k c.loop-place.place) [
-        inl below ↦ c.loop-place.invariant k below e
-        | inr past ↦ none-some c.args.key.now (sym (keys_past c.args.list.now k (omega arith)) ∙ e)
+      | inl below ↦ c.loop-place.invariant k below e
+      | inr past ↦ none-some c.args.key.now (sym (keys_past c.args.list.now k (omega arith)) ∙ e)
     ]

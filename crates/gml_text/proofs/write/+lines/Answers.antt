@@ -1,5 +1,5 @@
 use denote.Param.Weighed.{most, at_most}
-use Rattle.std.proofs.Common.{◌≡◌, ◌≤◌, subst, rules, [], ◌∷◌, ◌++◌, take, ap, sym, ◌∙◌, append_assoc, append-nil}
+use Rattle.std.proofs.Common.{◌≤◌, subst, rules, [], ◌∷◌, ◌++◌, take, ap, sym, ◌∙◌, append_assoc, append-nil}
 use Rattle.gml_text.specs.Printed.{printed_inside}
 use Rattle.gml_text.specs.View.{pairs}
 use Rattle.gml_text.proofs.Printing.{more_lines, fits_inside}
@@ -21,6 +21,6 @@ put_lines-loop-pair-preserved t c =
 pub put_lines-put_pair-requires : goal.put_lines-put_pair-requires
 put_lines-put_pair-requires t c =
     let below : the_size c.pair-item.result ≤ most the_size c.args.list.now =
-        subst (λ x. the_size x ≤ most the_size c.args.list.now) (sym c.pair-item.is)
-        (at_most the_size c.args.list.now c.loop-pair.pair-index c.pair-item.result c.loop-pair-test.true) in
+    subst (λ x. the_size x ≤ most the_size c.args.list.now) (sym c.pair-item.is)
+    (at_most the_size c.args.list.now c.loop-pair.pair-index c.pair-item.result c.loop-pair-test.true) in
     (search (rules, below), fits_inside c.args.list.now c.loop-pair.pair-index c.pair-item.result c.args.level c.loop-pair-test.true c.pair-item.is c.requires)

@@ -1,4 +1,4 @@
-use Rattle.std.proofs.Common.{◌≡◌, sym, subst, rules}
+use Rattle.std.proofs.Common.{sym, subst, rules}
 use Rattle.gml_text.specs.Grammar.{Spells}
 use Rattle.gml_text.specs.View.{tree}
 use Rattle.gml_text.proofs.Printing.{printed_is_spelling}

@@ -1,4 +1,4 @@
-use Rattle.std.proofs.Common.{◌≡◌, ◌++◌, ap, ◌∙◌, append_assoc, add-one, arith, append-nil, sym}
+use Rattle.std.proofs.Common.{◌++◌, ap, ◌∙◌, append_assoc, append-nil, sym}
 use Rattle.gml_text.specs.Printed.{indent}
 use Rattle.gml_text.proofs.Printing.{indent_more}
 use Rattle.gml_text.proofs.write.put_indent.Goals as goal
