@@ -1,6 +1,7 @@
 //! Reading byte by byte: the open lists stand in a vector, so that depth takes no stack.
 
 ghost use Rattle.std.specs.Prelude.{◌≡◌, ◌≤◌, [], ◌∷◌, IfOk, vec_len};
+ghost use Rattle.gml_text.specs.Parse.{most_open};
 
 use crate::fault::Refusal;
 use crate::token::{self, NumberPart, Place, Token};
@@ -28,7 +29,7 @@ pub(crate) struct Reader {
     key: Vec<u8>,
     lexeme: Vec<u8>,
     token: Token,
-    ghost within_limit: { vec_len lists ≤ 64 },
+    ghost within_limit: { vec_len lists ≤ most_open },
 }
 
 /// A vector with the byte alone.

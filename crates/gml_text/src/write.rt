@@ -1,5 +1,6 @@
 ghost use Rattle.std.specs.Prelude.{◌≡◌, ◌+◌, ◌++◌, ◌≤◌, ◌∷◌, [], IfOk, OnOk, length};
 ghost use Rattle.gml_text.specs.Grammar.{Spells};
+ghost use Rattle.gml_text.specs.Parse.{most_open};
 ghost use Rattle.gml_text.specs.Printed.{indent, printed, printed_inside, printed_value, IsPrintable};
 ghost use Rattle.gml_text.specs.Tree.{depth, value_depth, pair, no_pairs};
 ghost use Rattle.gml_text.specs.View.{content, entry, pairs, tree};
@@ -30,7 +31,7 @@ fn put_text(out: &mut Vec<u8>, text: &Bytes) -> Result<(), AllocError>
 /// A value behind its key, inside so many open lists.
 #[cycle(lines)]
 fn put_value(out: &mut Vec<u8>, value: &Value, level: usize) -> Result<(), AllocError>
-    requires { value_depth (content value.now) + level ≤ 64 }
+    requires { value_depth (content value.now) + level ≤ most_open }
     ensures { OnOk result (out.new.items ≡ out.old.items ++ printed_value level (content value.now)) }
 {
     match value {
@@ -49,7 +50,7 @@ fn put_value(out: &mut Vec<u8>, value: &Value, level: usize) -> Result<(), Alloc
 /// The line or lines of a pair, inside so many open lists.
 #[cycle(lines)]
 fn put_pair(out: &mut Vec<u8>, pair: &Pair, level: usize) -> Result<(), AllocError>
-    requires { depth (pairs (pair.now ∷ [])) + level ≤ 64 }
+    requires { depth (pairs (pair.now ∷ [])) + level ≤ most_open }
     ensures { OnOk result (out.new.items ≡ out.old.items ++ printed_inside level (pairs (pair.now ∷ []))) }
 {
     put_indent(out, level)?;
@@ -63,7 +64,7 @@ fn put_pair(out: &mut Vec<u8>, pair: &Pair, level: usize) -> Result<(), AllocErr
 /// The lines of the pairs, inside so many open lists.
 #[cycle(lines)]
 fn put_lines(out: &mut Vec<u8>, list: &[Pair], level: usize) -> Result<(), AllocError>
-    requires { depth (pairs list.now) + level ≤ 64 }
+    requires { depth (pairs list.now) + level ≤ most_open }
     ensures { OnOk result (out.new.items ≡ out.old.items ++ printed_inside level (pairs list.now)) }
 {
     for pair in list {
