@@ -1,5 +1,5 @@
 -- How deep the documents are that a state leads to.
-use Rattle.std.proofs.Common.{◌≡◌, ℕ, suc, ◌+◌, ◌≤◌, max, Bool, true, false, not, ◌||◌, cond, ◌==◌, List, [], ◌∷◌, ◌++◌, length, Option, Some, None, refl, ap, ◌∙◌, subst, arith}
+use Rattle.std.proofs.Common.{◌≡◌, ℕ, suc, ◌+◌, ◌≤◌, max, Bool, true, false, not, ◌||◌, cond, ◌==◌, List, [], ◌∷◌, ◌++◌, length, Option, Some, None, refl, sym, ap, ◌∙◌, subst, arith}
 use Rattle.std.specs.Option.{option_map, option_and_then}
 use Rattle.std.proofs.lemmas.Option.{none-some, same_Some}
 use Rattle.gml_text.specs.Bytes.{is_space, begins_key, is_key_byte, is_word_byte}
@@ -9,6 +9,7 @@ use Rattle.gml_text.specs.Token.{begun, after, is_complete}
 use Rattle.gml_text.specs.declared.token.NumberPart.{NumberPart}
 use Rattle.gml_text.specs.declared.token.NumberPart.TheVariants.{Sign, Whole, Point, Fraction, Mark, MarkSign, Exponent}
 use Rattle.gml_text.proofs.Accepting.{at}
+use Rattle.gml_text.proofs.Spelling.{complete_or_none}
 
 -- the pairs of the document where each open list is closed at once
 abbrev pub closed_up : List Frame → Pairs → Pairs
@@ -129,25 +130,21 @@ keeps_mode (in_text key inner) fs ps b = keeps_text key inner fs ps b
 pub step_keeps : (s : State) (b : ℕ) → Keeps (height s) (stepped s b)
 step_keeps s b = keeps_mode s.mode s.lists s.pairs b
 
-whole_height : (fs : List Frame) (ps tree : Pairs) → whole fs ps ≡ Some tree → depth (closed_up fs ps) ≤ depth tree
-whole_height [] ps tree h = subst (λ t. depth ps ≤ depth t) (same_Some ps tree h) (omega arith)
-whole_height (f ∷ fs) ps tree h = absurd (none-some tree h)
+whole_depth : (fs : List Frame) (ps tree : Pairs) → whole fs ps ≡ Some tree → depth (closed_up fs ps) ≡ depth tree
+whole_depth [] ps tree h = ap depth (same_Some ps tree h)
+whole_depth (f ∷ fs) ps tree h = absurd (none-some tree h)
 
-complete_height : (t : Bool) (fs : List Frame) (ps tree : Pairs) → cond t (whole fs ps) None ≡ Some tree → depth (closed_up fs ps) ≤ depth tree
-complete_height true fs ps tree h = whole_height fs ps tree h
-complete_height false fs ps tree h = absurd (none-some tree h)
-
-finished_height : (mode : Mode) (fs : List Frame) (ps tree : Pairs) → finished mode fs ps ≡ Some tree → depth (closed_up fs ps) ≤ depth tree
-finished_height (in_gap between) fs ps tree h = whole_height fs ps tree h
-finished_height (in_gap (behind key)) fs ps tree h = absurd (none-some tree h)
-finished_height (in_comment between) fs ps tree h = whole_height fs ps tree h
-finished_height (in_comment (behind key)) fs ps tree h = absurd (none-some tree h)
-finished_height (in_key key) fs ps tree h = absurd (none-some tree h)
-finished_height (in_number key digits part) fs ps tree h =
-    let e = height-flat fs ps key (number digits) refl in
-    let below = complete_height (is_complete part) fs (ps then pair key (number digits) no_pairs) tree h in
-    omega arith
-finished_height (in_text key inner) fs ps tree h = absurd (none-some tree h)
+-- a document that ends is as deep as its state
+pub finished_depth : (mode : Mode) (fs : List Frame) (ps tree : Pairs) → finished mode fs ps ≡ Some tree → depth (closed_up fs ps) ≡ depth tree
+finished_depth (in_gap between) fs ps tree h = whole_depth fs ps tree h
+finished_depth (in_gap (behind key)) fs ps tree h = absurd (none-some tree h)
+finished_depth (in_comment between) fs ps tree h = whole_depth fs ps tree h
+finished_depth (in_comment (behind key)) fs ps tree h = absurd (none-some tree h)
+finished_depth (in_key key) fs ps tree h = absurd (none-some tree h)
+finished_depth (in_number key digits part) fs ps tree h =
+    sym (height-flat fs ps key (number digits) refl)
+    ∙ whole_depth fs (ps then pair key (number digits) no_pairs) tree (complete_or_none (is_complete part) _ tree h).1
+finished_depth (in_text key inner) fs ps tree h = absurd (none-some tree h)
 
 step_height : (o : Option State) (h : ℕ) (bs : List ℕ) (tree : Pairs) → Keeps h o
     → ((s : State) → accepted bs s ≡ Some tree → height s ≤ depth tree) → option_and_then (accepted bs) o ≡ Some tree → h ≤ depth tree
@@ -156,7 +153,7 @@ step_height (Some s) h bs tree k later e = let below = later s e in omega arith
 
 -- what is accepted from a state is at least as deep
 pub accepted_height : (more : List ℕ) (s : State) (tree : Pairs) → accepted more s ≡ Some tree → height s ≤ depth tree
-accepted_height [] s tree h = finished_height s.mode s.lists s.pairs tree h
+accepted_height [] s tree h = let same = finished_depth s.mode s.lists s.pairs tree h in omega arith
 accepted_height (b ∷ bs) s tree h = step_height (stepped s b) (height s) bs tree (step_keeps s b) (λ t. accepted_height bs t tree) h
 
 -- a bracket for each open list
@@ -259,24 +256,3 @@ mode_completes (in_text key inner) fs ps = record {
 
 pub completion : (s : State) → Completion s
 completion s = mode_completes s.mode s.lists s.pairs
-
-no_deeper_whole : (fs : List Frame) (ps tree : Pairs) → whole fs ps ≡ Some tree → depth tree ≤ depth (closed_up fs ps)
-no_deeper_whole [] ps tree h = subst (λ t. depth t ≤ depth ps) (same_Some ps tree h) (omega arith)
-no_deeper_whole (f ∷ fs) ps tree h = absurd (none-some tree h)
-
-no_deeper_complete : (t : Bool) (fs : List Frame) (ps tree : Pairs) → cond t (whole fs ps) None ≡ Some tree → depth tree ≤ depth (closed_up fs ps)
-no_deeper_complete true fs ps tree h = no_deeper_whole fs ps tree h
-no_deeper_complete false fs ps tree h = absurd (none-some tree h)
-
--- a document that ends is no deeper than its state
-pub no_deeper_end : (mode : Mode) (fs : List Frame) (ps tree : Pairs) → finished mode fs ps ≡ Some tree → depth tree ≤ depth (closed_up fs ps)
-no_deeper_end (in_gap between) fs ps tree h = no_deeper_whole fs ps tree h
-no_deeper_end (in_gap (behind key)) fs ps tree h = absurd (none-some tree h)
-no_deeper_end (in_comment between) fs ps tree h = no_deeper_whole fs ps tree h
-no_deeper_end (in_comment (behind key)) fs ps tree h = absurd (none-some tree h)
-no_deeper_end (in_key key) fs ps tree h = absurd (none-some tree h)
-no_deeper_end (in_number key digits part) fs ps tree h =
-    let e = height-flat fs ps key (number digits) refl in
-    let below = no_deeper_complete (is_complete part) fs (ps then pair key (number digits) no_pairs) tree h in
-    omega arith
-no_deeper_end (in_text key inner) fs ps tree h = absurd (none-some tree h)

@@ -1,9 +1,10 @@
 -- From the states of a reader to what the bytes are read as.
-use Rattle.std.proofs.Common.{◌≡◌, ℕ, zero, suc, ◌+◌, ◌≤◌, ◌<◌, List, [], ◌∷◌, ◌++◌, length, take, Option, Some, None, Result, Ok, Err, IsSomeAnd, inl, inr, refl, sym, ap, ◌∙◌, subst, arith, append_assoc}
+use Rattle.std.proofs.Common.{◌≡◌, ℕ, zero, suc, ◌+◌, ◌≤◌, ◌<◌, List, [], ◌∷◌, ◌++◌, length, take, get_or, Option, Some, None, Result, Ok, Err, IsSomeAnd, inl, inr, refl, sym, ap, ◌∙◌, subst, arith, append_assoc}
 use Rattle.std.specs.Option.{option_and_then}
 use Rattle.std.proofs.lemmas.Bool.{cases_lt, cases_order}
 use Rattle.std.proofs.lemmas.Option.{none-some, same_Some}
-use Rattle.std.proofs.lemmas.List.{append-nil}
+use Rattle.std.proofs.lemmas.List.{append-nil, take_more}
+use Rattle.std.proofs.Math.Seq.{take-length}
 use Rattle.gml_text.specs.Tree.{Pairs, depth}
 use Rattle.gml_text.specs.Grammar.{Spells}
 use Rattle.gml_text.specs.Parse.{most_open, Begins, BeginsWithinLimit, IsTooDeepAt, IsSyntaxAt, IsDocument, Reads}
@@ -18,7 +19,7 @@ use Rattle.gml_text.specs.declared.tree.Doc.{Doc}
 use Rattle.gml_text.specs.Reading.{State, start, stepped, accepted, finished, Gives}
 use Rattle.gml_text.proofs.Accepting.{spelled_is_accepted}
 use Rattle.gml_text.proofs.Spelling.{accepted_is_spelled}
-use Rattle.gml_text.proofs.Depths.{height, lists_below, Keeps, step_keeps, accepted_height, completion, no_deeper_end}
+use Rattle.gml_text.proofs.Depths.{height, lists_below, Keeps, step_keeps, accepted_height, completion, finished_depth}
 
 -- the fault that the bytes have; want of memory is none of theirs
 abbrev pub IsFaultOf : List ℕ → GmlFault → Type 0
@@ -87,10 +88,6 @@ shallow_front deep n bytes h b t =
     let over = t.deeper (r.0 ++ b.0) b.1 (subst (Spells b.1) (ap (λ x. x ++ b.0) r.1 ∙ append_assoc (take (deep + 1) bytes) r.0 b.0) b.2) in
     omega (arith, over, b.3)
 
-all_of : (bytes : List ℕ) → take (length bytes) bytes ≡ bytes
-all_of [] = refl
-all_of (b ∷ bytes) = ap (λ x. b ∷ x) (all_of bytes)
-
 -- where a byte is refused, the bytes before it are all that begin a document
 pub syntax_at_byte : (bytes : List ℕ) (at : ℕ) (b : ℕ) (s : State) → at < length bytes → take (at + 1) bytes ≡ take at bytes ++ b ∷ []
     → LeadsWithinLimit (take at bytes) s → stepped s b ≡ None → IsSyntaxAt bytes at
@@ -98,7 +95,7 @@ syntax_at_byte bytes at b s h more r e =
     let none : (n : ℕ) → at < n → Begins (take n bytes) → ⊥ = λ n above begun.
     refused (take at bytes) b s r.leads e (subst Begins more (shorter_begins (at + 1) n bytes (omega arith) begun)) in
     record {
-      no_document = λ tree spelled. none (length bytes) h ([], tree, subst (Spells tree) (sym (all_of bytes) ∙ sym (append-nil (take (length bytes) bytes))) spelled);
+      no_document = λ tree spelled. none (length bytes) h ([], tree, subst (Spells tree) (sym (take-length bytes) ∙ sym (append-nil (take (length bytes) bytes))) spelled);
       not_too_deep = λ deep t. elim (cases_lt deep at) [
         | inl before ↦ shallow_front deep at bytes before (begins_within (take at bytes) s r) t
         | inr from ↦ none (deep + 1) (omega arith) t.begins
@@ -111,7 +108,7 @@ syntax_at_byte bytes at b s h more r e =
 -- where no document may end at the end of the bytes
 pub syntax_at_end : (bytes : List ℕ) (s : State) → LeadsWithinLimit bytes s → accepted [] s ≡ None → IsSyntaxAt bytes (length bytes)
 syntax_at_end bytes s r e =
-    let all = all_of bytes in
+    let all = take-length bytes in
     record {
       no_document = λ tree spelled.
           none-some tree (sym e ∙ (sym (r.leads []) ∙ (ap (λ x. accepted x start) (append-nil bytes) ∙ spelled_is_accepted tree bytes spelled)));
@@ -146,18 +143,27 @@ too_deep_step bytes at b s None h more r e many = absurd many
 too_deep_step bytes at b s (Some u) h more r e many = too_deep_at bytes at b s u h more r e many
 
 -- the fault of a refused byte
-pub step_fault : (bytes : List ℕ) (at b : ℕ) (s t : State) (refusal : Refusal) → at < length bytes → take (at + 1) bytes ≡ take at bytes ++ b ∷ []
+step_fault_at : (bytes : List ℕ) (at b : ℕ) (s t : State) (refusal : Refusal) → at < length bytes → take (at + 1) bytes ≡ take at bytes ++ b ∷ []
     → LeadsWithinLimit (take at bytes) s → Gives (stepped s b) (Err refusal) t → IsFaultOf bytes (fault_at refusal at)
-step_fault bytes at b s t Syntax h more r g = syntax_at_byte bytes at b s h more r g
-step_fault bytes at b s t TooDeep h more r g = too_deep_step bytes at b s (stepped s b) h more r refl g
-step_fault bytes at b s t Memory h more r g = tt
+step_fault_at bytes at b s t Syntax h more r g = syntax_at_byte bytes at b s h more r g
+step_fault_at bytes at b s t TooDeep h more r g = too_deep_step bytes at b s (stepped s b) h more r refl g
+step_fault_at bytes at b s t Memory h more r g = tt
+
+pub step_fault : (bytes : List ℕ) (at : ℕ) (s t : State) (refusal : Refusal) (fault : GmlFault) → fault ≡ fault_at refusal at → at < length bytes
+    → LeadsWithinLimit (take at bytes) s → Gives (stepped s (get_or bytes at 0)) (Err refusal) t → IsFaultOf bytes fault
+step_fault bytes at s t refusal fault e h r g =
+    subst (IsFaultOf bytes) (sym e) (step_fault_at bytes at (get_or bytes at 0) s t refusal h (take_more bytes at 0 h) r g)
 
 -- the fault of a refused end
-pub end_fault : (bytes : List ℕ) (s : State) (refusal : Refusal) → LeadsWithinLimit bytes s → FinishGives s (Err refusal)
+end_fault_at : (bytes : List ℕ) (s : State) (refusal : Refusal) → LeadsWithinLimit bytes s → FinishGives s (Err refusal)
     → IsFaultOf bytes (fault_at refusal (length bytes))
-end_fault bytes s Syntax r g = syntax_at_end bytes s r g
-end_fault bytes s TooDeep r g = absurd g
-end_fault bytes s Memory r g = tt
+end_fault_at bytes s Syntax r g = syntax_at_end bytes s r g
+end_fault_at bytes s TooDeep r g = absurd g
+end_fault_at bytes s Memory r g = tt
+
+pub end_fault : (bytes : List ℕ) (s : State) (refusal : Refusal) (fault : GmlFault) → fault ≡ fault_at refusal (length bytes)
+    → LeadsWithinLimit bytes s → FinishGives s (Err refusal) → IsFaultOf bytes fault
+end_fault bytes s refusal fault e r g = subst (IsFaultOf bytes) (sym e) (end_fault_at bytes s refusal r g)
 
 spelled_one : (tree other : Pairs) (bytes : List ℕ) → Spells tree bytes → Spells other bytes → tree ≡ other
 spelled_one tree other bytes s t = same_Some tree other (sym (spelled_is_accepted tree bytes s) ∙ spelled_is_accepted other bytes t)
@@ -165,7 +171,7 @@ spelled_one tree other bytes s t = same_Some tree other (sym (spelled_is_accepte
 document_not_deep : (bytes : List ℕ) (tree : Pairs) (deep : ℕ) → IsDocument tree bytes → IsTooDeepAt bytes deep → ⊥
 document_not_deep bytes tree deep d t =
     shallow_front deep (length bytes) bytes t.within
-    ([], tree, subst (Spells tree) (sym (all_of bytes) ∙ sym (append-nil (take (length bytes) bytes))) d.spelled, d.within_limit) t
+    ([], tree, subst (Spells tree) (sym (take-length bytes) ∙ sym (append-nil (take (length bytes) bytes))) d.spelled, d.within_limit) t
 
 one_syntax : (bytes : List ℕ) (a b : ℕ) → IsSyntaxAt bytes a → IsSyntaxAt bytes b → a ≡ b
 one_syntax bytes a b s t =
@@ -224,13 +230,13 @@ is_too_deep bytes fault f at e = same_fault bytes fault (faults.TooDeep at) e f
 -- at the end of a document within the limit
 pub document_within : (bytes : List ℕ) (s : State) (tree : Pairs) → LeadsWithinLimit bytes s → finished s.mode s.lists s.pairs ≡ Some tree → IsDocument tree bytes
 document_within bytes s tree r e =
-    record { spelled = document_at_end bytes s tree r e; within_limit = omega (arith, r.within, no_deeper_end s.mode s.lists s.pairs tree e) }
+    record { spelled = document_at_end bytes s tree r e; within_limit = omega (arith, r.within, finished_depth s.mode s.lists s.pairs tree e) }
 
 -- the front that is all of the bytes
 pub whole_front : (bytes : List ℕ) (at : ℕ) (s : State) → length bytes ≤ at → at ≤ length bytes → LeadsWithinLimit (take at bytes) s → LeadsWithinLimit bytes s
 whole_front bytes at s above below r =
     let same : at ≡ length bytes = omega arith in
-    subst (λ x. LeadsWithinLimit x s) (ap (λ n. take n bytes) same ∙ all_of bytes) r
+    subst (λ x. LeadsWithinLimit x s) (ap (λ n. take n bytes) same ∙ take-length bytes) r
 
 -- before the first byte
 pub leads_at_start : (s : State) → s ≡ start → LeadsWithinLimit [] s

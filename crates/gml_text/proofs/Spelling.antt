@@ -421,7 +421,7 @@ rest_ends fs ps tree h =
     subst (λ x. Rest x ps [] tree) (sym w.0)
     (no_pairs, record { body = []; ending = []; spelled = refl; pairs = no_gap; is_ending = inl refl }, w.1 ∙ sym (then-none ps))
 
-complete_or_none : (t : Bool) (o : Option Pairs) (tree : Pairs) → cond t o None ≡ Some tree → (t ≡ true) × (o ≡ Some tree)
+pub complete_or_none : (t : Bool) (o : Option Pairs) (tree : Pairs) → cond t o None ≡ Some tree → (t ≡ true) × (o ≡ Some tree)
 complete_or_none true o tree h = (refl, h)
 complete_or_none false o tree h = absurd (none-some tree h)
 

@@ -1,8 +1,7 @@
 -- Values and pairs of the code beside what they stand for.
 use Rattle.std.proofs.Common.{◌≡◌, ℕ, zero, suc, ◌≤◌, ◌<◌, get_or, slice_get, Some, None, sym, List, [], ◌∷◌, ◌++◌, length, map, refl, ap, ◌∙◌, arith, rules}
-use Rattle.std.proofs.lemmas.List.{length-reverse}
+use Rattle.std.proofs.lemmas.List.{length-map, length-reverse}
 use Rattle.gml_text.specs.Reader.{frame_of, state_of}
-use Rattle.gml_text.specs.declared.reader.OpenList.{OpenList}
 use Rattle.gml_text.specs.declared.reader.Reader.{Reader}
 use Rattle.gml_text.specs.Tree.{no_pairs, pair, keys, ◌then◌}
 use Rattle.gml_text.specs.View.{entry, pairs}
@@ -14,15 +13,11 @@ pub pairs-push : (ps : List Pair) (p : Pair) → pairs (ps ++ p ∷ []) ≡ pair
 pairs-push [] p = refl
 pairs-push (q ∷ ps) p = ap (pair (entry q).0 (entry q).1) (pairs-push ps p)
 
-length-map_frame : (lists : List OpenList) → length (map frame_of lists) ≡ length lists
-length-map_frame [] = refl
-length-map_frame (x ∷ lists) = ap suc (length-map_frame lists)
-
 -- a reader has no more lists open than the limit
 pub few_lists : (r : Reader) → length (state_of r).lists ≤ 64
 few_lists r =
     let e = length-reverse (map frame_of r.lists.items) in
-    let m = length-map_frame r.lists.items in
+    let m = length-map r.lists.items frame_of in
     omega (arith, e, m, r.within_limit, r.lists.ok.0)
 
 -- the key of a pair
