@@ -135,11 +135,12 @@ impl<K: Copy + Eq + Hash, V: Copy> KeyedSlab<K, V> {
 // Leads the key to the id, where the map has room for one more.
 fn lead<K: Copy + Eq + Hash>(ids: &mut IndexMap<K, usize>, key: K, id: usize)
     requires { 0 < spare ids.old }
-    ensures updates { (k : K) → id_of K.eq ids.new k ≡ (if K.eq k key then Some id else id_of K.eq ids.old k) }
+    ensures updates { (k : K) → id_of K.eq ids.new k ≡ (if K.eq key k then Some id else id_of K.eq ids.old k) }
     ensures room { capacity_of ids.old ≤ capacity_of ids.new }
 {
     if let Some(index) = ids.get_index_of(&key) {
-        ids[index] = id;
+        let (_, slot) = ids.pair_mut(index);
+        *slot = id;
     } else {
         let _ = ids.insert(key, id);
     }

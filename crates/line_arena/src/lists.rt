@@ -1,5 +1,5 @@
 // Lines and crossings, each crossing in the lists of its two lines.
-ghost use Rattle.std.specs.Prelude.{◌≡◌, ◌≢◌, ◌+◌, ◌-◌, ◌<◌, ◌↔◌, ℕ, ◌≤ℤ◌, Some, None, IsTrue};
+ghost use Rattle.std.specs.Prelude.{◌≡◌, ◌≢◌, ◌+◌, ◌-◌, ◌<◌, ◌≤◌, ◌↔◌, ℕ, ◌≤ℤ◌, Some, None, IsTrue};
 ghost use Rattle.std.specs.Option.{ForSome};
 ghost use Rattle.slab.specs.Slab.{slab_len};
 ghost use Rattle.plane_geom.specs.Point.{opposite};
@@ -124,10 +124,12 @@ impl Lists {
     {
         if self.starts_nearer(line, dir, point) {
             let on = self.first_past(line, dir, point);
-            (self.next(line, on, dir.opposite()), on)
+            let back = self.next(line, on, dir.opposite());
+            (back, on)
         } else {
             let back = self.first_past(line, dir.opposite(), point);
-            (back, self.next(line, back, dir))
+            let on = self.next(line, back, dir);
+            (back, on)
         }
     }
 
