@@ -1,2 +1,5 @@
 pub mod Nearest
 pub mod Refill
+pub mod Linked
+pub mod Joined
+pub mod Relinked

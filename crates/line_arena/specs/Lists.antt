@@ -111,29 +111,34 @@ pub record SamePlaces (a b : Lists) : Type 0 where
   pub crossing_room : b.crossings.room ≡ a.crossings.room
   pub places : b.crossings.slab.capacity ≡ a.crossings.slab.capacity
 
+-- all links in the direction are the same
+pub record SameDirection (a b : Lists) (d : Dir) : Type 0 where
+  pub starts : (l : ℕ) (line : Line) → line_at a l ≡ Some line → line.way ≡ way_of d → link b l None d ≡ link a l None d
+  pub nexts : (m c : ℕ) → link b m (Some c) d ≡ link a m (Some c) d
+
 -- of the links this one alone has changed
 pub record Relinks (a b : Lists) (l : ℕ) (from : Option ℕ) (d : Dir) (to : Option ℕ) : Type 0 where
   pub places : SamePlaces a b
   pub changed : link b l from d ≡ to
-  pub other_directions : (m : ℕ) (f : Option ℕ) (e : Dir) → e ≢ d → link b m f e ≡ link a m f e
+  pub other_directions : (e : Dir) → e ≢ d → SameDirection a b e
   pub other_crossings : (m : ℕ) (f : Option ℕ) → f ≢ from → link b m f d ≡ link a m f d
   pub other_lines : (m : ℕ) → m ≢ l → link b m None d ≡ link a m None d
 
--- the crossing has the nearest of the others on both its lines as its neighbours, and none of them stands where it does
+-- no two crossings of a line stand at one place of it
+abbrev pub AreApart : (ℕ → Option Spot) → Dir → Type 0
+AreApart spots d = (l c e : ℕ) (z : ℤ) → Stands spots l d c z → Stands spots l d e z → c ≡ e
+
+-- the crossing has the nearest of the others on both its lines as its neighbours
 pub record KnowsNeighbours (a : Lists) (k : ℕ) : Type 0 where
   pub spot : Spot
   pub is : spot_at a k ≡ Some spot
   pub runs : (d : Dir) → RunsAlong a (line_along d spot) d
   pub next : (d : Dir) → IsNext (Stands (without k (spot_at a)) (line_along d spot) d) (Some (reach d spot.point)) (link a (line_along d spot) (Some k) d)
-  pub alone : (d : Dir) (c : ℕ) → Stands (spot_at a) (line_along d spot) d c (reach d spot.point) → c ≡ k
+  pub apart : (d : Dir) → AreApart (spot_at a) d
 
 -- the neighbours of the crossing are the same
 abbrev pub SameLinks : Lists → Lists → ℕ → Type 0
 SameLinks a b k = (m : ℕ) (d : Dir) → link b m (Some k) d ≡ link a m (Some k) d
-
--- all links in the direction are the same
-abbrev pub SameDirection : Lists → Lists → Dir → Type 0
-SameDirection a b d = (m : ℕ) (f : Option ℕ) → link b m f d ≡ link a m f d
 
 -- the new map has this at the id, and at every other id what the old one had
 pub record UpdatesAt {X : Type 0} (old new : ℕ → Option X) (id : ℕ) (x : Option X) : Type 0 where

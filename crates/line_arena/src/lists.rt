@@ -55,7 +55,7 @@ impl Lists {
 
     /// Lets the crossing follow in the line's list in the direction.
     fn set_next(&mut self, line: LineId, from: Option<CrossId>, dir: Dir, to: Option<CrossId>)
-        requires line { entry_at self.old.lines line ≢ None }
+        requires runs { RunsAlong self.old line dir }
         requires from { ForSome from (λ c. entry_at self.old.crossings c ≢ None) }
         ensures { Relinks self.old self.new line from dir to }
     {
