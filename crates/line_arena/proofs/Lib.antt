@@ -3,3 +3,4 @@ pub mod Refill
 pub mod Linked
 pub mod Joined
 pub mod Relinked
+pub mod Kept
