@@ -4,3 +4,4 @@ pub mod Linked
 pub mod Joined
 pub mod Relinked
 pub mod Kept
+pub mod Walk

@@ -42,10 +42,10 @@ impl Lists {
     ghost use Rattle.line_arena.specs.Lists.{AreLinked, AreLists, IsNext, KnowsNeighbours, AreMet, IsApart, IsPut, Relinks, RunsAlong, SameDirection, SameLinks, SamePlaces, Spot, Stands, UpdatesAt, line_along, line_at, link, spot_at, without};
 
     /// The crossing that follows in the line's list in the direction; after none it is where the list begins.
-    pub fn next(&self, line: LineId, from: Option<CrossId>, dir: Dir) -> Option<CrossId>
+    fn next(&self, line: LineId, from: &Option<CrossId>, dir: Dir) -> Option<CrossId>
         requires line { entry_at self.now.lines line ≢ None }
-        requires from { ForSome from (λ c. entry_at self.now.crossings c ≢ None) }
-        ensures { result ≡ link self.now line from dir }
+        requires from { ForSome from.now (λ c. entry_at self.now.crossings c ≢ None) }
+        ensures { result ≡ link self.now line from.now dir }
     {
         match from {
             None => self.lines.get(line.place()).1.start(dir),
@@ -81,15 +81,15 @@ impl Lists {
         requires free { (c : ℕ) → Stands (spot_at self.now) line dir c (reach dir point) → ⊥ }
         ensures { IsNext (Stands (spot_at self.now) line dir) (Some (reach dir point)) result }
     {
-        let mut next = self.next(line, None, dir);
+        let mut next = self.next(line, &None, dir);
         while let Some(crossing) = next {
             let (at, node) = self.crossings.get(crossing.place());
             if is_further(dir, point, *at) {
-                break;
+                return next;
             }
             next = node.next(dir);
         }
-        next
+        None
     }
 
     /// Whether the line's list in the direction begins nearer to the point than it ends.
@@ -97,8 +97,8 @@ impl Lists {
         requires lists { AreLists self.now }
         requires runs { RunsAlong self.now line dir }
     {
-        let start = self.next(line, None, dir);
-        let stop = self.next(line, None, dir.opposite());
+        let start = self.next(line, &None, dir);
+        let stop = self.next(line, &None, dir.opposite());
         match (start, stop) {
             (Some(start), Some(stop)) => {
                 let (start, _) = self.crossings.get(start.place());
@@ -124,11 +124,11 @@ impl Lists {
     {
         if self.starts_nearer(line, dir, point) {
             let on = self.first_past(line, dir, point);
-            let back = self.next(line, on, dir.opposite());
+            let back = self.next(line, &on, dir.opposite());
             (back, on)
         } else {
             let back = self.first_past(line, dir.opposite(), point);
-            let on = self.next(line, back, dir);
+            let on = self.next(line, &back, dir);
             (back, on)
         }
     }
