@@ -5,3 +5,4 @@ pub mod Joined
 pub mod Relinked
 pub mod Kept
 pub mod Walk
+pub mod Put

@@ -1,15 +1,15 @@
 -- A map that is filled with the keys of a slab, entry by entry.
-use Rattle.std.proofs.Common.{◌≡◌, ◌≢◌, ◌⊎◌, ℕ, ◌+◌, ◌≤◌, ◌<◌, Bool, true, false, cond, List, [], ◌∷◌, Option, Some, None, is_some, Result, Ok, Err, OnOk, Contains, inl, inr, refl, sym, ap, subst, ◌∙◌, arith}
+use Rattle.std.proofs.Common.{◌≡◌, ◌≢◌, ◌⊎◌, ℕ, ◌+◌, ◌≤◌, ◌<◌, Bool, true, false, true≢false, cond, List, [], ◌∷◌, Option, Some, None, is_some, Result, Ok, Err, OnOk, Contains, inl, inr, refl, sym, ap, subst, ◌∙◌, arith}
 use Rattle.std.proofs.lemmas.Bool.{cases_Bool}
 use Rattle.std.specs.Result.{IsOk}
 use Rattle.std.specs.Cmp.{IsEquivalence}
 use Rattle.std.specs.Map.{lookup}
 use Rattle.std.proofs.lemmas.Bool.{cases_eq}
-use Rattle.slab.specs.Slab.{Slab, Updates, get, entries, entries_from}
+use Rattle.slab.specs.Slab.{Slab, Updates, get, entries, entries_from, slab_len}
 use Rattle.slab.proofs.SlabLemmas.{Contains-cons, Contains-cons_cases, Contains-entries}
 use Rattle.indexmap.specs.IndexMap.{IndexMap}
 use Rattle.indexmap.specs.IndexMap as map
-use Rattle.line_arena.specs.Keyed.{AreDistinct, Lead}
+use Rattle.line_arena.specs.Keyed.{IsKeyed, Lead, capacity_of}
 
 module _ {T : Type 0} where
   -- the ids rise, from the number on
@@ -33,6 +33,20 @@ module _ {T : Type 0} where
         | inl here ↦ let p = h.0 in let q = ap (λ p. p.0) here in omega arith
         | inr there ↦ let p = h.0 in let q = RiseFrom-Contains (e.0 + 1) es id x h.1 there in omega arith
       ]
+
+-- no two entries have one key
+pub record AreDistinct {K V : Type 0} (eq : K → K → Bool) (slab : Slab (K × V)) : Type 0 where
+  pub apart : (i j : ℕ) (d e : K × V) → get slab i ≡ Some d → get slab j ≡ Some e → eq d.0 e.0 ≡ true → i ≡ j
+
+-- where all keys are led to, they are different
+pub distinct_keys : {K V S : Type 0} (eq : K → K → Bool) → IsEquivalence eq → (slab : Slab (K × V)) (ids : IndexMap K ℕ S) → Lead eq slab ids → AreDistinct eq slab
+distinct_keys eq laws slab ids leads = record {
+  apart = λ i j d e di ej same.
+      let left = leads.at i d di in
+      let right = ap (λ test. lookup test ids.entries) (λ n q. laws.congr d.0 e.0 q same n) ∙ leads.at j e ej in
+      let both : Some i ≡ Some j = sym left ∙ right in
+      (let s : i ≡ j = cc in s);
+}
 
 module _ {K V S : Type 0} (eq : K → K → Bool) (slab : Slab (K × V)) where
   -- what is left has no key in the map yet, and all else is led to
@@ -132,16 +146,6 @@ module _ {K V S : Type 0} (eq : K → K → Bool) (laws : IsEquivalence eq) (sla
         | inr f ↦ f
       ]
 
-  -- all entries have different keys
-  pub distinct_keys : AreDistinct eq slab
-  distinct_keys = record {
-    apart = λ i j d e di ej same.
-        let left = leads.at i d di in
-        let right = ap (λ test. lookup test ids.entries) (λ n q. laws.congr d.0 e.0 q same n) ∙ leads.at j e ej in
-        let both : Some i ≡ Some j = sym left ∙ right in
-        (let s : i ≡ j = cc in s);
-  }
-
   -- a new entry is led to
   pub leads_more : (to : Slab (K × V)) (more : IndexMap K ℕ S) (id : ℕ) (value : V)
       → ((i : ℕ) (e : K × V) → get slab i ≡ Some e → eq key e.0 ≡ false)
@@ -159,3 +163,33 @@ module _ {K V S : Type 0} (eq : K → K → Bool) (laws : IsEquivalence eq) (sla
               put e.0 ∙ ap (λ b. cond b (Some id) (map.get eq ids e.0)) (new i e was) ∙ leads.at i e was
         ];
   }
+
+-- what is not equal to the key is not the key
+pub apart_from_false : {K : Type 0} (eq : K → K → Bool) → IsEquivalence eq → (k x : K) → eq k x ≡ false → x ≢ k
+apart_from_false eq laws k x f same = absurd (true≢false (sym (laws.refl k) ∙ ap (eq k) (sym same) ∙ f))
+
+pub false_from_apart : {K : Type 0} (eq : K → K → Bool) → ((x y : K) → eq x y ≡ true → x ≡ y) → (k x : K) → x ≢ k → eq k x ≡ false
+false_from_apart eq same k x ne =
+    elim (cases_Bool (eq k x)) [
+      | inl t ↦ absurd (ne (sym (same k x t)))
+      | inr f ↦ f
+    ]
+
+-- a new entry keeps what a keyed slab keeps
+pub keyed_more : {K V S : Type 0} (eq : K → K → Bool) → IsEquivalence eq → ((x y : K) → eq x y ≡ true → x ≡ y)
+    → (slab to : Slab (K × V)) (ids more : IndexMap K ℕ S) (room id : ℕ) (key : K) (value : V) → IsKeyed eq slab ids room
+    → ((i : ℕ) (e : K × V) → get slab i ≡ Some e → e.0 ≢ key)
+    → Updates slab to id (Some (key, value)) → slab_len to ≡ slab_len slab + 1 → slab_len slab < room → to.capacity ≡ slab.capacity → id < to.capacity
+    → ((q : K) → map.get eq more q ≡ cond (eq key q) (Some id) (map.get eq ids q)) → capacity_of ids ≤ capacity_of more
+    → IsKeyed eq to more room
+keyed_more eq laws same slab to ids more room id key value keyed new updates len fits capacity within put index = record {
+  leads = leads_more eq laws slab ids key keyed.leads to more id value (λ i e is. false_from_apart eq same key e.0 (new i e is)) updates put;
+  fits = omega (arith, len);
+  places = omega (arith, keyed.places, capacity);
+  index_places = omega (arith, keyed.index_places, index);
+  within = λ i e is.
+      elim (cases_eq i id) [
+        | inl here ↦ subst (λ n. n < to.capacity) (sym here) within
+        | inr other ↦ let old = keyed.within i e (sym (updates.others i other) ∙ is) in omega (arith, old, capacity)
+      ];
+}

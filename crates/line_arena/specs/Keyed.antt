@@ -39,7 +39,3 @@ module _ {K V S : Type 0} (eq : K → K → Bool) where
     pub places : room ≤ slab.capacity
     pub index_places : room ≤ capacity_of ids
     pub within : (id : ℕ) (e : K × V) → get slab id ≡ Some e → id < slab.capacity
-
--- no two entries have one key
-pub record AreDistinct {K V : Type 0} (eq : K → K → Bool) (slab : Slab (K × V)) : Type 0 where
-  pub apart : (i j : ℕ) (d e : K × V) → get slab i ≡ Some d → get slab j ≡ Some e → eq d.0 e.0 ≡ true → i ≡ j

@@ -2,12 +2,12 @@
 ghost use Rattle.std.specs.Prelude.{◌≡◌, ◌≢◌, ◌+◌, ◌-◌, ◌<◌, ◌≤◌, ℕ, Some, None, true, false, if◌then◌else◌, [], IfSome, IfNone, OnOk};
 ghost use Rattle.slab.specs.Slab.{Updates, get, slab_len, SameValues};
 ghost use Rattle.indexmap.specs.IndexMap.{index_map_len, spare, get as id_of};
-ghost use Rattle.line_arena.specs.Keyed.{AreDistinct, Lead, entry_at, capacity_of};
+ghost use Rattle.line_arena.specs.Keyed.{Lead, entry_at, capacity_of};
 
+use crate::key::Key;
 use indexmap::IndexMap;
 use slab::Slab;
 use std::alloc::{AllocError, Global};
-use std::hash::Hash;
 use std::marker::Model;
 
 /// A slab whose entries are also found by their keys, in constant time on average.
@@ -15,14 +15,14 @@ use std::marker::Model;
 /// A hash map that entries leave does not promise room for as many others. So what is taken out stays in the map
 /// until the map is full, which is then filled again with what is there; it has twice the room that is wanted.
 #[derive(Drop)]
-pub struct KeyedSlab<K: Copy + Eq + Hash, V: Copy> {
+pub struct KeyedSlab<K: Key, V: Copy> {
     slab: Slab<(K, V)>,
     ids: IndexMap<K, usize>,
     // How many entries fit in all.
     room: usize,
 }
 
-impl<K: Copy + Eq + Hash, V: Copy> Model for KeyedSlab<K, V> {
+impl<K: Key, V: Copy> Model for KeyedSlab<K, V> {
     ghost use Rattle.line_arena.specs.Keyed.{Keyed, keyed_code, IsKeyed};
 
     ghost Value = { Keyed K V };
@@ -34,7 +34,7 @@ impl<K: Copy + Eq + Hash, V: Copy> Model for KeyedSlab<K, V> {
     ghost invariant = { λ a. IsKeyed K.eq a.slab a.ids a.room };
 }
 
-impl<K: Copy + Eq + Hash, V: Copy> KeyedSlab<K, V> {
+impl<K: Key, V: Copy> KeyedSlab<K, V> {
     pub fn new(alloc: Global) -> KeyedSlab<K, V>
         ensures slots { result.slab.slots ≡ [] }
         ensures capacity { result.slab.capacity ≡ 0 }
@@ -65,7 +65,7 @@ impl<K: Copy + Eq + Hash, V: Copy> KeyedSlab<K, V> {
     /// Puts in an entry with a new key, and takes no memory.
     pub fn insert(&mut self, key: K, value: V) -> usize
         requires room { slab_len self.old.slab < self.old.room }
-        requires new_key { (id : ℕ) (e : K × V) → entry_at self.old id ≡ Some e → K.eq key e.0 ≡ false }
+        requires new_key { (id : ℕ) (e : K × V) → entry_at self.old id ≡ Some e → e.0 ≢ key }
         ensures new_id { entry_at self.old result ≡ None }
         ensures updates { Updates self.old.slab self.new.slab result (Some (key, value)) }
         ensures len { slab_len self.new.slab ≡ slab_len self.old.slab + 1 }
@@ -73,9 +73,7 @@ impl<K: Copy + Eq + Hash, V: Copy> KeyedSlab<K, V> {
         ensures capacity { self.new.slab.capacity ≡ self.old.slab.capacity }
         ensures within { result < self.new.slab.capacity }
     {
-        if self.ids.len() == self.ids.capacity() {
-            refill(&mut self.ids, &self.slab);
-        }
+        make_room(&mut self.ids, &self.slab);
         let id = self.slab.insert_reserved((key, value));
         lead(&mut self.ids, key, id);
         id
@@ -116,8 +114,8 @@ impl<K: Copy + Eq + Hash, V: Copy> KeyedSlab<K, V> {
 
     /// The id of the entry with the key.
     pub fn find(&self, key: K) -> Option<usize>
-        ensures found { IfSome result (λ id. (e : K × V) × (entry_at self.now id ≡ Some e) × (K.eq key e.0 ≡ true)) }
-        ensures absent { IfNone result ((id : ℕ) (e : K × V) → entry_at self.now id ≡ Some e → K.eq key e.0 ≡ false) }
+        ensures found { IfSome result (λ id. (value : V) × (entry_at self.now id ≡ Some (key, value))) }
+        ensures absent { IfNone result ((id : ℕ) (e : K × V) → entry_at self.now id ≡ Some e → e.0 ≢ key) }
     {
         let id = *self.ids.get(&key)?;
         let (found, _) = self.slab.get(id)?;
@@ -133,7 +131,7 @@ impl<K: Copy + Eq + Hash, V: Copy> KeyedSlab<K, V> {
 }
 
 // Leads the key to the id, where the map has room for one more.
-fn lead<K: Copy + Eq + Hash>(ids: &mut IndexMap<K, usize>, key: K, id: usize)
+fn lead<K: Key>(ids: &mut IndexMap<K, usize>, key: K, id: usize)
     requires { 0 < spare ids.old }
     ensures updates { (k : K) → id_of K.eq ids.new k ≡ (if K.eq key k then Some id else id_of K.eq ids.old k) }
     ensures room { capacity_of ids.old ≤ capacity_of ids.new }
@@ -146,14 +144,17 @@ fn lead<K: Copy + Eq + Hash>(ids: &mut IndexMap<K, usize>, key: K, id: usize)
     }
 }
 
-// Empties the map, and leads the key of each entry to its id.
-fn refill<K: Copy + Eq + Hash, V: Copy>(ids: &mut IndexMap<K, usize>, slab: &Slab<(K, V)>)
+// Makes room for one more in the map: where it is full, it is emptied, and the key of each entry led to its id again.
+fn make_room<K: Key, V: Copy>(ids: &mut IndexMap<K, usize>, slab: &Slab<(K, V)>)
     requires room { slab_len slab.now < capacity_of ids.old }
-    requires distinct { AreDistinct K.eq slab.now }
+    requires leads { Lead K.eq slab.now ids.old }
     ensures leads { Lead K.eq slab.now ids.new }
     ensures room { capacity_of ids.old ≤ capacity_of ids.new }
     ensures spare { 0 < spare ids.new }
 {
+    if ids.len() < ids.capacity() {
+        return;
+    }
     ids.clear();
     for (id, (key, _)) in slab.iter() {
         let _ = ids.insert(*key, id);

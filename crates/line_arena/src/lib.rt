@@ -5,6 +5,7 @@
 
 mod arena;
 mod id;
+mod key;
 mod keyed;
 mod lists;
 mod node;

@@ -2,7 +2,7 @@ use Rattle.std.proofs.Common.{◌<◌, ◌≤◌, length}
 use Rattle.indexmap.specs.IndexMap.{spare}
 use Rattle.line_arena.specs.Keyed.{capacity_of}
 use Rattle.line_arena.proofs.Refill.{Refills}
-use Rattle.line_arena.proofs.keyed.refill.Given as goal
+use Rattle.line_arena.proofs.keyed.make_room.Given as goal
 
 -- what is left of the slab fits, with room for one more
 abbrev pub invariant-loop-id : goal.invariant-loop-id

@@ -2,8 +2,8 @@ use Rattle.std.proofs.Common.{◌≡◌, ◌+◌, ◌<◌, ◌≤◌, ◌∷◌,
 use Rattle.std.proofs.lemmas.Result.{IfOk-at_ok}
 use Rattle.indexmap.specs.IndexMap.{index_map_len, spare, get}
 use Rattle.line_arena.specs.Keyed.{capacity_of}
-use Rattle.line_arena.proofs.Refill.{Refills, leads_at_end, ok_value, on_ok, one_more, refills_more, refills_none}
-use Rattle.line_arena.proofs.keyed.refill.Goals as goal
+use Rattle.line_arena.proofs.Refill.{distinct_keys, ok_value, on_ok, one_more, refills_more, refills_none}
+use Rattle.line_arena.proofs.keyed.make_room.Goals as goal
 
 pub loop-id-init : goal.loop-id-init
 loop-id-init g c =
@@ -26,6 +26,6 @@ loop-id-preserved g c =
     let updates = on_ok _ c.insert.ensures.updates ok in
     let value = ok_value _ ok in
     let len = one_more value.0 _ _ _ (IfOk-at_ok _ value.1 c.insert.ensures.len) (IfOk-at_ok _ value.1 c.insert.ensures.old) none in
-    (tt, tt, refills_more eq slab g.met.K.Eq.laws c.requires.distinct c.in-Some.id entry.0 entry.1 c.next.new.self c.loop-id.ids c.insert.new.self updates.0 old,
+    (tt, tt, refills_more eq slab g.met.K.Eq.laws (distinct_keys eq g.met.K.Eq.laws slab c.args.ids.now c.requires.leads) c.in-Some.id entry.0 entry.1 c.next.new.self c.loop-id.ids c.insert.new.self updates.0 old,
       omega (arith, fits, c.insert.ensures.spare),
       omega (arith, len, c.insert.ensures.spare, c.loop-id.invariant.4))
