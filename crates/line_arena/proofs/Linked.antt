@@ -64,6 +64,9 @@ same_spot s t o e f = cc
 pub without_other : (k : ℕ) (S : ℕ → Option Spot) (c : ℕ) → c ≢ k → without k S c ≡ S c
 without_other k S c ne = grind (arith)
 
+pub without_itself : (k : ℕ) (S : ℕ → Option Spot) (c : ℕ) → c ≡ k → without k S c ≡ None
+without_itself k S c e = grind (arith)
+
 pub without_some : (k : ℕ) (S : ℕ → Option Spot) (c : ℕ) (s : Spot) → without k S c ≡ Some s → (c ≢ k) × (S c ≡ Some s)
 without_some k S c s h =
     elim (cases_eq c k) [

@@ -39,7 +39,7 @@ fn distance_along(dir: Dir, a: Point, b: Point) -> u64 {
 }
 
 impl Lists {
-    ghost use Rattle.line_arena.specs.Lists.{AreLinked, AreLists, IsNext, KnowsNeighbours, AreMet, IsApart, IsPut, Relinks, RunsAlong, SameDirection, SameLinks, SamePlaces, Spot, Stands, UpdatesAt, line_along, line_at, link, spot_at, without};
+    ghost use Rattle.line_arena.specs.Lists.{AreLinked, AreLists, IsNext, KnowsNeighbours, AreMet, IsApart, IsPut, IsSpot, Relinks, RunsAlong, SameDirection, SameLinks, SamePlaces, Spot, Stands, UpdatesAt, line_along, line_at, link, spot_at, without};
 
     /// The crossing that follows in the line's list in the direction; after none it is where the list begins.
     fn next(&self, line: LineId, from: &Option<CrossId>, dir: Dir) -> Option<CrossId>
@@ -222,6 +222,17 @@ impl Lists {
         self.lines.remove(line.place());
     }
 
+    /// Where the lines meet.
+    fn meeting_point(&self, vertical: LineId, horizontal: LineId) -> Point
+        requires meet { AreMet (line_at self.now) vertical horizontal }
+        ensures { IsSpot (line_at self.now) (record { point = result; vertical = vertical; horizontal = horizontal }) }
+    {
+        Point {
+            x: self.lines.get(vertical.place()).0.at,
+            y: self.lines.get(horizontal.place()).0.at,
+        }
+    }
+
     /// Puts in the crossing of the lines.
     ///
     /// On each line the walk to its place begins at the nearer end.
@@ -241,10 +252,7 @@ impl Lists {
         ensures places { self.new.crossings.slab.capacity ≡ self.old.crossings.slab.capacity }
         ensures within { result < self.new.crossings.slab.capacity }
     {
-        let point = Point {
-            x: self.lines.get(vertical.place()).0.at,
-            y: self.lines.get(horizontal.place()).0.at,
-        };
+        let point = self.meeting_point(vertical, horizontal);
         let (north, south) = self.neighbours(vertical, Dir::South, point);
         let (west, east) = self.neighbours(horizontal, Dir::East, point);
         let node = Node {

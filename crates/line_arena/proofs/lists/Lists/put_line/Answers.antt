@@ -1,0 +1,13 @@
+use Rattle.std.proofs.Common.{◌≡◌, ◌∙◌, Some, None, ap, refl, sym, subst}
+use Rattle.std.specs.Option.{option_map}
+use Rattle.line_arena.specs.Lists.{line_at}
+use Rattle.line_arena.proofs.Put.{first_held, lists_with_line}
+use Rattle.line_arena.proofs.lists.Lists.put_line.Goals as goal
+
+pub insert-requires-clause-new_key : goal.insert-requires-clause-new_key
+insert-requires-clause-new_key c = λ id e is same.
+    let held = first_held c.args.line c.requires.ordered in
+    c.requires.apart id c.args.line held.0 (ap (option_map (λ x. x.0)) is ∙ ap Some same) (record { way = refl; at = refl }) held.1 held.1
+
+pub returns-clause-lists : goal.returns-clause-lists
+returns-clause-lists c = ?
