@@ -10,4 +10,7 @@ insert-requires-clause-new_key c = λ id e is same.
     c.requires.apart id c.args.line held.0 (ap (option_map (λ x. x.0)) is ∙ ap Some same) (record { way = refl; at = refl }) held.1 held.1
 
 pub returns-clause-lists : goal.returns-clause-lists
-returns-clause-lists c = ?
+returns-clause-lists c =
+    let a = c.args.self.now in
+    lists_with_line a (record { lines = c.insert.new.self; crossings = a.crossings }) c.insert.result c.args.line c.requires.lists
+    (ap (option_map (λ x. x.0)) c.insert.ensures.new_id) c.requires.apart c.requires.ordered c.insert.ensures.updates refl
