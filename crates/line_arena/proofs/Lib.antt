@@ -6,3 +6,5 @@ pub mod Relinked
 pub mod Kept
 pub mod Walk
 pub mod Put
+pub mod Seen
+pub mod ArenaLemmas

@@ -24,7 +24,7 @@ use Rattle.line_arena.proofs.Linked.{kept_in, kept_out, own_place, same_spot, wi
 use Rattle.line_arena.proofs.Joined.{spots_are}
 
 -- a point that a line holds is its point there
-held : (l : Line) (p : Point) (w : Way) → l.way ≡ w → (h : Holds l p) → p ≡ point_on w l.at h.place
+pub held : (l : Line) (p : Point) (w : Way) → l.way ≡ w → (h : Holds l p) → p ≡ point_on w l.at h.place
 held l p w e h = h.here ∙ ap (λ v. point_on v l.at h.place) e
 
 turn : (a b : ℤ) → (pos 0 -ℤ a) ≡ (pos 0 -ℤ b) → a ≡ b

@@ -1,0 +1,183 @@
+-- What is seen of an arena, in terms of its lists.
+use Rattle.std.proofs.Common.{◌≡◌, ◌≢◌, ◌⊎◌, ℕ, ℤ, ◌<ℤ◌, Option, Some, None, inl, inr, refl, sym, ap, subst, ◌∙◌, arith}
+use Rattle.std.specs.Prelude.{◌↔◌, IsSome, IsNone, IfSome}
+use Rattle.std.specs.Option.{option_map}
+use Rattle.std.proofs.lemmas.Bool.{cases_eq}
+use Rattle.std.specs.FinMap as fin
+use Rattle.std.proofs.lemmas.Int.{ints}
+use Rattle.slab.specs.Slab.{get}
+use Rattle.plane_geom.specs.declared.point.Point.{Point}
+use Rattle.plane_geom.specs.declared.point.Dir.{Dir}
+use Rattle.plane_geom.specs.declared.point.Dir.TheVariants.{East, South, West, North}
+use Rattle.plane_geom.specs.declared.point.Way.TheVariants.{Vertical, Horizontal}
+use Rattle.plane_geom.specs.declared.floor.Line.{Line}
+use Rattle.plane_geom.specs.Floor.{Holds}
+use Rattle.line_arena.specs.declared.lists.Lists.{Lists}
+use Rattle.line_arena.specs.Along.{IsFurther, reach, rising, way_of}
+use Rattle.line_arena.specs.Arena as seen
+use Rattle.line_arena.specs.Arena.{Arena, IsArena, IsFirst, IsNearest, IsOn, LiesFurther, Meet, Pair, StandsAt}
+use Rattle.line_arena.specs.Lists.{AreLists, AreMet, IsNext, IsPut, IsSpot, Spot, Stands, UpdatesAt, line_along, line_at, link, spot_at, spot_of}
+use Rattle.line_arena.specs.View.{arena_of, pair_of, seen as map_of}
+use Rattle.line_arena.proofs.Seen.{get-seen, seen_insert, seen_remove, seen_same}
+use Rattle.line_arena.proofs.Put.{apart_of_sound, held, one_place, same_pair, some_of, spot_line}
+use Rattle.line_arena.proofs.Nearest.{int_apart}
+use Rattle.line_arena.proofs.Linked.{same_spot}
+use Rattle.line_arena.specs.Keyed.{entry_at}
+
+abbrev pub pair_at : Spot → Pair
+pair_at s = record { vertical = s.vertical; horizontal = s.horizontal }
+
+module _ (a : Lists) (w : ℕ) where
+  -- the lines of the map are those of the lists
+  pub line_seen : (l : ℕ) → fin.get (arena_of a w).lines l ≡ line_at a l
+  line_seen l = get-seen (λ e. e.0) a.lines.slab l
+
+  pub pair_seen : (c : ℕ) → fin.get (arena_of a w).crossings c ≡ option_map pair_at (spot_at a c)
+  pair_seen c = get-seen pair_of a.crossings.slab c ∙ again (get a.crossings.slab c)
+    where
+      again : (o : Option (Point × Rattle.line_arena.specs.declared.node.Node.Node)) → option_map pair_of o ≡ option_map pair_at (option_map spot_of o)
+      again None = refl
+      again (Some e) = refl
+
+none_is : IsNone {T = ℕ} None
+none_is = refl
+
+some_is_not : (n : ℕ) → IsNone (Some n) → ⊥
+some_is_not n h = cc
+
+some_pair : (p q : Pair) → ◌≡◌ {A = Option Pair} (Some p) (Some q) → p ≡ q
+some_pair p q e = cc
+
+none_pair : (p : Pair) → None ≡ Some p → ⊥
+none_pair p e = cc
+
+pub along-pair_at : (d : Dir) (s : Spot) → seen.line_along d (pair_at s) ≡ line_along d s
+along-pair_at East s = refl
+along-pair_at South s = refl
+along-pair_at West s = refl
+along-pair_at North s = refl
+
+same_line : (s t : Line) (o : Option Line) → o ≡ Some s → o ≡ Some t → s ≡ t
+same_line s t o e f = cc
+
+-- two points of one vertical and one horizontal line are one
+two_lines : (v h : Line) (p q : Point) → v.way ≡ Vertical → h.way ≡ Horizontal → Holds v p → Holds h p → Holds v q → Holds h q → p ≡ q
+two_lines v h p q wv wh vp hp vq hq =
+    let x = ap (λ r. r.x) (held v p Vertical wv vp) ∙ sym (ap (λ r. r.x) (held v q Vertical wv vq)) in
+    let y = ap (λ r. r.y) (held h p Horizontal wh hp) ∙ sym (ap (λ r. r.y) (held h q Horizontal wh hq)) in
+    λ i. record { x = x i; y = y i }
+
+module _ (a : Lists) (w : ℕ) (v : Arena) (view : arena_of a w ≡ v) (lists : AreLists a) where
+  pub line_in : (l : ℕ) → fin.get v.lines l ≡ line_at a l
+  line_in l = ap (λ x. fin.get x.lines l) (sym view) ∙ line_seen a w l
+
+  pub pair_in : (c : ℕ) → fin.get v.crossings c ≡ option_map pair_at (spot_at a c)
+  pair_in c = ap (λ x. fin.get x.crossings c) (sym view) ∙ pair_seen a w c
+
+  -- the spot of a crossing that is there
+  pub spot_with : (c : ℕ) (p : Pair) → fin.get v.crossings c ≡ Some p → (s : Spot) × (spot_at a c ≡ Some s) × (pair_at s ≡ p)
+  spot_with c p is = by (spot_at a c) refl
+    where
+      by : (o : Option Spot) → spot_at a c ≡ o → (s : Spot) × (spot_at a c ≡ Some s) × (pair_at s ≡ p)
+      by None e = absurd (none_pair p (sym (pair_in c ∙ ap (option_map pair_at) e) ∙ is))
+      by (Some s) e = (s, e, some_pair (pair_at s) p (sym (pair_in c ∙ ap (option_map pair_at) e) ∙ is))
+
+  pub pair_with : (c : ℕ) (s : Spot) → spot_at a c ≡ Some s → fin.get v.crossings c ≡ Some (pair_at s)
+  pair_with c s e = pair_in c ∙ ap (option_map pair_at) e
+
+  pub live_spot : (c : ℕ) → IsSome (fin.get v.crossings c) → (s : Spot) × (spot_at a c ≡ Some s)
+  live_spot c live = some_of (spot_at a c) (λ none. none_live (sym (pair_in c ∙ ap (option_map pair_at) none)) live)
+    where
+      none_live : {o : Option Pair} → None ≡ o → IsSome o → ⊥
+      none_live e h = cc
+
+  pub live_entry : (c : ℕ) → IsSome (fin.get v.crossings c) → entry_at a.crossings c ≢ None
+  live_entry c live none = none_spot (live_spot c live).0 (sym (ap (option_map spot_of) none) ∙ (live_spot c live).1)
+    where
+      none_spot : (s : Spot) → None ≡ Some s → ⊥
+      none_spot s e = cc
+
+  pub live_line : (l : ℕ) → IsSome (fin.get v.lines l) → (m : Line) × (line_at a l ≡ Some m)
+  live_line l live = some_of (line_at a l) (λ none. none_live (sym (line_in l ∙ none)) live)
+    where
+      none_live : {o : Option Line} → None ≡ o → IsSome o → ⊥
+      none_live e h = cc
+
+  -- a crossing stands at the point of its spot, and nowhere else
+  pub stands_at : (c : ℕ) (s : Spot) → spot_at a c ≡ Some s → StandsAt v c s.point
+  stands_at c s e =
+      let h = lists.sound.on_lines c s e in
+      record {
+        pair = pair_at s;
+        is = pair_with c s e;
+        down = h.vertical;
+        across = h.horizontal;
+        is_down = line_in s.vertical ∙ h.is_vertical;
+        is_across = line_in s.horizontal ∙ h.is_horizontal;
+        on_down = h.on_vertical;
+        on_across = h.on_horizontal;
+      }
+
+  pub spot_standing : (c : ℕ) (p : Point) → StandsAt v c p → (s : Spot) × (spot_at a c ≡ Some s) × (s.point ≡ p)
+  spot_standing c p h =
+      let spot = spot_with c h.pair h.is in
+      let s = spot.0 in
+      let on = lists.sound.on_lines c s spot.1 in
+      let down = same_line on.vertical h.down (line_at a s.vertical) on.is_vertical (ap (λ q. line_at a q.vertical) spot.2 ∙ sym (line_in h.pair.vertical) ∙ h.is_down) in
+      let across = same_line on.horizontal h.across (line_at a s.horizontal) on.is_horizontal (ap (λ q. line_at a q.horizontal) spot.2 ∙ sym (line_in h.pair.horizontal) ∙ h.is_across) in
+      (s, spot.1, two_lines on.vertical on.horizontal s.point p on.vertical_runs on.horizontal_runs on.on_vertical on.on_horizontal
+        (subst (λ l. Holds l p) (sym down) h.on_down) (subst (λ l. Holds l p) (sym across) h.on_across))
+
+  pub lies : (d : Dir) (from to : ℕ) (s t : Spot) → spot_at a from ≡ Some s → spot_at a to ≡ Some t → line_along d t ≡ line_along d s → reach d s.point <ℤ reach d t.point
+      → LiesFurther v d from to
+  lies d from to s t es et line less = record {
+    here = pair_at s;
+    there = pair_at t;
+    is_here = pair_with from s es;
+    is_there = pair_with to t et;
+    line = along-pair_at d t ∙ line ∙ sym (along-pair_at d s);
+    start = s.point;
+    stop = t.point;
+    stands_here = stands_at from s es;
+    stands_there = stands_at to t et;
+    further = less;
+  }
+
+  -- what lies further stands further
+  pub stands_further : (d : Dir) (from to : ℕ) (s : Spot) → spot_at a from ≡ Some s → LiesFurther v d from to
+      → (z : ℤ) × Stands (spot_at a) (line_along d s) d to z × (reach d s.point <ℤ z)
+  stands_further d from to s es h =
+      let here = spot_standing from h.start h.stands_here in
+      let there = spot_standing to h.stop h.stands_there in
+      let t = there.0 in
+      let s_is = same_spot here.0 s (spot_at a from) here.1 es in
+      let pair_s = spot_with from h.here h.is_here in
+      let pair_t = spot_with to h.there h.is_there in
+      let line_s = sym (along-pair_at d s) ∙ ap (λ x. seen.line_along d (pair_at x)) (same_spot s pair_s.0 (spot_at a from) es pair_s.1) ∙ ap (seen.line_along d) pair_s.2 in
+      let line_t = sym (along-pair_at d t) ∙ ap (λ x. seen.line_along d (pair_at x)) (same_spot t pair_t.0 (spot_at a to) there.1 pair_t.1) ∙ ap (seen.line_along d) pair_t.2 in
+      (reach d t.point,
+        record { spot = t; is = there.1; line = line_t ∙ h.line ∙ sym line_s; place = refl },
+        subst (λ p. reach d p <ℤ reach d t.point) (sym here.2 ∙ ap (λ x. x.point) s_is) (subst (λ p. reach d h.start <ℤ reach d p) (sym there.2) h.further))
+
+  module _ (d : Dir) (from : ℕ) (s : Spot) (es : spot_at a from ≡ Some s) where
+    pub nearest_seen : (answer : Option ℕ) → IsNext (Stands (spot_at a) (line_along d s) d) (Some (reach d s.point)) answer → IfSome answer (λ n. IsNearest v d from n)
+    nearest_seen None h = tt
+    nearest_seen (Some n) h =
+        let t = h.1.spot in
+        let past : reach d s.point <ℤ h.0 = h.2 in
+        record {
+          lies = lies d from n s t es h.1.is h.1.line (subst (λ z. reach d s.point <ℤ z) (sym h.1.place) past);
+          others = λ c other.
+              let u = stands_further d from c s es other in
+              elim (cases_eq c n) [
+                | inl same ↦ inl same
+                | inr ne ↦ inr (lies d n c t u.1.spot h.1.is u.1.is (u.1.line ∙ sym h.1.line)
+                    (let apart : h.0 ≡ u.0 → ⊥ = λ e. ne (apart_of_sound (line_at a) (spot_at a) lists.sound d _ c n u.0 u.1 (subst (Stands (spot_at a) (line_along d s) d n) e h.1)) in
+                    let less = int_apart h.0 u.0 (h.3 c u.0 u.1 u.2) apart in
+                    subst (λ z. z <ℤ reach d u.1.spot.point) (sym h.1.place) (subst (λ z. h.0 <ℤ z) (sym u.1.place) less)))
+              ];
+        }
+
+    pub none_seen : (answer : Option ℕ) → IsNext (Stands (spot_at a) (line_along d s) d) (Some (reach d s.point)) answer → IsNone answer ↔ ((c : ℕ) → LiesFurther v d from c → ⊥)
+    none_seen None h = (λ _ c other. let u = stands_further d from c s es other in h c u.0 u.1 u.2, λ _. none_is)
+    none_seen (Some n) h = (λ no. absurd (some_is_not n no), λ none. absurd (none n (nearest_seen (Some n) h).lies))
