@@ -181,3 +181,105 @@ module _ (a : Lists) (w : ℕ) (v : Arena) (view : arena_of a w ≡ v) (lists : 
     pub none_seen : (answer : Option ℕ) → IsNext (Stands (spot_at a) (line_along d s) d) (Some (reach d s.point)) answer → IsNone answer ↔ ((c : ℕ) → LiesFurther v d from c → ⊥)
     none_seen None h = (λ _ c other. let u = stands_further d from c s es other in h c u.0 u.1 u.2, λ _. none_is)
     none_seen (Some n) h = (λ no. absurd (some_is_not n no), λ none. absurd (none n (nearest_seen (Some n) h).lies))
+
+  -- a crossing is one of a line where its spot is on it
+  pub on_with : (l c : ℕ) → IsOn v l c → (s : Spot) × (spot_at a c ≡ Some s) × ((s.vertical ≡ l) ⊎ (s.horizontal ≡ l))
+  on_with l c h =
+      let spot = spot_with c h.pair h.is in
+      (spot.0, spot.1, elim h.on [ inl e ↦ inl (ap (λ p. p.vertical) spot.2 ∙ e) | inr e ↦ inr (ap (λ p. p.horizontal) spot.2 ∙ e) ])
+
+  module _ (l : ℕ) (line : Line) (is : line_at a l ≡ Some line) where
+    -- the crossings of a line stand along it
+    on_stands : (c : ℕ) → IsOn v l c → (z : ℤ) × Stands (spot_at a) l (rising line.way) c z
+    on_stands c h =
+        let spot = on_with l c h in
+        let s = spot.0 in
+        let on = lists.sound.on_lines c s spot.1 in
+        elim spot.2 [
+          | inl e ↦
+              let down = same_line on.vertical line (line_at a l) (ap (line_at a) (sym e) ∙ on.is_vertical) is in
+              let way = sym (ap (λ m. m.way) down) ∙ on.vertical_runs in
+              (reach (rising line.way) s.point, record { spot = s; is = spot.1; line = ap (λ u. line_along (rising u) s) way ∙ e; place = refl })
+          | inr e ↦
+              let across = same_line on.horizontal line (line_at a l) (ap (line_at a) (sym e) ∙ on.is_horizontal) is in
+              let way = sym (ap (λ m. m.way) across) ∙ on.horizontal_runs in
+              (reach (rising line.way) s.point, record { spot = s; is = spot.1; line = ap (λ u. line_along (rising u) s) way ∙ e; place = refl })
+        ]
+
+    stands_on : (d : Dir) (c : ℕ) (z : ℤ) → Stands (spot_at a) l d c z → IsOn v l c
+    stands_on d c z h = record { pair = pair_at h.spot; is = pair_with c h.spot h.is; on = side d h.spot h.line }
+      where
+        side : (d : Dir) (s : Spot) → line_along d s ≡ l → (s.vertical ≡ l) ⊎ (s.horizontal ≡ l)
+        side East s e = inr e
+        side South s e = inl e
+        side West s e = inr e
+        side North s e = inl e
+
+    pub first_seen : (answer : Option ℕ) → IsNext (Stands (spot_at a) l (rising line.way)) None answer → IfSome answer (λ c. IsFirst v l c)
+    first_seen None h = tt
+    first_seen (Some n) h = record {
+      on = stands_on (rising line.way) n h.0 h.1;
+      line = line;
+      is = line_in l ∙ is;
+      others = λ c other.
+          let u = on_stands c other in
+          elim (cases_eq c n) [
+            | inl same ↦ inl same
+            | inr ne ↦ inr (lies (rising line.way) n c h.1.spot u.1.spot h.1.is u.1.is (u.1.line ∙ sym h.1.line)
+                (let apart : h.0 ≡ u.0 → ⊥ = λ e. ne (apart_of_sound (line_at a) (spot_at a) lists.sound (rising line.way) l c n u.0 u.1 (subst (Stands (spot_at a) l (rising line.way) n) e h.1)) in
+                let less = int_apart h.0 u.0 (h.3 c u.0 u.1 tt) apart in
+                subst (λ z. z <ℤ reach (rising line.way) u.1.spot.point) (sym h.1.place) (subst (λ z. h.0 <ℤ z) (sym u.1.place) less)))
+          ];
+    }
+
+    pub no_first_seen : (answer : Option ℕ) → IsNext (Stands (spot_at a) l (rising line.way)) None answer → IsNone answer ↔ ((c : ℕ) → IsOn v l c → ⊥)
+    no_first_seen None h = (λ _ c other. let u = on_stands c other in h c u.0 u.1 tt, λ _. none_is)
+    no_first_seen (Some n) h = (λ no. absurd (some_is_not n no), λ none. absurd (none n (stands_on (rising line.way) n h.0 h.1)))
+
+  -- what holds of every arena
+  pub is_arena : IsArena v
+  is_arena = record {
+    ordered = λ l line is. lists.sound.ordered l line (sym (line_in l) ∙ is);
+    apart = λ i j l m p il jm. lists.sound.apart i j l m p (sym (line_in i) ∙ il) (sym (line_in j) ∙ jm);
+    meet = λ c pair is.
+        let spot = spot_with c pair is in
+        let h = lists.sound.on_lines c spot.0 spot.1 in
+        subst (λ p. Meet v p.vertical p.horizontal) spot.2 (record {
+          down = h.vertical;
+          across = h.horizontal;
+          is_down = line_in spot.0.vertical ∙ h.is_vertical;
+          is_across = line_in spot.0.horizontal ∙ h.is_horizontal;
+          down_runs = h.vertical_runs;
+          across_runs = h.horizontal_runs;
+          point = spot.0.point;
+          on_down = h.on_vertical;
+          on_across = h.on_horizontal;
+        });
+    once = λ c k pair is_c is_k.
+        let s = spot_with c pair is_c in
+        let t = spot_with k pair is_k in
+        let hs = lists.sound.on_lines c s.0 s.1 in
+        let ht = lists.sound.on_lines k t.0 t.1 in
+        let same = s.2 ∙ sym t.2 in
+        let down = same_line hs.vertical ht.vertical (line_at a s.0.vertical) hs.is_vertical (ap (λ p. line_at a p.vertical) same ∙ ht.is_vertical) in
+        let across = same_line hs.horizontal ht.horizontal (line_at a s.0.horizontal) hs.is_horizontal (ap (λ p. line_at a p.horizontal) same ∙ ht.is_horizontal) in
+        lists.sound.single c k s.0 t.0 s.1 t.1
+        (two_lines hs.vertical hs.horizontal s.0.point t.0.point hs.vertical_runs hs.horizontal_runs hs.on_vertical hs.on_horizontal
+          (subst (λ l. Holds l t.0.point) (sym down) ht.on_vertical) (subst (λ l. Holds l t.0.point) (sym across) ht.on_horizontal));
+  }
+
+  -- the pair of two lines that meet is met in the lists
+  pub met_in : (vertical horizontal : ℕ) → Meet v vertical horizontal → AreMet (line_at a) vertical horizontal
+  met_in vertical horizontal h = record {
+    point = h.point;
+    spot = record {
+      vertical = h.down;
+      horizontal = h.across;
+      is_vertical = sym (line_in vertical) ∙ h.is_down;
+      is_horizontal = sym (line_in horizontal) ∙ h.is_across;
+      vertical_runs = h.down_runs;
+      horizontal_runs = h.across_runs;
+      on_vertical = h.on_down;
+      on_horizontal = h.on_across;
+    };
+  }

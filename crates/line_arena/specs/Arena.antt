@@ -134,7 +134,6 @@ pub record IsArena (a : Arena) : Type 0 where
       AreOnOneWholeLine l m → Holds l p → Holds m p → i ≡ j
   pub meet : (c : ℕ) (pair : Pair) → get a.crossings c ≡ Some pair → Meet a pair.vertical pair.horizontal
   pub once : (c k : ℕ) (pair : Pair) → get a.crossings c ≡ Some pair → get a.crossings k ≡ Some pair → c ≡ k
-  pub placed : (c : ℕ) (pair : Pair) → get a.crossings c ≡ Some pair → c < a.places
 
 -- the line shares no point with a line of its way at its coordinate
 abbrev pub IsApart : Arena → Line → Type 0
