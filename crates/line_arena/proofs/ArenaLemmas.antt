@@ -1,6 +1,6 @@
 -- What is seen of an arena, in terms of its lists.
-use Rattle.std.proofs.Common.{◌≡◌, ◌≢◌, ◌⊎◌, ℕ, ℤ, ◌<ℤ◌, Option, Some, None, inl, inr, refl, sym, ap, subst, ◌∙◌, arith}
-use Rattle.std.specs.Prelude.{◌↔◌, IsSome, IsNone, IfSome}
+use Rattle.std.proofs.Common.{◌≡◌, ◌≢◌, ◌⊎◌, ℕ, ℤ, ◌<ℤ◌, get_or, Option, Some, None, inl, inr, refl, sym, ap, subst, ◌∙◌, arith}
+use Rattle.std.specs.Prelude.{◌↔◌, IsSome, IsNone, IfSome, option_and_then}
 use Rattle.std.specs.Option.{option_map}
 use Rattle.std.proofs.lemmas.Bool.{cases_eq}
 use Rattle.std.specs.FinMap as fin
@@ -9,6 +9,7 @@ use Rattle.slab.specs.Slab.{get}
 use Rattle.plane_geom.specs.declared.point.Point.{Point}
 use Rattle.plane_geom.specs.declared.point.Dir.{Dir}
 use Rattle.plane_geom.specs.declared.point.Dir.TheVariants.{East, South, West, North}
+use Rattle.plane_geom.specs.declared.point.Way.{Way}
 use Rattle.plane_geom.specs.declared.point.Way.TheVariants.{Vertical, Horizontal}
 use Rattle.plane_geom.specs.declared.floor.Line.{Line}
 use Rattle.plane_geom.specs.Floor.{Holds}
@@ -16,13 +17,15 @@ use Rattle.line_arena.specs.declared.lists.Lists.{Lists}
 use Rattle.line_arena.specs.Along.{IsFurther, reach, rising, way_of}
 use Rattle.line_arena.specs.Arena as seen
 use Rattle.line_arena.specs.Arena.{Arena, IsArena, IsFirst, IsNearest, IsOn, LiesFurther, Meet, Pair, StandsAt}
-use Rattle.line_arena.specs.Lists.{AreLists, AreMet, IsNext, IsPut, IsSpot, Spot, Stands, UpdatesAt, line_along, line_at, link, spot_at, spot_of}
+use Rattle.line_arena.specs.Lists.{AreLinked, AreLists, AreMet, IsNext, IsSound, IsPut, IsSpot, Spot, Stands, UpdatesAt, line_along, line_at, link, spot_at, spot_of}
 use Rattle.line_arena.specs.View.{arena_of, pair_of, seen as map_of}
 use Rattle.line_arena.proofs.Seen.{get-seen, seen_insert, seen_remove, seen_same}
 use Rattle.line_arena.proofs.Put.{apart_of_sound, held, one_place, same_pair, some_of, spot_line}
 use Rattle.line_arena.proofs.Nearest.{int_apart}
 use Rattle.line_arena.proofs.Linked.{same_spot}
 use Rattle.line_arena.specs.Keyed.{entry_at}
+use Rattle.line_arena.specs.Node.{next_of, start_of}
+use Rattle.line_arena.specs.declared.node.Ends.{Ends}
 
 abbrev pub pair_at : Spot → Pair
 pair_at s = record { vertical = s.vertical; horizontal = s.horizontal }
@@ -283,3 +286,29 @@ module _ (a : Lists) (w : ℕ) (v : Arena) (view : arena_of a w ≡ v) (lists : 
       on_horizontal = h.on_across;
     };
   }
+
+pub rising_way : (w : Way) → way_of (rising w) ≡ w
+rising_way Vertical = refl
+rising_way Horizontal = refl
+
+pub start_rising : (w : Way) (e : Ends) → start_of (rising w) e ≡ e.first
+start_rising Vertical e = refl
+start_rising Horizontal e = refl
+
+-- the same entries are in the same lists
+pub lists_same : (a b : Lists) → b.lines.slab.slots ≡ a.lines.slab.slots → b.crossings.slab.slots ≡ a.crossings.slab.slots → AreLists a → AreLists b
+lists_same a b ls cs lists = record {
+  sound = subst (λ m. IsSound m (spot_at b)) (sym lines) (subst (IsSound (line_at a)) (sym spots) lists.sound);
+  linked = λ d. subst (λ S. AreLinked b S d) (sym spots) (record {
+    starts = λ l line is way. subst (IsNext (Stands (spot_at a) l d) None)
+        (sym (ap (λ s. option_and_then (λ x. start_of d x.1) (get_or s l None)) ls))
+        ((lists.linked d).starts l line (sym (ap (λ s. option_map (λ x. x.0) (get_or s l None)) ls) ∙ is) way);
+    nexts = λ c s is. subst (IsNext (Stands (spot_at a) (line_along d s) d) (Some (reach d s.point)))
+        (sym (ap (λ x. option_and_then (λ y. next_of d y.1) (get_or x c None)) cs)) ((lists.linked d).nexts c s is);
+  });
+}
+  where
+    lines : line_at b ≡ line_at a
+    lines i l = option_map (λ x. x.0) (get_or (ls i) l None)
+    spots : spot_at b ≡ spot_at a
+    spots i c = option_map spot_of (get_or (cs i) c None)

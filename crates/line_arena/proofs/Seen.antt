@@ -75,3 +75,11 @@ module _ {T X : Type 0} (see : T → X) where
         | inl e ↦ ap (λ i. option_map see (get new i)) e ∙ updates.changed ∙ sym (get-remove nat_cmp_total (seen see old) k q ∙ ap (λ b. cond b None (fin.get (seen see old) q)) (tied q k e))
         | inr ne ↦ updates.others q ne ∙ sym (get-seen old q) ∙ sym (get-remove nat_cmp_total (seen see old) k q ∙ ap (λ b. cond b None (fin.get (seen see old) q)) (untied q k ne))
       ])
+
+  -- of a slab without values nothing is seen
+  pub seen_empty : (slab : Slab T) → slab.slots ≡ [] → seen see slab ≡ fin.empty
+  seen_empty slab none = same_map nat_cmp_total nat_cmp-IsAntisymmetric (seen see slab) fin.empty
+      (λ q. get-seen slab q ∙ ap (λ s. option_map see (get_or s q None)) none ∙ sym (fin.get-empty nat_cmp q))
+
+  pub seen_slots : (old new : Slab T) → new.slots ≡ old.slots → seen see new ≡ seen see old
+  seen_slots old new same = seen_same old new (λ q. ap (λ s. option_map see (get_or s q None)) same)

@@ -131,7 +131,8 @@ impl LineArena {
         ensures absent { IsNone result ↔ ((l : ℕ) → map.get self.now.lines l ≡ Some line → ⊥) }
         ensures arena { IsArena self.now }
     {
-        self.lists.lines.find(line).map(LineId::new)
+        let place = self.lists.lines.find(line)?;
+        Some(LineId::new(place))
     }
 
     /// The crossing with the smallest coordinate on the line.
@@ -150,7 +151,8 @@ impl LineArena {
         ensures absent { IsNone result ↔ ((c : ℕ) → StandsAt self.now c at → ⊥) }
         ensures arena { IsArena self.now }
     {
-        self.lists.crossings.find(at).map(CrossId::new)
+        let place = self.lists.crossings.find(at)?;
+        Some(CrossId::new(place))
     }
 
     /// The number in the id, below `places`.

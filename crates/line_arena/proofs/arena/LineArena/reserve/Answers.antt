@@ -1,24 +1,27 @@
-use Rattle.std.proofs.Common.{rules, ◌≡◌, ◌+◌, ◌-◌, ◌<◌, ◌≤◌, ◌↔◌, ◌≤ℤ◌, ℕ, None, Some, IsNone, IsSome, IfSome, OnOk, ◌*◌, length, ◌/◌, ◌%◌, Bool, true, false, nat_eq, nat_lt, List, [], ◌∷◌, ◌++◌, slice_index_or, slice_set, bit_and, bit_or, Fits, w8, w32, w64, Bor, MutBor}
-use Rattle.std.specs.FinMap as map
-use Rattle.line_arena.specs.Arena.{IsApart, IsArena, IsFirst, IsNearest, IsOn, LiesFurther, Meet, StandsAt, counted}
+use Rattle.std.proofs.Common.{◌∙◌, ap, refl}
+use Rattle.line_arena.specs.View.{pair_of}
+use Rattle.line_arena.proofs.ArenaLemmas.{lists_same}
+use Rattle.line_arena.proofs.Seen.{seen_slots}
 use Rattle.line_arena.proofs.arena.LineArena.reserve.Goals as goal
 
--- src/arena.rt:68:9
 pub invariant_of-self : goal.invariant_of-self
-invariant_of-self c = ?
+invariant_of-self c =
+    let a = c.self.inside.lists in
+    lists_same a (record { lines = c.reserve.new.self; crossings = a.crossings }) c.reserve.ensures.slots refl c.self.invariant
 
--- src/arena.rt:68:9
 pub returns-in_err-reserve-clause-lines : goal.returns-in_err-reserve-clause-lines
-returns-in_err-reserve-clause-lines c = ?
+returns-in_err-reserve-clause-lines c =
+    seen_slots (λ e. e.0) c.self.inside.lists.lines.slab c.reserve.new.self.slab c.reserve.ensures.slots ∙ ap (λ v. v.lines) c.self.view_is
 
--- src/arena.rt:58:5
 pub invariant_of-self-2 : goal.invariant_of-self-2
-invariant_of-self-2 c = ?
+invariant_of-self-2 c =
+    let a = c.self.inside.lists in
+    lists_same a (record { lines = c.reserve.new.self; crossings = c.reserve-2.new.self }) c.reserve.ensures.slots c.reserve-2.ensures.slots c.self.invariant
 
--- src/arena.rt:58:5
 pub returns-clause-lines : goal.returns-clause-lines
-returns-clause-lines c = ?
+returns-clause-lines c =
+    seen_slots (λ e. e.0) c.self.inside.lists.lines.slab c.reserve.new.self.slab c.reserve.ensures.slots ∙ ap (λ v. v.lines) c.self.view_is
 
--- src/arena.rt:58:5
 pub returns-clause-crossings : goal.returns-clause-crossings
-returns-clause-crossings c = ?
+returns-clause-crossings c =
+    seen_slots pair_of c.self.inside.lists.crossings.slab c.reserve-2.new.self.slab c.reserve-2.ensures.slots ∙ ap (λ v. v.crossings) c.self.view_is
