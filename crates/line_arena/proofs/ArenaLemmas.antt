@@ -1,11 +1,11 @@
 -- What is seen of an arena, in terms of its lists.
-use Rattle.std.proofs.Common.{◌≡◌, ◌≢◌, ◌⊎◌, ℕ, ℤ, ◌<ℤ◌, get_or, Option, Some, None, inl, inr, refl, sym, ap, subst, ◌∙◌, arith}
+use Rattle.std.proofs.Common.{◌≡◌, ◌≢◌, ◌⊎◌, ℕ, ℤ, ◌+◌, ◌-◌, ◌≤◌, ◌<ℤ◌, get_or, Option, Some, None, inl, inr, refl, sym, ap, subst, ◌∙◌, arith}
 use Rattle.std.specs.Prelude.{◌↔◌, IsSome, IsNone, IfSome, option_and_then}
 use Rattle.std.specs.Option.{option_map}
 use Rattle.std.proofs.lemmas.Bool.{cases_eq}
 use Rattle.std.specs.FinMap as fin
 use Rattle.std.proofs.lemmas.Int.{ints}
-use Rattle.slab.specs.Slab.{get}
+use Rattle.slab.specs.Slab.{get, slab_len}
 use Rattle.plane_geom.specs.declared.point.Point.{Point}
 use Rattle.plane_geom.specs.declared.point.Dir.{Dir}
 use Rattle.plane_geom.specs.declared.point.Dir.TheVariants.{East, South, West, North}
@@ -16,9 +16,9 @@ use Rattle.plane_geom.specs.Floor.{Holds}
 use Rattle.line_arena.specs.declared.lists.Lists.{Lists}
 use Rattle.line_arena.specs.Along.{IsFurther, reach, rising, way_of}
 use Rattle.line_arena.specs.Arena as seen
-use Rattle.line_arena.specs.Arena.{Arena, IsArena, IsFirst, IsNearest, IsOn, LiesFurther, Meet, Pair, StandsAt}
+use Rattle.line_arena.specs.Arena.{Arena, counted, IsArena, IsFirst, IsNearest, IsOn, LiesFurther, Meet, Pair, StandsAt}
 use Rattle.line_arena.specs.Lists.{AreLinked, AreLists, AreMet, IsNext, IsSound, IsPut, IsSpot, Spot, Stands, UpdatesAt, line_along, line_at, link, spot_at, spot_of}
-use Rattle.line_arena.specs.View.{arena_of, pair_of, seen as map_of}
+use Rattle.line_arena.specs.View.{arena_of, pair_of, seen as map_of, spare_of}
 use Rattle.line_arena.proofs.Seen.{get-seen, seen_insert, seen_remove, seen_same}
 use Rattle.line_arena.proofs.Put.{apart_of_sound, held, one_place, same_pair, some_of, spot_line}
 use Rattle.line_arena.proofs.Nearest.{int_apart}
@@ -26,6 +26,7 @@ use Rattle.line_arena.proofs.Linked.{same_spot}
 use Rattle.line_arena.specs.Keyed.{entry_at}
 use Rattle.line_arena.specs.Node.{next_of, start_of}
 use Rattle.line_arena.specs.declared.node.Ends.{Ends}
+use Rattle.line_arena.specs.declared.node.Node.{Node}
 
 abbrev pub pair_at : Spot → Pair
 pair_at s = record { vertical = s.vertical; horizontal = s.horizontal }
@@ -312,3 +313,103 @@ lists_same a b ls cs lists = record {
     lines i l = option_map (λ x. x.0) (get_or (ls i) l None)
     spots : spot_at b ≡ spot_at a
     spots i c = option_map spot_of (get_or (cs i) c None)
+
+again : (o : Option (Point × Node)) → option_map pair_of o ≡ option_map pair_at (option_map spot_of o)
+again None = refl
+again (Some e) = refl
+
+pairs_update : (a b : Lists) (k : ℕ) (x : Option Spot) → UpdatesAt (spot_at a) (spot_at b) k x
+    → UpdatesAt (λ q. option_map pair_of (get a.crossings.slab q)) (λ q. option_map pair_of (get b.crossings.slab q)) k (option_map pair_at x)
+pairs_update a b k x updates = record {
+  changed = again (get b.crossings.slab k) ∙ ap (option_map pair_at) updates.changed;
+  others = λ q ne. again (get b.crossings.slab q) ∙ ap (option_map pair_at) (updates.others q ne) ∙ sym (again (get a.crossings.slab q));
+}
+
+module _ (a b : Lists) (w : ℕ) where
+  pub after_put_line : (u id : ℕ) (line : Line) → UpdatesAt (line_at a) (line_at b) id (Some line) → b.crossings ≡ a.crossings
+      → slab_len b.lines.slab ≡ slab_len a.lines.slab + 1 → b.lines.room ≡ a.lines.room → u ≡ counted w
+      → arena_of b u ≡ record (arena_of a w) { lines = fin.insert (arena_of a w).lines id line; spare_lines = (arena_of a w).spare_lines - 1; written = counted w }
+  after_put_line u id line updates crossings len room counts =
+      let lines = seen_insert (λ e. e.0) a.lines.slab b.lines.slab id line updates in
+      let spare : b.lines.room - slab_len b.lines.slab ≡ (a.lines.room - slab_len a.lines.slab) - 1 = omega (arith, len, room) in
+      λ i. record {
+        lines = lines i;
+        crossings = map_of pair_of (crossings i).slab;
+        spare_lines = spare i;
+        spare_crossings = spare_of (crossings i);
+        places = (crossings i).slab.capacity;
+        written = counts i;
+      }
+
+  pub after_remove_line : (id : ℕ) → UpdatesAt (line_at a) (line_at b) id None → b.crossings ≡ a.crossings
+      → slab_len b.lines.slab + 1 ≡ slab_len a.lines.slab → slab_len a.lines.slab ≤ a.lines.room → b.lines.room ≡ a.lines.room
+      → arena_of b w ≡ record (arena_of a w) { lines = fin.remove (arena_of a w).lines id; spare_lines = (arena_of a w).spare_lines + 1 }
+  after_remove_line id updates crossings len fits room =
+      let lines = seen_remove (λ e. e.0) a.lines.slab b.lines.slab id updates in
+      let spare : b.lines.room - slab_len b.lines.slab ≡ (a.lines.room - slab_len a.lines.slab) + 1 = omega (arith, len, room, fits) in
+      λ i. record {
+        lines = lines i;
+        crossings = map_of pair_of (crossings i).slab;
+        spare_lines = spare i;
+        spare_crossings = spare_of (crossings i);
+        places = (crossings i).slab.capacity;
+        written = w;
+      }
+
+  module _ (lines : (l : ℕ) → line_at b l ≡ line_at a l) (line_count : slab_len b.lines.slab ≡ slab_len a.lines.slab) (line_room : b.lines.room ≡ a.lines.room)
+      (room : b.crossings.room ≡ a.crossings.room) (places : b.crossings.slab.capacity ≡ a.crossings.slab.capacity) where
+    lines_are : map_of (λ e. e.0) b.lines.slab ≡ map_of (λ e. e.0) a.lines.slab
+    lines_are = seen_same (λ e. e.0) a.lines.slab b.lines.slab lines
+
+    pub after_put_crossing : (u id : ℕ) (s : Spot) → UpdatesAt (spot_at a) (spot_at b) id (Some s) → slab_len b.crossings.slab ≡ slab_len a.crossings.slab + 1 → u ≡ counted w
+        → arena_of b u ≡ record (arena_of a w) { crossings = fin.insert (arena_of a w).crossings id (pair_at s); spare_crossings = (arena_of a w).spare_crossings - 1; written = counted w }
+    after_put_crossing u id s updates len counts =
+        let crossings = seen_insert pair_of a.crossings.slab b.crossings.slab id (pair_at s) (pairs_update a b id (Some s) updates) in
+        let spare_lines : b.lines.room - slab_len b.lines.slab ≡ a.lines.room - slab_len a.lines.slab = omega (arith, line_count, line_room) in
+        let spare : b.crossings.room - slab_len b.crossings.slab ≡ (a.crossings.room - slab_len a.crossings.slab) - 1 = omega (arith, len, room) in
+        λ i. record {
+          lines = lines_are i;
+          crossings = crossings i;
+          spare_lines = spare_lines i;
+          spare_crossings = spare i;
+          places = places i;
+          written = counts i;
+        }
+
+    pub after_remove_crossing : (id : ℕ) → UpdatesAt (spot_at a) (spot_at b) id None → slab_len b.crossings.slab + 1 ≡ slab_len a.crossings.slab → slab_len a.crossings.slab ≤ a.crossings.room
+        → arena_of b w ≡ record (arena_of a w) { crossings = fin.remove (arena_of a w).crossings id; spare_crossings = (arena_of a w).spare_crossings + 1 }
+    after_remove_crossing id updates len fits =
+        let crossings = seen_remove pair_of a.crossings.slab b.crossings.slab id (pairs_update a b id None updates) in
+        let spare_lines : b.lines.room - slab_len b.lines.slab ≡ a.lines.room - slab_len a.lines.slab = omega (arith, line_count, line_room) in
+        let spare : b.crossings.room - slab_len b.crossings.slab ≡ (a.crossings.room - slab_len a.crossings.slab) + 1 = omega (arith, len, room, fits) in
+        λ i. record {
+          lines = lines_are i;
+          crossings = crossings i;
+          spare_lines = spare_lines i;
+          spare_crossings = spare i;
+          places = places i;
+          written = w;
+        }
+
+pub none_spot : (s : Spot) → None ≡ Some s → ⊥
+none_spot s e = cc
+
+pub none_line : (m : Line) → None ≡ Some m → ⊥
+none_line m e = cc
+
+-- the entry of a line, of a spot
+pub entry_line : (a : Lists) (l : ℕ) (line : Line) → line_at a l ≡ Some line → (e : Line × Ends) × (entry_at a.lines l ≡ Some e) × (e.0 ≡ line)
+entry_line a l line is = by (entry_at a.lines l) refl
+  where
+    some_line : (x y : Line) → Some x ≡ Some y → x ≡ y
+    some_line x y e = cc
+    by : (o : Option (Line × Ends)) → entry_at a.lines l ≡ o → (e : Line × Ends) × (entry_at a.lines l ≡ Some e) × (e.0 ≡ line)
+    by None e = absurd (none_line line (sym (ap (option_map (λ x. x.0)) e) ∙ is))
+    by (Some x) e = (x, e, some_line x.0 line (sym (ap (option_map (λ x. x.0)) e) ∙ is))
+
+pub entry_spot : (a : Lists) (c : ℕ) (s : Spot) → spot_at a c ≡ Some s → (e : Point × Node) × (entry_at a.crossings c ≡ Some e) × (e.0 ≡ s.point)
+entry_spot a c s is = by (entry_at a.crossings c) refl
+  where
+    by : (o : Option (Point × Node)) → entry_at a.crossings c ≡ o → (e : Point × Node) × (entry_at a.crossings c ≡ Some e) × (e.0 ≡ s.point)
+    by None e = absurd (none_spot s (sym (ap (option_map spot_of) e) ∙ is))
+    by (Some x) e = (x, e, ap (λ t. t.point) (same_spot (spot_of x) s (spot_at a c) (ap (option_map spot_of) e) is))
