@@ -128,9 +128,12 @@ module _ (a : Lists) (w : ℕ) (v : Arena) (view : arena_of a w ≡ v) (lists : 
       let s = spot.0 in
       let on = lists.sound.on_lines c s spot.1 in
       let down = same_line on.vertical h.down (line_at a s.vertical) on.is_vertical (ap (λ q. line_at a q.vertical) spot.2 ∙ sym (line_in h.pair.vertical) ∙ h.is_down) in
-      let across = same_line on.horizontal h.across (line_at a s.horizontal) on.is_horizontal (ap (λ q. line_at a q.horizontal) spot.2 ∙ sym (line_in h.pair.horizontal) ∙ h.is_across) in
-      (s, spot.1, two_lines on.vertical on.horizontal s.point p on.vertical_runs on.horizontal_runs on.on_vertical on.on_horizontal
-        (subst (λ l. Holds l p) (sym down) h.on_down) (subst (λ l. Holds l p) (sym across) h.on_across))
+      let across = same_line on.horizontal h.across (line_at a s.horizontal) on.is_horizontal (ap (λ q. line_at a q.horizontal) spot.2 ∙ sym (line_in h.pair.horizontal) ∙ h.is_across) in (
+        s,
+        spot.1,
+        two_lines on.vertical on.horizontal s.point p on.vertical_runs on.horizontal_runs on.on_vertical on.on_horizontal
+            (subst (λ l. Holds l p) (sym down) h.on_down) (subst (λ l. Holds l p) (sym across) h.on_across),
+      )
 
   pub lies : (d : Dir) (from to : ℕ) (s t : Spot) → spot_at a from ≡ Some s → spot_at a to ≡ Some t → line_along d t ≡ line_along d s → reach d s.point <ℤ reach d t.point
       → LiesFurther v d from to
@@ -158,10 +161,11 @@ module _ (a : Lists) (w : ℕ) (v : Arena) (view : arena_of a w ≡ v) (lists : 
       let pair_s = spot_with from h.here h.is_here in
       let pair_t = spot_with to h.there h.is_there in
       let line_s = sym (along-pair_at d s) ∙ ap (λ x. seen.line_along d (pair_at x)) (same_spot s pair_s.0 (spot_at a from) es pair_s.1) ∙ ap (seen.line_along d) pair_s.2 in
-      let line_t = sym (along-pair_at d t) ∙ ap (λ x. seen.line_along d (pair_at x)) (same_spot t pair_t.0 (spot_at a to) there.1 pair_t.1) ∙ ap (seen.line_along d) pair_t.2 in
-      (reach d t.point,
+      let line_t = sym (along-pair_at d t) ∙ ap (λ x. seen.line_along d (pair_at x)) (same_spot t pair_t.0 (spot_at a to) there.1 pair_t.1) ∙ ap (seen.line_along d) pair_t.2 in (
+        reach d t.point,
         record { spot = t; is = there.1; line = line_t ∙ h.line ∙ sym line_s; place = refl },
-        subst (λ p. reach d p <ℤ reach d t.point) (sym here.2 ∙ ap (λ x. x.point) s_is) (subst (λ p. reach d h.start <ℤ reach d p) (sym there.2) h.further))
+        subst (λ p. reach d p <ℤ reach d t.point) (sym here.2 ∙ ap (λ x. x.point) s_is) (subst (λ p. reach d h.start <ℤ reach d p) (sym there.2) h.further),
+      )
 
   module _ (d : Dir) (from : ℕ) (s : Spot) (es : spot_at a from ≡ Some s) where
     pub nearest_seen : (answer : Option ℕ) → IsNext (Stands (spot_at a) (line_along d s) d) (Some (reach d s.point)) answer → IfSome answer (λ n. IsNearest v d from n)
@@ -269,7 +273,7 @@ module _ (a : Lists) (w : ℕ) (v : Arena) (view : arena_of a w ≡ v) (lists : 
         let across = same_line hs.horizontal ht.horizontal (line_at a s.0.horizontal) hs.is_horizontal (ap (λ p. line_at a p.horizontal) same ∙ ht.is_horizontal) in
         lists.sound.single c k s.0 t.0 s.1 t.1
         (two_lines hs.vertical hs.horizontal s.0.point t.0.point hs.vertical_runs hs.horizontal_runs hs.on_vertical hs.on_horizontal
-          (subst (λ l. Holds l t.0.point) (sym down) ht.on_vertical) (subst (λ l. Holds l t.0.point) (sym across) ht.on_horizontal));
+        (subst (λ l. Holds l t.0.point) (sym down) ht.on_vertical) (subst (λ l. Holds l t.0.point) (sym across) ht.on_horizontal));
   }
 
   -- the pair of two lines that meet is met in the lists
@@ -311,6 +315,7 @@ lists_same a b ls cs lists = record {
   where
     lines : line_at b ≡ line_at a
     lines i l = option_map (λ x. x.0) (get_or (ls i) l None)
+
     spots : spot_at b ≡ spot_at a
     spots i c = option_map spot_of (get_or (cs i) c None)
 
@@ -403,6 +408,7 @@ entry_line a l line is = by (entry_at a.lines l) refl
   where
     some_line : (x y : Line) → Some x ≡ Some y → x ≡ y
     some_line x y e = cc
+
     by : (o : Option (Line × Ends)) → entry_at a.lines l ≡ o → (e : Line × Ends) × (entry_at a.lines l ≡ Some e) × (e.0 ≡ line)
     by None e = absurd (none_line line (sym (ap (option_map (λ x. x.0)) e) ∙ is))
     by (Some x) e = (x, e, some_line x.0 line (sym (ap (option_map (λ x. x.0)) e) ∙ is))

@@ -68,11 +68,14 @@ module _ (S : ℕ → Option Spot) (k : ℕ) (d : Dir) (spot : Spot) (is : S k �
       → b <ℤ reach d spot.point → (q : ℕ) × (y : ℤ) × Others q y × (b <ℤ y) × (y <ℤ reach d spot.point)
   nearer None before c b here ne less = absurd (before c b here less)
   nearer (Some q) before c b here ne less =
-      let y = before.0 in
-      (q, y, before.1,
+      let y = before.0 in (
+        q,
+        y,
+        before.1,
         int_apart b y (before.3 c b here less)
-          (λ e. ne (ap Some (apart _ q c y (kept_in S k d _ q y before.1) (kept_in S k d _ c y (subst (Others c) e here))))),
-        before.2)
+            (λ e. ne (ap Some (apart _ q c y (kept_in S k d _ q y before.1) (kept_in S k d _ c y (subst (Others c) e here))))),
+        before.2,
+      )
 
   -- and a list that does not begin with the crossing begins before it
   nearer_start : (prev : Option ℕ) → IsPrevious Others (reach d spot.point) prev → prev ≢ None
@@ -155,7 +158,7 @@ module _ (a b : Lists) (k : ℕ) (d : Dir) (knows : KnowsNeighbours a k) where
   before : IsPrevious (Stands T l d) (reach d knows.spot.point) prev
   before = previous_of_next T l d knows.spot.point prev
       (subst (λ m. IsNext (Stands T m (opposite d)) (Some (reach (opposite d) knows.spot.point)) (link a m (Some k) (opposite d)))
-        (line_along-opposite d knows.spot) (knows.next (opposite d)))
+      (line_along-opposite d knows.spot) (knows.next (opposite d)))
 
   -- lines other than the crossing's have the same crossings with it and without
   next_with : (m : ℕ) → m ≢ l → (from : Option ℤ) (answer : Option ℕ) → IsNext (Stands T m d) from answer → IsNext (Stands S m d) from answer
@@ -205,12 +208,12 @@ module _ (a b : Lists) (k : ℕ) (d : Dir) (knows : KnowsNeighbours a k) where
               let there : Stands T l d q (reach d s.point) = subst (λ i. Stands T l d i (reach d s.point)) (sym same) here in
               subst (IsNext (Stands S l d) (Some (reach d s.point))) (sym (ap (λ i. link b l (Some i) d) (sym same) ∙ ap (λ p. link b l p d) (sym e) ∙ relinks.changed))
               (put_here S k d knows.spot knows.is (knows.apart d) (Some (reach d s.point))
-                (place_before S k d knows.spot knows.is (knows.apart d) q before (reach d s.point) there)
-                (none_between S k d knows.spot knows.is (knows.apart d) q before (reach d s.point) there))
+              (place_before S k d knows.spot knows.is (knows.apart d) q before (reach d s.point) there)
+              (none_between S k d knows.spot knows.is (knows.apart d) q before (reach d s.point) there))
           | inr ne ↦
               subst (IsNext (Stands S l d) (Some (reach d s.point))) (sym (next_same_as (Some k) relinks l c (λ n. ne (some_is q c (sym e ∙ n)))))
               (put_other S k d knows.spot knows.is (knows.apart d) (Some (reach d s.point))
-                (λ p. nearer S k d knows.spot knows.is (knows.apart d) (Some q) before c (reach d s.point) here (λ n. ne (some_is q c n)) p) (link a l (Some c) d) old)
+              (λ p. nearer S k d knows.spot knows.is (knows.apart d) (Some q) before c (reach d s.point) here (λ n. ne (some_is q c n)) p) (link a l (Some c) d) old)
         ]
 
     put_itself : IsNext (Stands S l d) (Some (reach d knows.spot.point)) (link b l (Some k) d)
@@ -256,7 +259,7 @@ module _ (a b : Lists) (k : ℕ) (d : Dir) (knows : KnowsNeighbours a k) where
         let old = linked.starts l line is way in
         subst (IsNext (Stands T l d) None) (sym (start_same (link a l (Some k) d) relinks l (inl (λ n. none_some q (sym n ∙ e)))))
         (remove_other S k d knows.spot knows.is (knows.apart d) None (link a l None d) old
-          (is_not_here S k d knows.spot knows.is (knows.apart d) None q before.0 before.1 tt before.2 (link a l None d) old))
+        (is_not_here S k d knows.spot knows.is (knows.apart d) None q before.0 before.1 tt before.2 (link a l None d) old))
 
     remove_next_on : (p : Option ℕ) → prev ≡ p → IsPrevious (Stands T l d) (reach d knows.spot.point) p
         → (c : ℕ) (s : Spot) → c ≢ k → S c ≡ Some s → line_along d s ≡ l → IsNext (Stands T l d) (Some (reach d s.point)) (link b l (Some c) d)
@@ -264,8 +267,10 @@ module _ (a b : Lists) (k : ℕ) (d : Dir) (knows : KnowsNeighbours a k) where
       where
         here : Stands T l d c (reach d s.point)
         here = record { spot = s; is = without_other k S c ne ∙ is; line = on; place = refl }
+
         old : IsNext (Stands S l d) (Some (reach d s.point)) (link a l (Some c) d)
         old = subst (λ m. IsNext (Stands S m d) (Some (reach d s.point)) (link a m (Some c) d)) on (linked.nexts c s is)
+
         -- it is not followed by the crossing, where it is not its neighbour before
         apart : (p : Option ℕ) → IsPrevious (Stands T l d) (reach d knows.spot.point) p → p ≢ Some c → link a l (Some c) d ≢ Some k
         apart p before other f =
@@ -273,6 +278,7 @@ module _ (a b : Lists) (k : ℕ) (d : Dir) (knows : KnowsNeighbours a k) where
             let less : reach d s.point <ℤ reach d knows.spot.point = subst (λ w. reach d s.point <ℤ w) (own_place S k d knows.spot knows.is l n.0 n.1) n.2 in
             let near = nearer S k d knows.spot knows.is (knows.apart d) p before c (reach d s.point) here other less in
             is_not_here S k d knows.spot knows.is (knows.apart d) (Some (reach d s.point)) near.0 near.1 near.2 near.3 near.4 (link a l (Some c) d) old f
+
         by : (p : Option ℕ) → prev ≡ p → IsPrevious (Stands T l d) (reach d knows.spot.point) p → IsNext (Stands T l d) (Some (reach d s.point)) (link b l (Some c) d)
         by None e before =
             subst (IsNext (Stands T l d) (Some (reach d s.point))) (sym (next_same_as (link a l (Some k) d) relinks l c (λ n. none_some c (sym e ∙ n))))
@@ -282,8 +288,8 @@ module _ (a b : Lists) (k : ℕ) (d : Dir) (knows : KnowsNeighbours a k) where
               | inl same ↦
                   let there : Stands T l d q (reach d s.point) = subst (λ i. Stands T l d i (reach d s.point)) (sym same) here in
                   let was = is_here S k d knows.spot knows.is (knows.apart d) (Some (reach d s.point))
-                      (place_before S k d knows.spot knows.is (knows.apart d) q before (reach d s.point) there)
-                      (none_between S k d knows.spot knows.is (knows.apart d) q before (reach d s.point) there) (link a l (Some c) d) old in
+                  (place_before S k d knows.spot knows.is (knows.apart d) q before (reach d s.point) there)
+                  (none_between S k d knows.spot knows.is (knows.apart d) q before (reach d s.point) there) (link a l (Some c) d) old in
                   subst (IsNext (Stands T l d) (Some (reach d s.point))) (sym (ap (λ i. link b l (Some i) d) (sym same) ∙ ap (λ p. link b l p d) (sym e) ∙ relinks.changed))
                   (remove_here S k d knows.spot knows.is (knows.apart d) (Some (reach d s.point)) (subst (IsNext (Stands S l d) (Some (reach d s.point))) was old) (link a l (Some k) d) (knows.next d))
               | inr other ↦
@@ -309,6 +315,7 @@ module _ (a b : Lists) (k : ℕ) (d : Dir) (knows : KnowsNeighbours a k) where
                 (next_without (line_along d s) off (Some (reach d s.point)) (link a (line_along d s) (Some c) d) (linked.nexts c s was.1))
           ];
     }
+
   -- what the crossing's node tells
   module _ (i : ℕ) (e : Point × Node) (named : i ≡ k) (is : entry_at a.crossings i ≡ Some e) where
     node_is : entry_at a.crossings k ≡ Some e

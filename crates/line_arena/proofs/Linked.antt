@@ -52,10 +52,14 @@ previous_of_next S l d p None h = λ c z here before.
     h c (pos 0 -ℤ z) (turned S l d c z here) (omega (arith, ints))
 previous_of_next S l d p (Some q) h =
     let e = reach-opposite d p in
-    let past : reach (opposite d) p <ℤ h.0 = h.2 in
-    (pos 0 -ℤ h.0, turned_back S l d q h.0 h.1, omega (arith, ints), λ c z here before.
-      let least : h.0 ≤ℤ (pos 0 -ℤ z) = h.3 c (pos 0 -ℤ z) (turned S l d c z here) (omega (arith, ints)) in
-      omega (arith, ints))
+    let past : reach (opposite d) p <ℤ h.0 = h.2 in (
+      pos 0 -ℤ h.0,
+      turned_back S l d q h.0 h.1,
+      omega (arith, ints),
+      λ c z here before.
+          let least : h.0 ≤ℤ (pos 0 -ℤ z) = h.3 c (pos 0 -ℤ z) (turned S l d c z here) (omega (arith, ints)) in
+          omega (arith, ints),
+    )
 
 -- the spot of a crossing is its own
 pub same_spot : (s t : Spot) (o : Option Spot) → o ≡ Some s → o ≡ Some t → s ≡ t

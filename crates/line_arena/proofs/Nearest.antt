@@ -34,23 +34,33 @@ module _ (At To : ℕ → ℤ → Type 0) (k : ℕ) (at : ℤ) where
         | inl old ↦ h c z old past
         | inr e ↦ let n = near (subst (IsPast from) e past) in h n.0 n.1 n.2 n.3
       ]
-  next_kept_at_put keeps grows from near (Some m) h = (h.0, keeps m h.0 h.1, h.2, λ c z here past.
-      elim (grows c z here) [
-        | inl old ↦ h.3 c z old past
-        | inr e ↦
-            let n = near (subst (IsPast from) e past) in
-            let nearer : h.0 ≤ℤ n.1 = h.3 n.0 n.1 n.2 n.3 in
-            subst (λ w. h.0 ≤ℤ w) (sym e) (let before : n.1 <ℤ at = n.4 in omega (arith, ints))
-      ])
+  next_kept_at_put keeps grows from near (Some m) h = (
+    h.0,
+    keeps m h.0 h.1,
+    h.2,
+    λ c z here past.
+        elim (grows c z here) [
+          | inl old ↦ h.3 c z old past
+          | inr e ↦
+              let n = near (subst (IsPast from) e past) in
+              let nearer : h.0 ≤ℤ n.1 = h.3 n.0 n.1 n.2 n.3 in
+              subst (λ w. h.0 ≤ℤ w) (sym e) (let before : n.1 <ℤ at = n.4 in omega (arith, ints))
+        ],
+  )
 
   -- where nothing stands between, the one that comes in is the nearest
   pub next_is_put : To k at → ((c : ℕ) (z : ℤ) → To c z → At c z ⊎ (z ≡ at))
       → (from : Option ℤ) → IsPast from at → ((c : ℕ) (z : ℤ) → At c z → IsPast from z → z <ℤ at → ⊥) → IsNext To from (Some k)
-  next_is_put there grows from past between = (at, there, past, λ c z here p.
-      elim (grows c z here) [
-        | inl old ↦ not_below z at (between c z old p)
-        | inr e ↦ subst (λ w. at ≤ℤ w) (sym e) (omega (arith, ints))
-      ])
+  next_is_put there grows from past between = (
+    at,
+    there,
+    past,
+    λ c z here p.
+        elim (grows c z here) [
+          | inl old ↦ not_below z at (between c z old p)
+          | inr e ↦ subst (λ w. at ≤ℤ w) (sym e) (omega (arith, ints))
+        ],
+  )
 
   -- where the nearest stays, so it does when one goes out
   pub next_kept_at_removal : ((c : ℕ) (z : ℤ) → To c z → At c z) → ((c : ℕ) (z : ℤ) → At c z → c ≢ k → To c z)
@@ -66,12 +76,15 @@ module _ (At To : ℕ → ℤ → Type 0) (k : ℕ) (at : ℤ) where
     where
       here_is : h.0 ≡ at
       here_is = placed h.0 h.1
+
       further : (c : ℕ) (z : ℤ) → To c z → IsPast from z → at <ℤ z
       further c z here past =
           let le : at ≤ℤ z = subst (λ w. w ≤ℤ z) here_is (h.3 c z (shrinks c z here) past) in
           int_apart at z le (λ e. none c (subst (To c) (sym e) here))
+
       past_at : IsPast from at
       past_at = subst (IsPast from) here_is h.2
+
       by : (answer : Option ℕ) → IsNext To (Some at) answer → IsNext To from answer
       by None a = λ c z here past. a c z here (further c z here past)
       by (Some n) a = (
@@ -98,6 +111,9 @@ pub next_from_previous : (At : ℕ → ℤ → Type 0) (at : ℤ) → ((c : ℕ)
     → (answer : Option ℕ) → IsNext At from answer → IsNext At (Some at) answer
 next_from_previous At at free from past between None h = λ c z here p. h c z here (past_further from at z past (let q : at <ℤ z = p in omega (arith, ints)))
 next_from_previous At at free from past between (Some n) h =
-    let ge : at ≤ℤ h.0 = not_below h.0 at (between n h.0 h.1 h.2) in
-    (h.0, h.1, int_apart at h.0 ge (λ e. free n (subst (At n) (sym e) h.1)),
-      λ c z here p. h.3 c z here (past_further from at z past (let q : at <ℤ z = p in omega (arith, ints))))
+    let ge : at ≤ℤ h.0 = not_below h.0 at (between n h.0 h.1 h.2) in (
+      h.0,
+      h.1,
+      int_apart at h.0 ge (λ e. free n (subst (At n) (sym e) h.1)),
+      λ c z here p. h.3 c z here (past_further from at z past (let q : at <ℤ z = p in omega (arith, ints))),
+    )

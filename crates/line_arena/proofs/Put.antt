@@ -88,11 +88,12 @@ same_pair lines S sound s t hs ht e =
     let down = held hs.vertical s.point Vertical hs.vertical_runs hs.on_vertical in
     let down_too = held ht.vertical s.point Vertical ht.vertical_runs on_down in
     let across = held hs.horizontal s.point Horizontal hs.horizontal_runs hs.on_horizontal in
-    let across_too = held ht.horizontal s.point Horizontal ht.horizontal_runs on_across in
-    (sound.apart s.vertical t.vertical hs.vertical ht.vertical s.point hs.is_vertical ht.is_vertical
-      (record { way = hs.vertical_runs ∙ sym ht.vertical_runs; at = sym (ap (λ r. r.x) down) ∙ ap (λ r. r.x) down_too }) hs.on_vertical on_down,
-    sound.apart s.horizontal t.horizontal hs.horizontal ht.horizontal s.point hs.is_horizontal ht.is_horizontal
-      (record { way = hs.horizontal_runs ∙ sym ht.horizontal_runs; at = sym (ap (λ r. r.y) across) ∙ ap (λ r. r.y) across_too }) hs.on_horizontal on_across)
+    let across_too = held ht.horizontal s.point Horizontal ht.horizontal_runs on_across in (
+      sound.apart s.vertical t.vertical hs.vertical ht.vertical s.point hs.is_vertical ht.is_vertical
+          (record { way = hs.vertical_runs ∙ sym ht.vertical_runs; at = sym (ap (λ r. r.x) down) ∙ ap (λ r. r.x) down_too }) hs.on_vertical on_down,
+      sound.apart s.horizontal t.horizontal hs.horizontal ht.horizontal s.point hs.is_horizontal ht.is_horizontal
+          (record { way = hs.horizontal_runs ∙ sym ht.horizontal_runs; at = sym (ap (λ r. r.y) across) ∙ ap (λ r. r.y) across_too }) hs.on_horizontal on_across,
+    )
 
 some_apart : (s : Spot) → None ≡ Some s → ⊥
 some_apart s e = cc
@@ -183,12 +184,14 @@ lists_without a b k sound linked lines updates starts nexts = record {
           | inl e ↦ absurd (some_apart s (sym updates.changed ∙ ap (spot_at b) (sym e) ∙ is))
           | inr ne ↦ sym (updates.others c ne) ∙ is
         ]
+
     same : (c : ℕ) → without k (spot_at a) c ≡ spot_at b c
     same c =
         elim (cases_eq c k) [
           | inl e ↦ grind (arith, updates.changed)
           | inr ne ↦ without_other k (spot_at a) c ne ∙ sym (updates.others c ne)
         ]
+
     spots : without k (spot_at a) ≡ spot_at b
     spots i c = same c i
 
@@ -323,8 +326,8 @@ lists_with_line a b id line lists gone apart ordered updates crossings = record 
         elim (cases_eq l id) [
           | inl e ↦ subst (IsNext (Stands (spot_at a) l d) None) (sym (none_first l d e))
               (λ c z stands past.
-                let on = spot_line (line_at a) stands.spot d (lists.sound.on_lines c stands.spot stands.is) in
-                no_line on.line (sym gone ∙ ap (line_at a) (sym e ∙ sym stands.line) ∙ on.is))
+              let on = spot_line (line_at a) stands.spot d (lists.sound.on_lines c stands.spot stands.is) in
+              no_line on.line (sym gone ∙ ap (line_at a) (sym e ∙ sym stands.line) ∙ on.is))
           | inr ne ↦ subst (IsNext (Stands (spot_at a) l d) None) (sym (ap (option_and_then (λ x. start_of d x.1)) (updates.others l ne)))
               ((lists.linked d).starts l m (was l m ne is) way)
         ];
@@ -335,23 +338,29 @@ lists_with_line a b id line lists gone apart ordered updates crossings = record 
   where
     no_line : (m : Line) → None ≡ Some m → ⊥
     no_line m e = cc
+
     spots : spot_at a ≡ spot_at b
     spots = sym (λ i c. option_map spot_of (entry_at (crossings i) c))
+
     here : (l : ℕ) → l ≡ id → line_at b l ≡ Some line
     here l e = ap (line_at b) e ∙ ap (option_map (λ x. x.0)) updates.changed
+
     was : (l : ℕ) (m : Line) → l ≢ id → line_at b l ≡ Some m → line_at a l ≡ Some m
     was l m ne is = sym (ap (option_map (λ x. x.0)) (updates.others l ne)) ∙ is
+
     still : (l : ℕ) (m : Line) → line_at a l ≡ Some m → line_at b l ≡ Some m
     still l m is =
         elim (cases_eq l id) [
           | inl e ↦ absurd (no_line m (sym gone ∙ ap (line_at a) (sym e) ∙ is))
           | inr ne ↦ ap (option_map (λ x. x.0)) (updates.others l ne) ∙ is
         ]
+
     none_of : (d : Dir) → start_of d (record { first = None; last = None }) ≡ None
     none_of East = refl
     none_of South = refl
     none_of West = refl
     none_of North = refl
+
     none_first : (l : ℕ) (d : Dir) → l ≡ id → link b l None d ≡ None
     none_first l d e = ap (λ i. link b i None d) e ∙ ap (option_and_then (λ x. start_of d x.1)) updates.changed ∙ none_of d
 
@@ -387,12 +396,16 @@ lists_without_line a b id lists empty updates crossings = record {
   where
     no_line : (m : Line) → None ≡ Some m → ⊥
     no_line m e = cc
+
     spots : spot_at a ≡ spot_at b
     spots = sym (λ i c. option_map spot_of (entry_at (crossings i) c))
+
     other : (l : ℕ) (m : Line) → line_at b l ≡ Some m → l ≢ id
     other l m is e = no_line m (sym (ap (option_map (λ x. x.0)) updates.changed) ∙ ap (line_at b) (sym e) ∙ is)
+
     was : (l : ℕ) (m : Line) → line_at b l ≡ Some m → line_at a l ≡ Some m
     was l m is = sym (ap (option_map (λ x. x.0)) (updates.others l (other l m is))) ∙ is
+
     still : (l : ℕ) (m : Line) → l ≢ id → line_at a l ≡ Some m → line_at b l ≡ Some m
     still l m ne is = ap (option_map (λ x. x.0)) (updates.others l ne) ∙ is
 

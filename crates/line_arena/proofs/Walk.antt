@@ -67,9 +67,12 @@ module _ (a : Lists) (l : ℕ) (d : Dir) (p : Point) (lists : AreLists a) (runs 
 
     pub found : IsFurther d p e.0 → IsNext (Stands (spot_at a) l d) (Some (reach d p)) (Some c)
     found further =
-        let h = coming.is_next in
-        (h.0, h.1, subst (λ z. reach d p <ℤ z) (stands_place a l d c _ e is here) further,
-          λ k z at q. h.3 k z at (past_further coming.from (reach d p) z coming.past (let less : reach d p <ℤ z = q in omega (arith, ints))))
+        let h = coming.is_next in (
+          h.0,
+          h.1,
+          subst (λ z. reach d p <ℤ z) (stands_place a l d c _ e is here) further,
+          λ k z at q. h.3 k z at (past_further coming.from (reach d p) z coming.past (let less : reach d p <ℤ z = q in omega (arith, ints))),
+        )
 
   pub found_none : IsComing a l d p None → IsNext (Stands (spot_at a) l d) (Some (reach d p)) None
   found_none coming = λ k z at q.
@@ -159,19 +162,19 @@ module _ (a : Lists) (l : ℕ) (d : Dir) (runs : RunsAlong a l d) where
       across None h =
           next_from_previous (Stands (spot_at a) l (opposite d)) (reach (opposite d) p) free_back None tt
           (λ c z here past less.
-            let e = reach-opposite d p in
-            h c (pos 0 -ℤ z) (turned_back (spot_at a) l d c z here) (omega (arith, ints)))
+          let e = reach-opposite d p in
+          h c (pos 0 -ℤ z) (turned_back (spot_at a) l d c z here) (omega (arith, ints)))
           (link a l None (opposite d)) ((lists.linked (opposite d)).starts l runs.line runs.is (runs.way ∙ sym (way_of-opposite d)))
       across (Some n) h =
           let e = reach-opposite d p in
           let past : reach d p <ℤ h.0 = h.2 in
           let back = turned (spot_at a) l d n h.0 h.1 in
           let linked = subst (λ m. IsNext (Stands (spot_at a) m (opposite d)) (Some (reach (opposite d) back.spot.point)) (link a m (Some n) (opposite d))) back.line
-              ((lists.linked (opposite d)).nexts n back.spot back.is) in
+          ((lists.linked (opposite d)).nexts n back.spot back.is) in
           let placed = subst (λ z. IsNext (Stands (spot_at a) l (opposite d)) (Some z) (link a l (Some n) (opposite d))) back.place linked in
           next_from_previous (Stands (spot_at a) l (opposite d)) (reach (opposite d) p) free_back (Some (pos 0 -ℤ h.0)) (omega (arith, ints))
           (λ c z here q less.
-            let after : (pos 0 -ℤ h.0) <ℤ z = q in
-            let least : h.0 ≤ℤ (pos 0 -ℤ z) = h.3 c (pos 0 -ℤ z) (turned_back (spot_at a) l d c z here) (omega (arith, ints)) in
-            omega (arith, ints))
+          let after : (pos 0 -ℤ h.0) <ℤ z = q in
+          let least : h.0 ≤ℤ (pos 0 -ℤ z) = h.3 c (pos 0 -ℤ z) (turned_back (spot_at a) l d c z here) (omega (arith, ints)) in
+          omega (arith, ints))
           (link a l (Some n) (opposite d)) placed

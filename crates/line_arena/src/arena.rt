@@ -78,9 +78,10 @@ impl LineArena {
         requires apart { IsApart self.old line }
         ensures new_id { map.get self.old.lines result ≡ None }
         ensures after { self.new ≡ record self.old {
-            lines = map.insert self.old.lines result line;
-            spare_lines = self.old.spare_lines - 1;
-            written = counted self.old.written } }
+          lines = map.insert self.old.lines result line;
+          spare_lines = self.old.spare_lines - 1;
+          written = counted self.old.written;
+        } }
     {
         self.written = self.written.saturating_add(1);
         self.lists.put_line(line)
@@ -96,9 +97,10 @@ impl LineArena {
         requires new_pair { (c : ℕ) → map.get self.old.crossings c ≡ Some (record { vertical = vertical; horizontal = horizontal }) → ⊥ }
         ensures new_id { map.get self.old.crossings result ≡ None }
         ensures after { self.new ≡ record self.old {
-            crossings = map.insert self.old.crossings result (record { vertical = vertical; horizontal = horizontal });
-            spare_crossings = self.old.spare_crossings - 1;
-            written = counted self.old.written } }
+          crossings = map.insert self.old.crossings result (record { vertical = vertical; horizontal = horizontal });
+          spare_crossings = self.old.spare_crossings - 1;
+          written = counted self.old.written;
+        } }
     {
         self.written = self.written.saturating_add(1);
         self.lists.put_crossing(vertical, horizontal)
@@ -108,8 +110,9 @@ impl LineArena {
     pub fn remove_crossing(&mut self, crossing: CrossId)
         requires live { IsSome (map.get self.old.crossings crossing) }
         ensures after { self.new ≡ record self.old {
-            crossings = map.remove self.old.crossings crossing;
-            spare_crossings = self.old.spare_crossings + 1 } }
+          crossings = map.remove self.old.crossings crossing;
+          spare_crossings = self.old.spare_crossings + 1;
+        } }
     {
         self.lists.remove_crossing(crossing);
     }
@@ -119,8 +122,9 @@ impl LineArena {
         requires live { IsSome (map.get self.old.lines line) }
         requires no_crossings { (c : ℕ) → IsOn self.old line c → ⊥ }
         ensures after { self.new ≡ record self.old {
-            lines = map.remove self.old.lines line;
-            spare_lines = self.old.spare_lines + 1 } }
+          lines = map.remove self.old.lines line;
+          spare_lines = self.old.spare_lines + 1;
+        } }
     {
         self.lists.remove_line(line);
     }

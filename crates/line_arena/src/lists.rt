@@ -110,12 +110,7 @@ impl Lists {
     }
 
     /// The crossings of the line between which the point stands: the nearest one back, and the nearest one on in the direction.
-    fn neighbours(
-        &self,
-        line: LineId,
-        dir: Dir,
-        point: Point,
-    ) -> (Option<CrossId>, Option<CrossId>)
+    fn neighbours(&self, line: LineId, dir: Dir, point: Point) -> (Option<CrossId>, Option<CrossId>)
         requires lists { AreLists self.now }
         requires runs { RunsAlong self.now line dir }
         requires free { (c : ℕ) → Stands (spot_at self.now) line dir c (reach dir point) → ⊥ }

@@ -138,7 +138,10 @@ fn walks_along_every_line(rt: HostRuntime) -> Result<(), Fail> {
                     toggle(&mut arena, column, row)?;
                 }
             }
-            assert!(rt; stands(rt.alloc(), &arena, half)?, "step {step}, half {half}");
+            assert!(rt;
+                stands(rt.alloc(), &arena, half)?,
+                "step {step}, half {half}"
+            );
         }
         assert_eq!(rt; arena.written(), 60 + 900 + 450);
     }

@@ -25,7 +25,10 @@ loop-id-preserved g c =
     let ok = c.insert.ensures.succeeds (omega (arith, fits)) in
     let updates = on_ok _ c.insert.ensures.updates ok in
     let value = ok_value _ ok in
-    let len = one_more value.0 _ _ _ (IfOk-at_ok _ value.1 c.insert.ensures.len) (IfOk-at_ok _ value.1 c.insert.ensures.old) none in
-    (tt, tt, refills_more eq slab g.met.K.Eq.laws (distinct_keys eq g.met.K.Eq.laws slab c.args.ids.now c.requires.leads) c.in-Some.id entry.0 entry.1 c.next.new.self c.loop-id.ids c.insert.new.self updates.0 old,
+    let len = one_more value.0 _ _ _ (IfOk-at_ok _ value.1 c.insert.ensures.len) (IfOk-at_ok _ value.1 c.insert.ensures.old) none in (
+      tt,
+      tt,
+      refills_more eq slab g.met.K.Eq.laws (distinct_keys eq g.met.K.Eq.laws slab c.args.ids.now c.requires.leads) c.in-Some.id entry.0 entry.1 c.next.new.self c.loop-id.ids c.insert.new.self updates.0 old,
       omega (arith, fits, c.insert.ensures.spare),
-      omega (arith, len, c.insert.ensures.spare, c.loop-id.invariant.4))
+      omega (arith, len, c.insert.ensures.spare, c.loop-id.invariant.4),
+    )

@@ -15,6 +15,8 @@ returns c =
     let a = c.self.inside.lists in
     let b = c.remove_crossing.new.self in
     let e = c.remove_crossing.ensures in
-    record { after =
-      subst (λ v. arena_of b c.self.inside.written ≡ record v { crossings = remove v.crossings c.args.crossing; spare_crossings = v.spare_crossings + 1 }) c.self.view_is
-      (after_remove_crossing a b c.self.inside.written e.lines e.line_count e.line_room e.room e.places c.args.crossing e.removed e.count e.fits) }
+    record {
+      after =
+          subst (λ v. arena_of b c.self.inside.written ≡ record v { crossings = remove v.crossings c.args.crossing; spare_crossings = v.spare_crossings + 1 }) c.self.view_is
+          (after_remove_crossing a b c.self.inside.written e.lines e.line_count e.line_room e.room e.places c.args.crossing e.removed e.count e.fits);
+    }

@@ -21,6 +21,8 @@ returns c =
     let a = c.self.inside.lists in
     let b = c.remove_line.new.self in
     let e = c.remove_line.ensures in
-    record { after =
-      subst (λ v. arena_of b c.self.inside.written ≡ record v { lines = remove v.lines c.args.line; spare_lines = v.spare_lines + 1 }) c.self.view_is
-      (after_remove_line a b c.self.inside.written c.args.line e.removed e.crossings e.count e.fits e.room) }
+    record {
+      after =
+          subst (λ v. arena_of b c.self.inside.written ≡ record v { lines = remove v.lines c.args.line; spare_lines = v.spare_lines + 1 }) c.self.view_is
+          (after_remove_line a b c.self.inside.written c.args.line e.removed e.crossings e.count e.fits e.room);
+    }

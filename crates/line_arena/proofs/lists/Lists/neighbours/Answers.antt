@@ -26,6 +26,6 @@ returns-else-starts_nearer-clause-on c =
     let back = c.first_past-back.result in
     let found = subst (λ e. IsNext (Stands (spot_at a) c.args.line e) (Some (reach e p)) back) c.opposite-else-starts_nearer.ensures c.first_past-back.ensures in
     let on = across a c.args.line (opposite d) (runs_back a c.args.line d c.requires.runs) c.requires.lists p
-        (free_back a c.args.line d c.requires.runs c.requires.lists p c.requires.free) back found in
+    (free_back a c.args.line d c.requires.runs c.requires.lists p c.requires.free) back found in
     subst (IsNext (Stands (spot_at a) c.args.line d) (Some (reach d p))) (sym c.next-on.ensures)
     (subst (λ e. IsNext (Stands (spot_at a) c.args.line e) (Some (reach e p)) (link a c.args.line back e)) (opposite-twice d) on)

@@ -35,7 +35,7 @@ link_all-requires-clause-knows c =
     let new = new_point (line_at a) (spot_at a) c.requires.lists.sound (spot_of e) c.meeting_point-point.ensures c.requires.new_pair in
     subst (KnowsNeighbours b) (sym c.new-crossing.ensures)
     (knows_with a b c.insert.result e c.requires.lists c.meeting_point-point.ensures gone new refl c.insert.ensures.updates
-      (elim [ East ↦ c.neighbours-west.ensures.on | South ↦ c.neighbours-north.ensures.on | West ↦ c.neighbours-west.ensures.back | North ↦ c.neighbours-north.ensures.back ]))
+    (elim [ East ↦ c.neighbours-west.ensures.on | South ↦ c.neighbours-north.ensures.on | West ↦ c.neighbours-west.ensures.back | North ↦ c.neighbours-north.ensures.back ]))
 
 pub link_all-requires-clause-others : goal.link_all-requires-clause-others
 link_all-requires-clause-others c =
