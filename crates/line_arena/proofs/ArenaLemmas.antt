@@ -4,7 +4,6 @@ use Rattle.std.specs.Prelude.{◌↔◌, IsSome, IsNone, IfSome, option_and_then
 use Rattle.std.specs.Option.{option_map}
 use Rattle.std.proofs.lemmas.Bool.{cases_eq}
 use Rattle.std.specs.FinMap as fin
-use Rattle.std.proofs.lemmas.Int.{ints}
 use Rattle.slab.specs.Slab.{get, slab_len}
 use Rattle.plane_geom.specs.declared.point.Point.{Point}
 use Rattle.plane_geom.specs.declared.point.Dir.{Dir}
@@ -14,13 +13,13 @@ use Rattle.plane_geom.specs.declared.point.Way.TheVariants.{Vertical, Horizontal
 use Rattle.plane_geom.specs.declared.floor.Line.{Line}
 use Rattle.plane_geom.specs.Floor.{Holds}
 use Rattle.line_arena.specs.declared.lists.Lists.{Lists}
-use Rattle.line_arena.specs.Along.{IsFurther, reach, rising, way_of}
+use Rattle.line_arena.specs.Along.{reach, rising, way_of}
 use Rattle.line_arena.specs.Arena as seen
 use Rattle.line_arena.specs.Arena.{Arena, counted, IsArena, IsFirst, IsNearest, IsOn, LiesFurther, Meet, Pair, StandsAt}
-use Rattle.line_arena.specs.Lists.{AreLinked, AreLists, AreMet, IsNext, IsSound, IsPut, IsSpot, Spot, Stands, UpdatesAt, line_along, line_at, link, spot_at, spot_of}
+use Rattle.line_arena.specs.Lists.{AreLinked, AreLists, AreMet, IsNext, IsSound, Spot, Stands, UpdatesAt, line_along, line_at, spot_at, spot_of}
 use Rattle.line_arena.specs.View.{arena_of, pair_of, seen as map_of, spare_of}
 use Rattle.line_arena.proofs.Seen.{get-seen, seen_insert, seen_remove, seen_same}
-use Rattle.line_arena.proofs.Put.{apart_of_sound, held, one_place, same_pair, some_of, spot_line}
+use Rattle.line_arena.proofs.Put.{apart_of_sound, held, some_of}
 use Rattle.line_arena.proofs.Nearest.{int_apart}
 use Rattle.line_arena.proofs.Linked.{same_spot}
 use Rattle.line_arena.specs.Keyed.{entry_at}

@@ -1,5 +1,5 @@
 -- The lines and crossings of the grid of the tests.
-use Rattle.std.proofs.Common.{◌≡◌, ◌≢◌, ◌⊎◌, ℕ, ◌<◌, ◌≤◌, ℤ, pos, ◌<ℤ◌, ◌≤ℤ◌, Option, Some, None, cond, inl, inr, refl, sym, ap, subst, ◌∙◌, arith}
+use Rattle.std.proofs.Common.{◌≡◌, ◌⊎◌, ℕ, ◌<◌, pos, ◌<ℤ◌, Option, Some, None, cond, inl, inr, refl, sym, ap, ◌∙◌, arith}
 use Rattle.std.proofs.lemmas.Int.{ints}
 use Rattle.std.proofs.lemmas.Bool.{cases_Bool}
 use Rattle.std.proofs.lemmas.Cmp.{nat_cmp_total}
@@ -8,8 +8,8 @@ use Rattle.std.specs.FinMap.{FinMap, empty, get, insert, get-empty, get-insert}
 use Rattle.plane_geom.specs.declared.point.Point.{Point}
 use Rattle.plane_geom.specs.declared.point.Way.TheVariants.{Vertical, Horizontal}
 use Rattle.plane_geom.specs.declared.floor.Line.{Line}
-use Rattle.plane_geom.specs.Floor.{AreOnOneWholeLine, Holds}
-use Rattle.line_arena.specs.Arena.{Arena, Meet, Pair, StandsAt}
+use Rattle.plane_geom.specs.Floor.{AreOnOneWholeLine}
+use Rattle.line_arena.specs.Arena.{Arena, Meet, StandsAt}
 use Rattle.line_arena.specs.TestGrid.{grid_line_of, grid_point_of}
 
 some_line : (x y : Line) → ◌≡◌ {A = Option Line} (Some x) (Some y) → x ≡ y

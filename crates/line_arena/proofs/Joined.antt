@@ -1,5 +1,5 @@
 -- A crossing is put into the list of its line in a direction, or taken out of it.
-use Rattle.std.proofs.Common.{◌≡◌, ◌≢◌, ◌⊎◌, ℕ, ℤ, ◌<ℤ◌, ◌≤ℤ◌, Option, Some, None, inl, inr, refl, sym, ap, subst, ◌∙◌, arith}
+use Rattle.std.proofs.Common.{◌≡◌, ◌≢◌, ◌⊎◌, ℕ, ℤ, ◌<ℤ◌, Option, Some, None, inl, inr, refl, sym, ap, subst, ◌∙◌, arith}
 use Rattle.std.proofs.lemmas.Int.{ints}
 use Rattle.std.proofs.lemmas.Bool.{cases_eq}
 use Rattle.std.specs.Prelude.{option_and_then}
@@ -77,12 +77,6 @@ module _ (S : ℕ → Option Spot) (k : ℕ) (d : Dir) (spot : Spot) (is : S k �
         before.2,
       )
 
-  -- and a list that does not begin with the crossing begins before it
-  nearer_start : (prev : Option ℕ) → IsPrevious Others (reach d spot.point) prev → prev ≢ None
-      → (q : ℕ) × (y : ℤ) × Others q y × (y <ℤ reach d spot.point)
-  nearer_start None before ne = absurd (ne refl)
-  nearer_start (Some q) before ne = (q, before.0, before.1, before.2)
-
   -- with the crossing, what has a nearer one keeps it
   put_other : (from : Option ℤ) → (IsPast from (reach d spot.point) → (q : ℕ) × (y : ℤ) × Others q y × IsPast from y × (y <ℤ reach d spot.point))
       → (answer : Option ℕ) → IsNext Others from answer → IsNext All from answer
@@ -150,9 +144,6 @@ module _ (a b : Lists) (k : ℕ) (d : Dir) (knows : KnowsNeighbours a k) where
 
   abbrev pub prev : Option ℕ
   prev = link a l (Some k) (opposite d)
-
-  at : ℤ
-  at = reach d knows.spot.point
 
   -- the neighbour against the direction is the nearest before
   before : IsPrevious (Stands T l d) (reach d knows.spot.point) prev

@@ -1,10 +1,10 @@
 -- What stays while the crossing is put into the lists of the other directions.
-use Rattle.std.proofs.Common.{◌≡◌, ◌≢◌, ℕ, Option, Some, None, sym, ap, subst, ◌∙◌}
+use Rattle.std.proofs.Common.{◌≢◌, ℕ, Option, Some, None, sym, subst, ◌∙◌}
 use Rattle.plane_geom.specs.declared.point.Dir.{Dir}
 use Rattle.plane_geom.specs.declared.point.Dir.TheVariants.{East, South, West, North}
 use Rattle.line_arena.specs.declared.lists.Lists.{Lists}
-use Rattle.line_arena.specs.Along.{reach, way_of}
-use Rattle.line_arena.specs.Lists.{AreApart, AreLinked, IsNext, KnowsNeighbours, SameDirection, SameLinks, SamePlaces, Spot, Stands, line_along, line_at, link, spot_at, without}
+use Rattle.line_arena.specs.Along.{reach}
+use Rattle.line_arena.specs.Lists.{AreApart, AreLinked, IsNext, KnowsNeighbours, SameDirection, SameLinks, SamePlaces, Spot, Stands, line_along, link, spot_at, without}
 use Rattle.line_arena.proofs.Joined.{spots_are}
 
 pub East≢South : East ≢ South
@@ -67,15 +67,3 @@ module _ (a b : Lists) (same : SamePlaces a b) where
             (subst (λ S. IsNext (Stands (without k S) (line_along d h.spot) d) (Some (reach d h.spot.point)) (link a (line_along d h.spot) (Some k) d)) spots (h.next d));
         apart = λ d. subst (λ S. AreApart S d) spots (h.apart d);
       }
-
--- of three states, the last has what the first has
-pub places_through : (a b c : Lists) → SamePlaces a b → SamePlaces b c → SamePlaces a c
-places_through a b c p q = record {
-  lines = λ l. q.lines l ∙ p.lines l;
-  spots = λ i. q.spots i ∙ p.spots i;
-  line_count = q.line_count ∙ p.line_count;
-  crossing_count = q.crossing_count ∙ p.crossing_count;
-  line_room = q.line_room ∙ p.line_room;
-  crossing_room = q.crossing_room ∙ p.crossing_room;
-  places = q.places ∙ p.places;
-}

@@ -1,16 +1,14 @@
 -- The lists of the lines, as a crossing is put into them or taken out.
-use Rattle.std.proofs.Common.{◌≡◌, ◌≢◌, ◌⊎◌, ◌==◌, ℕ, ℤ, pos, ◌<ℤ◌, ◌≤ℤ◌, ◌-ℤ◌, Option, Some, None, cond, eqb, inl, inr, refl, sym, ap, subst, ◌∙◌, arith}
+use Rattle.std.proofs.Common.{◌≡◌, ◌≢◌, ◌⊎◌, ℕ, ℤ, pos, ◌<ℤ◌, ◌≤ℤ◌, ◌-ℤ◌, Option, Some, None, inl, inr, refl, sym, ap, subst, ◌∙◌, arith}
 use Rattle.std.proofs.lemmas.Int.{ints}
 use Rattle.std.proofs.lemmas.Bool.{cases_eq}
 use Rattle.plane_geom.specs.declared.point.Point.{Point}
 use Rattle.plane_geom.specs.declared.point.Dir.{Dir}
 use Rattle.plane_geom.specs.declared.point.Dir.TheVariants.{East, South, West, North}
-use Rattle.plane_geom.specs.declared.floor.Line.{Line}
 use Rattle.plane_geom.specs.Point.{opposite}
-use Rattle.line_arena.specs.declared.lists.Lists.{Lists}
-use Rattle.line_arena.specs.Along.{reach, way_of}
-use Rattle.line_arena.specs.Lists.{AreApart, AreLinked, IsNext, IsPast, KnowsNeighbours, Relinks, Spot, Stands, line_along, line_at, link, spot_at, without}
-use Rattle.line_arena.proofs.Nearest.{IsPrevious, int_apart, next_after_removal, next_is, next_is_put, next_kept_at_put, next_kept_at_removal, next_same}
+use Rattle.line_arena.specs.Along.{reach}
+use Rattle.line_arena.specs.Lists.{AreApart, IsNext, Spot, Stands, line_along, without}
+use Rattle.line_arena.proofs.Nearest.{IsPrevious}
 
 pub reach-opposite : (d : Dir) (p : Point) → reach (opposite d) p ≡ (pos 0 -ℤ reach d p)
 reach-opposite East p = refl

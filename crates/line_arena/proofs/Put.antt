@@ -1,5 +1,5 @@
 -- Lines and crossings that are put in or taken out.
-use Rattle.std.proofs.Common.{◌≡◌, ◌≢◌, ◌⊎◌, ℕ, ℤ, pos, ◌-ℤ◌, ◌<ℤ◌, ◌≤ℤ◌, Option, Some, None, inl, inr, refl, sym, ap, subst, ◌∙◌, arith}
+use Rattle.std.proofs.Common.{◌≡◌, ◌≢◌, ℕ, ℤ, pos, ◌-ℤ◌, ◌<ℤ◌, ◌≤ℤ◌, Option, Some, None, inl, inr, refl, sym, ap, subst, ◌∙◌, arith}
 use Rattle.std.proofs.lemmas.Int.{ints}
 use Rattle.std.proofs.lemmas.Bool.{cases_eq}
 use Rattle.std.specs.Prelude.{option_and_then}
@@ -11,14 +11,13 @@ use Rattle.plane_geom.specs.declared.point.Dir.TheVariants.{East, South, West, N
 use Rattle.plane_geom.specs.declared.point.Way.{Way}
 use Rattle.plane_geom.specs.declared.point.Way.TheVariants.{Vertical, Horizontal}
 use Rattle.plane_geom.specs.declared.floor.Line.{Line}
-use Rattle.plane_geom.specs.Floor.{AreOnOneWholeLine, Holds, point_on}
+use Rattle.plane_geom.specs.Floor.{Holds, point_on}
 use Rattle.line_arena.specs.declared.lists.Lists.{Lists}
-use Rattle.line_arena.specs.declared.node.Ends.{Ends}
 use Rattle.line_arena.specs.declared.node.Node.{Node}
 use Rattle.line_arena.specs.Keyed.{entry_at}
 use Rattle.line_arena.specs.Node.{next_of, start_of}
 use Rattle.line_arena.specs.Along.{reach, way_of}
-use Rattle.line_arena.specs.Lists.{AreApart, AreLinked, AreLists, AreMet, IsApart, IsNext, IsSound, IsSpot, KnowsNeighbours, RunsAlong, SamePlaces, Spot, Stands, UpdatesAt, line_along, line_at, link, spot_at, spot_of, without}
+use Rattle.line_arena.specs.Lists.{AreApart, AreLinked, AreLists, AreMet, IsApart, IsNext, IsSound, IsSpot, KnowsNeighbours, SamePlaces, Spot, Stands, UpdatesAt, line_along, line_at, link, spot_at, spot_of, without}
 use Rattle.line_arena.proofs.Nearest.{next_kept_at_removal}
 use Rattle.line_arena.proofs.Linked.{kept_in, kept_out, own_place, same_spot, without_itself, without_other, without_some}
 use Rattle.line_arena.proofs.Joined.{spots_are}
@@ -199,17 +198,11 @@ pub some_of : {X : Type 0} (o : Option X) → o ≢ None → (x : X) × (o ≡ S
 some_of None h = absurd (h refl)
 some_of (Some x) h = (x, refl)
 
--- what the slab's update is to the spots, and to the lines
+-- what the update of the slab is to the spots
 pub spots_update : (a b : Lists) (k : ℕ) (e : Option (Point × Node)) → Updates a.crossings.slab b.crossings.slab k e → UpdatesAt (spot_at a) (spot_at b) k (option_map spot_of e)
 spots_update a b k e updates = record {
   changed = ap (option_map spot_of) updates.changed;
   others = λ c ne. ap (option_map spot_of) (updates.others c ne);
-}
-
-pub lines_update : (a b : Lists) (k : ℕ) (e : Option (Line × Ends)) → Updates a.lines.slab b.lines.slab k e → UpdatesAt (line_at a) (line_at b) k (option_map (λ x. x.0) e)
-lines_update a b k e updates = record {
-  changed = ap (option_map (λ x. x.0)) updates.changed;
-  others = λ c ne. ap (option_map (λ x. x.0)) (updates.others c ne);
 }
 
 pub nexts_update : (a b : Lists) (k : ℕ) (e : Option (Point × Node)) → Updates a.crossings.slab b.crossings.slab k e

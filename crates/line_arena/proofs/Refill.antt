@@ -101,15 +101,6 @@ module _ {K V S : Type 0} (eq : K → K → Bool) (slab : Slab (K × V)) where
         rise = h.rise.1;
       }
 
-  pub leads_at_end : (ids : IndexMap K ℕ S) → Refills [] ids → Lead eq slab ids
-  leads_at_end ids h = record {
-    at = λ id e is.
-        elim (h.done id e is) [
-          | inl none ↦ absurd (omega (arith, none.1))
-          | inr led ↦ led
-        ];
-  }
-
 -- the value of a call that succeeds
 pub ok_value : {T E : Type 0} (r : Result T E) → IsOk r → (x : T) × (r ≡ Ok x)
 ok_value (Ok x) h = (x, refl)

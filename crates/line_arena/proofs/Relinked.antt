@@ -1,5 +1,5 @@
 -- One link is set.
-use Rattle.std.proofs.Common.{◌≡◌, ◌≢◌, ℕ, Option, Some, None, inl, inr, refl, sym, ap, subst, ◌∙◌}
+use Rattle.std.proofs.Common.{◌≡◌, ◌≢◌, ℕ, Option, Some, None, inl, inr, refl, sym, ap, ◌∙◌}
 use Rattle.std.specs.Prelude.{option_and_then}
 use Rattle.std.specs.Option.{option_map}
 use Rattle.std.proofs.lemmas.Bool.{cases_eq}
@@ -14,7 +14,7 @@ use Rattle.line_arena.specs.declared.node.Node.{Node}
 use Rattle.line_arena.specs.Along.{way_of}
 use Rattle.line_arena.specs.Keyed.{Keyed, entry_at}
 use Rattle.line_arena.specs.Node.{next_of, start_of, with_next, with_start}
-use Rattle.line_arena.specs.Lists.{Relinks, RunsAlong, line_at, link, spot_at, spot_of}
+use Rattle.line_arena.specs.Lists.{Relinks, RunsAlong, line_at, link, spot_of}
 
 start_of-same : (d : Dir) (to : Option ℕ) (e : Ends) → start_of d (with_start d to e) ≡ to
 start_of-same East to e = refl

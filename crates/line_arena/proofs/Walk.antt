@@ -1,5 +1,5 @@
 -- A walk along a line, to the nearest crossing past a point.
-use Rattle.std.proofs.Common.{◌≡◌, ◌≢◌, ◌⊎◌, ℕ, ◌+◌, ◌<◌, ℤ, pos, negsuc, ◌<ℤ◌, ◌≤ℤ◌, ◌-ℤ◌, Option, Some, None, inl, inr, refl, sym, ap, subst, ◌∙◌, arith}
+use Rattle.std.proofs.Common.{◌≡◌, ◌≢◌, ℕ, ◌+◌, ◌<◌, ℤ, pos, negsuc, ◌<ℤ◌, ◌≤ℤ◌, ◌-ℤ◌, Option, Some, None, refl, sym, ap, subst, ◌∙◌, arith}
 use Rattle.std.specs.Prelude.{option_and_then}
 use Rattle.std.specs.Option.{option_map}
 use Rattle.std.proofs.lemmas.Int.{ints}
@@ -13,7 +13,7 @@ use Rattle.line_arena.specs.declared.node.Node.{Node}
 use Rattle.line_arena.specs.Along.{IsFurther, reach, way_of}
 use Rattle.line_arena.specs.Keyed.{entry_at}
 use Rattle.line_arena.specs.Node.{next_of}
-use Rattle.line_arena.specs.Lists.{AreLinked, AreLists, IsNext, IsPast, RunsAlong, Spot, Stands, line_along, link, spot_at, spot_of}
+use Rattle.line_arena.specs.Lists.{AreLists, IsNext, IsPast, RunsAlong, Spot, Stands, link, spot_at, spot_of}
 use Rattle.line_arena.proofs.Nearest.{int_apart, next_from_previous, not_below, past_further}
 use Rattle.line_arena.proofs.Linked.{reach-opposite, same_spot, turned, turned_back}
 

@@ -1,5 +1,5 @@
 -- Values under ids, each found by its key.
-use Rattle.std.specs.Prelude.{◌≡◌, ℕ, ◌+◌, ◌<◌, ◌≤◌, Bool, true, Option, Some, refl}
+use Rattle.std.specs.Prelude.{◌≡◌, ℕ, ◌+◌, ◌<◌, ◌≤◌, Bool, Option, Some, refl}
 use Rattle.std.specs.Coded.{Coded, code_by, coded×, coded_ℕ}
 use Rattle.slab.specs.Slab.{Slab, get, slab_len, slab_code}
 use Rattle.indexmap.specs.IndexMap.{IndexMap, index_map_len, spare}

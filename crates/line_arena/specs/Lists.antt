@@ -5,15 +5,13 @@ use Rattle.slab.specs.Slab.{slab_len}
 use Rattle.plane_geom.specs.declared.point.Point.{Point}
 use Rattle.plane_geom.specs.declared.point.Dir.{Dir}
 use Rattle.plane_geom.specs.declared.point.Dir.TheVariants.{East, South, West, North}
-use Rattle.plane_geom.specs.declared.point.Way.{Way}
 use Rattle.plane_geom.specs.declared.point.Way.TheVariants.{Vertical, Horizontal}
 use Rattle.plane_geom.specs.declared.floor.Line.{Line}
-use Rattle.plane_geom.specs.Point.{opposite}
 use Rattle.plane_geom.specs.Floor.{AreOnOneWholeLine, Holds}
 use Rattle.line_arena.specs.declared.lists.Lists.{Lists}
 use Rattle.line_arena.specs.declared.node.Node.{Node}
 use Rattle.line_arena.specs.Along.{reach, way_of}
-use Rattle.line_arena.specs.Keyed.{Keyed, entry_at}
+use Rattle.line_arena.specs.Keyed.{entry_at}
 use Rattle.line_arena.specs.Node.{next_of, start_of}
 
 -- where a crossing stands

@@ -1,12 +1,10 @@
 -- How the fields of an arena are seen.
-use Rattle.std.specs.Prelude.{ℕ, ◌-◌, List, map}
+use Rattle.std.specs.Prelude.{ℕ, ◌-◌, map}
 use Rattle.std.specs.Ordering.{nat_cmp}
 use Rattle.std.specs.FinMap.{FinMap, from_entries}
 use Rattle.slab.specs.Slab.{Slab, entries, slab_len}
 use Rattle.plane_geom.specs.declared.point.Point.{Point}
-use Rattle.plane_geom.specs.declared.floor.Line.{Line}
 use Rattle.line_arena.specs.declared.lists.Lists.{Lists}
-use Rattle.line_arena.specs.declared.node.Ends.{Ends}
 use Rattle.line_arena.specs.declared.node.Node.{Node}
 use Rattle.line_arena.specs.Arena.{Arena, Pair}
 use Rattle.line_arena.specs.Keyed.{Keyed}

@@ -1,7 +1,5 @@
-use Rattle.std.proofs.Common.{◌≡◌, ◌+◌, ◌<◌, ◌≤◌, ◌∷◌, [], Option, None, Some, cond, is_some, length, refl, ap, sym, ◌∙◌, arith}
+use Rattle.std.proofs.Common.{length, refl, ap, ◌∙◌, arith}
 use Rattle.std.proofs.lemmas.Result.{IfOk-at_ok}
-use Rattle.indexmap.specs.IndexMap.{index_map_len, spare, get}
-use Rattle.line_arena.specs.Keyed.{capacity_of}
 use Rattle.line_arena.proofs.Refill.{distinct_keys, ok_value, on_ok, one_more, refills_more, refills_none}
 use Rattle.line_arena.proofs.keyed.make_room.Goals as goal
 

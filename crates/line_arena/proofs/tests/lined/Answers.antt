@@ -1,7 +1,6 @@
-use Rattle.std.proofs.Common.{◌≡◌, ◌+◌, ℤ, pos, ◌<ℤ◌, inl, inr, sym, ap, subst, ◌∙◌, arith}
+use Rattle.std.proofs.Common.{◌+◌, pos, ◌<ℤ◌, inl, inr, sym, ap, subst, ◌∙◌, arith}
 use Rattle.std.proofs.lemmas.Int.{ints}
-use Rattle.std.specs.FinMap.{get, insert}
-use Rattle.plane_geom.specs.declared.point.Way.TheVariants.{Vertical, Horizontal}
+use Rattle.std.specs.FinMap.{get}
 use Rattle.plane_geom.specs.Floor.{AreOnOneWholeLine}
 use Rattle.line_arena.proofs.GridLines.{in_empty, in_insert, not_before, other_ways}
 use Rattle.line_arena.proofs.tests.lined.Goals as goal

@@ -1,7 +1,6 @@
-use Rattle.std.proofs.Common.{◌≡◌, ◌∙◌, ℕ, Some, ap, refl, sym, subst}
-use Rattle.std.specs.Prelude.{IfSome, IsNone, is_some}
+use Rattle.std.proofs.Common.{◌≡◌, ◌∙◌, Some, ap, sym, subst}
+use Rattle.std.specs.Prelude.{IfSome, is_some}
 use Rattle.std.specs.FinMap.{get}
-use Rattle.plane_geom.specs.declared.point.Way.TheVariants.{Vertical, Horizontal}
 use Rattle.line_arena.specs.Arena.{StandsAt}
 use Rattle.line_arena.proofs.GridLines.{meet_grid, new_grid, stands_same}
 use Rattle.line_arena.proofs.tests.toggle.Goals as goal

@@ -1,10 +1,10 @@
-use Rattle.std.proofs.Common.{◌≡◌, ◌≢◌, ◌∙◌, ℕ, Option, None, Some, ap, sym, subst}
+use Rattle.std.proofs.Common.{◌≡◌, ◌≢◌, ◌∙◌, None, Some, ap, sym, subst}
 use Rattle.std.specs.Prelude.{option_and_then}
 use Rattle.std.specs.Option.{option_map}
 use Rattle.line_arena.specs.Along.{rising}
 use Rattle.line_arena.specs.Keyed.{entry_at}
 use Rattle.line_arena.specs.Node.{start_of}
-use Rattle.line_arena.specs.Lists.{IsNext, Stands, line_at, spot_at}
+use Rattle.line_arena.specs.Lists.{IsNext, Stands, spot_at}
 use Rattle.line_arena.proofs.ArenaLemmas.{first_seen, is_arena, live_line, no_first_seen, rising_way, start_rising}
 use Rattle.line_arena.proofs.Walk.{line_live}
 use Rattle.line_arena.proofs.arena.LineArena.first_on_line.Goals as goal

@@ -1,9 +1,7 @@
-use Rattle.std.proofs.Common.{◌≡◌, ◌∙◌, None, Some, ap, refl, sym, subst}
+use Rattle.std.proofs.Common.{◌≡◌, ◌∙◌, Some, ap, refl, sym, subst}
 use Rattle.std.specs.Option.{option_map}
-use Rattle.line_arena.specs.Arena.{StandsAt}
-use Rattle.line_arena.specs.Keyed.{entry_at}
-use Rattle.line_arena.specs.Lists.{line_at, spot_at, spot_of}
-use Rattle.line_arena.proofs.ArenaLemmas.{entry_line, entry_spot, is_arena, line_in, spot_standing, stands_at}
+use Rattle.line_arena.specs.Lists.{line_at}
+use Rattle.line_arena.proofs.ArenaLemmas.{entry_line, is_arena, line_in}
 use Rattle.line_arena.proofs.arena.LineArena.line_at.Goals as goal
 
 pub returns-in_err-place-clause-absent : goal.returns-in_err-place-clause-absent

@@ -1,4 +1,4 @@
-use Rattle.std.proofs.Common.{◌≡◌, ◌∙◌, ◌-◌, sym, subst, rules}
+use Rattle.std.proofs.Common.{◌≡◌, ◌∙◌, ◌-◌, subst, rules}
 use Rattle.std.specs.FinMap.{insert}
 use Rattle.line_arena.specs.Arena.{counted}
 use Rattle.line_arena.specs.View.{arena_of}

@@ -1,4 +1,4 @@
-use Rattle.std.proofs.Common.{◌≡◌, ◌∙◌, None, Some, sym, ap, subst}
+use Rattle.std.proofs.Common.{◌≡◌, ◌∙◌, Some, sym, ap, subst}
 use Rattle.slab.specs.Slab.{get}
 use Rattle.line_arena.proofs.Refill.{absent_key, apart_from_false, stale_key}
 use Rattle.line_arena.proofs.keyed.KeyedSlab.find.Goals as goal

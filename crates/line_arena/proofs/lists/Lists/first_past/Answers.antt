@@ -1,5 +1,4 @@
-use Rattle.std.proofs.Common.{◌≡◌, ◌<◌, true, false, None, Some, subst, sym, ap, ◌∙◌}
-use Rattle.std.specs.Prelude.{IsTrue}
+use Rattle.std.proofs.Common.{◌≡◌, ◌<◌, Some, subst, sym}
 use Rattle.line_arena.specs.Along.{IsFurther}
 use Rattle.line_arena.specs.Keyed.{entry_at}
 use Rattle.line_arena.proofs.Walk.{IsComing, before_point, coming_first, coming_more, coming_next, found, found_none, left_at, left_falls, read_next}

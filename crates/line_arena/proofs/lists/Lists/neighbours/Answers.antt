@@ -1,4 +1,4 @@
-use Rattle.std.proofs.Common.{◌≡◌, ◌∙◌, ℕ, Some, ap, sym, subst}
+use Rattle.std.proofs.Common.{◌∙◌, ℕ, Some, ap, sym, subst}
 use Rattle.plane_geom.specs.Point.{opposite}
 use Rattle.line_arena.specs.Along.{reach}
 use Rattle.line_arena.specs.Lists.{IsNext, Stands, link, spot_at}

@@ -1,12 +1,11 @@
-use Rattle.std.proofs.Common.{◌≡◌, ◌≢◌, ◌∙◌, ℕ, Some, None, ap, refl, sym, subst}
+use Rattle.std.proofs.Common.{ap, refl, sym, subst}
 use Rattle.std.specs.Option.{option_map}
-use Rattle.slab.specs.Slab.{Updates, get}
 use Rattle.plane_geom.specs.declared.point.Point.{Point}
 use Rattle.plane_geom.specs.declared.point.Dir.{Dir}
 use Rattle.plane_geom.specs.declared.point.Dir.TheVariants.{East, South, West, North}
 use Rattle.line_arena.specs.declared.lists.Lists.{Lists}
 use Rattle.line_arena.specs.declared.node.Node.{Node}
-use Rattle.line_arena.specs.Lists.{AreLinked, AreLists, KnowsNeighbours, line_at, spot_at, spot_of, without}
+use Rattle.line_arena.specs.Lists.{AreLinked, KnowsNeighbours, line_at, spot_at, spot_of, without}
 use Rattle.line_arena.proofs.Put.{free_at, knows_with, linked_with, new_point, sound_same, sound_with}
 use Rattle.line_arena.proofs.lists.Lists.put_crossing.Goals as goal
 

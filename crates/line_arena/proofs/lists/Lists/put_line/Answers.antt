@@ -1,6 +1,5 @@
-use Rattle.std.proofs.Common.{◌≡◌, ◌∙◌, Some, None, ap, refl, sym, subst}
+use Rattle.std.proofs.Common.{◌∙◌, Some, ap, refl}
 use Rattle.std.specs.Option.{option_map}
-use Rattle.line_arena.specs.Lists.{line_at}
 use Rattle.line_arena.proofs.Put.{first_held, lists_with_line}
 use Rattle.line_arena.proofs.lists.Lists.put_line.Goals as goal
 

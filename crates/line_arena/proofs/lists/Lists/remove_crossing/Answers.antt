@@ -1,4 +1,4 @@
-use Rattle.std.proofs.Common.{◌∙◌, None, refl, sym, subst}
+use Rattle.std.proofs.Common.{None, refl, subst}
 use Rattle.slab.specs.Slab.{Updates}
 use Rattle.line_arena.specs.Lists.{spot_at}
 use Rattle.line_arena.proofs.Put.{knows_linked, lists_without, nexts_update, some_of, sound_same, spots_update}

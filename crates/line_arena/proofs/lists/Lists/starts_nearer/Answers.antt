@@ -1,4 +1,4 @@
-use Rattle.std.proofs.Common.{◌≡◌, ◌≢◌, ◌∙◌, None, Some, ap, sym, subst}
+use Rattle.std.proofs.Common.{◌≢◌, ◌∙◌, None, ap, sym, subst}
 use Rattle.plane_geom.specs.Point.{opposite}
 use Rattle.line_arena.specs.Keyed.{entry_at}
 use Rattle.line_arena.specs.Lists.{link}

@@ -1,6 +1,5 @@
-use Rattle.std.proofs.Common.{◌≡◌}
 use Rattle.plane_geom.specs.declared.point.Dir.TheVariants.{East, South, West, North}
-use Rattle.line_arena.specs.Lists.{AreLinked, KnowsNeighbours, spot_at, without}
+use Rattle.line_arena.specs.Lists.{without}
 use Rattle.line_arena.proofs.Kept.{East≢South, East≢West, East≢North, South≢East, South≢West, South≢North, West≢East, West≢South, West≢North, North≢East, North≢South, North≢West, knows_kept, linked_kept}
 use Rattle.line_arena.proofs.lists.Lists.unlink_all.Goals as goal
 
