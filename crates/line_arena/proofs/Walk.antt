@@ -1,0 +1,180 @@
+-- A walk along a line, to the nearest crossing past a point.
+use Rattle.std.proofs.Common.{◌≡◌, ◌≢◌, ℕ, ◌+◌, ◌<◌, ℤ, pos, negsuc, ◌<ℤ◌, ◌≤ℤ◌, ◌-ℤ◌, Option, Some, None, refl, sym, ap, subst, ◌∙◌, arith}
+use Rattle.std.specs.Prelude.{option_and_then}
+use Rattle.std.specs.Option.{option_map}
+use Rattle.std.proofs.lemmas.Int.{ints}
+use Rattle.plane_geom.specs.declared.point.Point.{Point}
+use Rattle.plane_geom.specs.declared.point.Dir.{Dir}
+use Rattle.plane_geom.specs.declared.point.Dir.TheVariants.{East, South, West, North}
+use Rattle.plane_geom.specs.declared.floor.Line.{Line}
+use Rattle.plane_geom.specs.Point.{opposite}
+use Rattle.line_arena.specs.declared.lists.Lists.{Lists}
+use Rattle.line_arena.specs.declared.node.Node.{Node}
+use Rattle.line_arena.specs.Along.{IsFurther, reach, way_of}
+use Rattle.line_arena.specs.Keyed.{entry_at}
+use Rattle.line_arena.specs.Node.{next_of}
+use Rattle.line_arena.specs.Lists.{AreLists, IsNext, IsPast, RunsAlong, Spot, Stands, link, spot_at, spot_of}
+use Rattle.line_arena.proofs.Nearest.{int_apart, next_from_previous, not_below, past_further}
+use Rattle.line_arena.proofs.Linked.{reach-opposite, same_spot, turned, turned_back}
+
+none_some_spot : (s : Spot) → None ≡ Some s → ⊥
+none_some_spot s e = cc
+
+-- what stands somewhere is there
+pub stands_live : (a : Lists) (l : ℕ) (d : Dir) (c : ℕ) (z : ℤ) → Stands (spot_at a) l d c z → entry_at a.crossings c ≢ None
+stands_live a l d c z h none = none_some_spot h.spot (sym (ap (option_map spot_of) none) ∙ h.is)
+
+pub read_next : (a : Lists) (l c : ℕ) (d : Dir) (e : Point × Node) → entry_at a.crossings c ≡ Some e → (p : Option ℕ) → p ≡ next_of d e.1 → p ≡ link a l (Some c) d
+read_next a l c d e is p read = read ∙ sym (ap (option_and_then (λ x. next_of d x.1)) is)
+
+pub stands_place : (a : Lists) (l : ℕ) (d : Dir) (c : ℕ) (z : ℤ) (e : Point × Node) → entry_at a.crossings c ≡ Some e → Stands (spot_at a) l d c z → reach d e.0 ≡ z
+stands_place a l d c z e is h = ap (λ s. reach d s.point) (same_spot (spot_of e) h.spot (spot_at a c) (ap (option_map spot_of) is) h.is) ∙ h.place
+
+-- the list's crossing is the nearest past some place that lies before the point
+pub record IsComing (a : Lists) (l : ℕ) (d : Dir) (p : Point) (next : Option ℕ) : Type 0 where
+  pub from : Option ℤ
+  pub past : IsPast from (reach d p)
+  pub is_next : IsNext (Stands (spot_at a) l d) from next
+
+module _ (a : Lists) (l : ℕ) (d : Dir) (p : Point) (lists : AreLists a) (runs : RunsAlong a l d)
+    (free : (c : ℕ) → Stands (spot_at a) l d c (reach d p) → ⊥) where
+  pub coming_first : (next : Option ℕ) → next ≡ link a l None d → IsComing a l d p next
+  coming_first next e = record {
+    from = None;
+    past = tt;
+    is_next = subst (IsNext (Stands (spot_at a) l d) None) (sym e) ((lists.linked d).starts l runs.line runs.is runs.way);
+  }
+
+  module _ (c : ℕ) (e : Point × Node) (is : entry_at a.crossings c ≡ Some e) (coming : IsComing a l d p (Some c)) where
+    here : Stands (spot_at a) l d c coming.is_next.0
+    here = coming.is_next.1
+
+    -- a crossing that is not past the point stands before it
+    pub before_point : (IsFurther d p e.0 → ⊥) → reach d e.0 <ℤ reach d p
+    before_point not =
+        int_apart (reach d e.0) (reach d p) (not_below (reach d p) (reach d e.0) not)
+        (λ same. free c (subst (Stands (spot_at a) l d c) (sym (stands_place a l d c _ e is here) ∙ same) here))
+
+    pub coming_next : (next : Option ℕ) → next ≡ link a l (Some c) d → IsNext (Stands (spot_at a) l d) (Some (reach d e.0)) next
+    coming_next next read =
+        let spot = here.spot in
+        let on = subst (λ m. IsNext (Stands (spot_at a) m d) (Some (reach d spot.point)) (link a m (Some c) d)) here.line ((lists.linked d).nexts c spot here.is) in
+        subst (IsNext (Stands (spot_at a) l d) (Some (reach d e.0))) (sym read)
+        (subst (λ z. IsNext (Stands (spot_at a) l d) (Some z) (link a l (Some c) d)) (here.place ∙ sym (stands_place a l d c _ e is here)) on)
+
+    pub coming_more : (IsFurther d p e.0 → ⊥) → (next : Option ℕ) → next ≡ link a l (Some c) d → IsComing a l d p next
+    coming_more not next read = record { from = Some (reach d e.0); past = before_point not; is_next = coming_next next read }
+
+    pub found : IsFurther d p e.0 → IsNext (Stands (spot_at a) l d) (Some (reach d p)) (Some c)
+    found further =
+        let h = coming.is_next in (
+          h.0,
+          h.1,
+          subst (λ z. reach d p <ℤ z) (stands_place a l d c _ e is here) further,
+          λ k z at q. h.3 k z at (past_further coming.from (reach d p) z coming.past (let less : reach d p <ℤ z = q in omega (arith, ints))),
+        )
+
+  pub found_none : IsComing a l d p None → IsNext (Stands (spot_at a) l d) (Some (reach d p)) None
+  found_none coming = λ k z at q.
+      coming.is_next k z at (past_further coming.from (reach d p) z coming.past (let less : reach d p <ℤ z = q in omega (arith, ints)))
+
+-- the number, and 0 for one below 0
+abbrev pub above_zero : ℤ → ℕ
+above_zero (pos n) = n
+above_zero (negsuc n) = 0
+
+-- how far the walk is at most
+abbrev pub walk_left : Dir → Point → Option Spot → ℕ
+walk_left d p None = 0
+walk_left d p (Some s) = above_zero (reach d p -ℤ reach d s.point) + 1
+
+abbrev pub left_at : Lists → Dir → Point → Option ℕ → ℕ
+left_at a d p None = 0
+left_at a d p (Some c) = walk_left d p (spot_at a c)
+
+above_zero-lt : (v w : ℤ) → v <ℤ w → pos 0 <ℤ w → above_zero v < above_zero w
+above_zero-lt (pos m) (pos n) less some = omega (arith, ints)
+above_zero-lt (negsuc m) (pos n) less some = omega (arith, ints)
+above_zero-lt v (negsuc n) less some = absurd (omega (arith, ints))
+
+-- the next one leaves less to walk
+pub left_falls : (a : Lists) (l : ℕ) (d : Dir) (p : Point) (c : ℕ) (e : Point × Node) → entry_at a.crossings c ≡ Some e → reach d e.0 <ℤ reach d p
+    → (next : Option ℕ) → IsNext (Stands (spot_at a) l d) (Some (reach d e.0)) next → left_at a d p next < left_at a d p (Some c)
+left_falls a l d p c e is before None h = subst (λ o. 0 < walk_left d p o) (sym (ap (option_map spot_of) is)) (omega arith)
+left_falls a l d p c e is before (Some n) h =
+    let spot = h.1.spot in
+    let past : reach d e.0 <ℤ h.0 = h.2 in
+    let place = h.1.place in
+    let falls = above_zero-lt (reach d p -ℤ reach d spot.point) (reach d p -ℤ reach d e.0) (omega (arith, ints)) (omega (arith, ints)) in
+    subst (λ o. walk_left d p o < left_at a d p (Some c)) (sym h.1.is)
+    (subst (λ o. walk_left d p (Some spot) < walk_left d p o) (sym (ap (option_map spot_of) is)) (omega (arith, falls)))
+
+pub opposite-twice : (d : Dir) → opposite (opposite d) ≡ d
+opposite-twice East = refl
+opposite-twice South = refl
+opposite-twice West = refl
+opposite-twice North = refl
+
+way_of-opposite : (d : Dir) → way_of (opposite d) ≡ way_of d
+way_of-opposite East = refl
+way_of-opposite South = refl
+way_of-opposite West = refl
+way_of-opposite North = refl
+
+-- what is linked is there
+pub next_live : (At : ℕ → ℤ → Type 0) (Live : ℕ → Type 0) → ((c : ℕ) (z : ℤ) → At c z → Live c) → (from : Option ℤ) (answer : Option ℕ) → IsNext At from answer
+    → (c : ℕ) → answer ≡ Some c → Live c
+next_live At Live live from None h c e = absurd (none_some c e)
+  where
+    none_some : (k : ℕ) → None ≡ Some k → ⊥
+    none_some k e = cc
+next_live At Live live from (Some n) h c e = subst Live (same n c e) (live n h.0 h.1)
+  where
+    same : (i j : ℕ) → Some i ≡ Some j → i ≡ j
+    same i j e = cc
+
+module _ (a : Lists) (l : ℕ) (d : Dir) (runs : RunsAlong a l d) where
+  pub line_live : entry_at a.lines l ≢ None
+  line_live none = none_some_line runs.line (sym (ap (option_map (λ e. e.0)) none) ∙ runs.is)
+    where
+      none_some_line : (s : Line) → None ≡ Some s → ⊥
+      none_some_line s e = cc
+
+  pub runs_back : RunsAlong a l (opposite d)
+  runs_back = record { line = runs.line; is = runs.is; way = runs.way ∙ sym (way_of-opposite d) }
+
+  module _ (lists : AreLists a) where
+    pub start_live : (answer : Option ℕ) → answer ≡ link a l None d → (c : ℕ) → answer ≡ Some c → entry_at a.crossings c ≢ None
+    start_live answer read c e =
+        next_live (Stands (spot_at a) l d) (λ k. entry_at a.crossings k ≢ None) (stands_live a l d) None answer
+        (subst (IsNext (Stands (spot_at a) l d) None) (sym read) ((lists.linked d).starts l runs.line runs.is runs.way)) c e
+
+    module _ (p : Point) (free : (c : ℕ) → Stands (spot_at a) l d c (reach d p) → ⊥) where
+      pub free_back : (c : ℕ) → Stands (spot_at a) l (opposite d) c (reach (opposite d) p) → ⊥
+      free_back c h =
+          let e = reach-opposite d p in
+          let same : (pos 0 -ℤ reach (opposite d) p) ≡ reach d p = omega (arith, ints) in
+          free c (subst (Stands (spot_at a) l d c) same (turned_back (spot_at a) l d c (reach (opposite d) p) h))
+
+      -- the neighbour back of what is nearest past the point is the nearest back
+      pub across : (on : Option ℕ) → IsNext (Stands (spot_at a) l d) (Some (reach d p)) on
+          → IsNext (Stands (spot_at a) l (opposite d)) (Some (reach (opposite d) p)) (link a l on (opposite d))
+      across None h =
+          next_from_previous (Stands (spot_at a) l (opposite d)) (reach (opposite d) p) free_back None tt
+          (λ c z here past less.
+          let e = reach-opposite d p in
+          h c (pos 0 -ℤ z) (turned_back (spot_at a) l d c z here) (omega (arith, ints)))
+          (link a l None (opposite d)) ((lists.linked (opposite d)).starts l runs.line runs.is (runs.way ∙ sym (way_of-opposite d)))
+      across (Some n) h =
+          let e = reach-opposite d p in
+          let past : reach d p <ℤ h.0 = h.2 in
+          let back = turned (spot_at a) l d n h.0 h.1 in
+          let linked = subst (λ m. IsNext (Stands (spot_at a) m (opposite d)) (Some (reach (opposite d) back.spot.point)) (link a m (Some n) (opposite d))) back.line
+          ((lists.linked (opposite d)).nexts n back.spot back.is) in
+          let placed = subst (λ z. IsNext (Stands (spot_at a) l (opposite d)) (Some z) (link a l (Some n) (opposite d))) back.place linked in
+          next_from_previous (Stands (spot_at a) l (opposite d)) (reach (opposite d) p) free_back (Some (pos 0 -ℤ h.0)) (omega (arith, ints))
+          (λ c z here q less.
+          let after : (pos 0 -ℤ h.0) <ℤ z = q in
+          let least : h.0 ≤ℤ (pos 0 -ℤ z) = h.3 c (pos 0 -ℤ z) (turned_back (spot_at a) l d c z here) (omega (arith, ints)) in
+          omega (arith, ints))
+          (link a l (Some n) (opposite d)) placed

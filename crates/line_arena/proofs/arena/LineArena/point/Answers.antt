@@ -1,0 +1,17 @@
+use Rattle.std.proofs.Common.{◌≡◌, ◌≢◌, None, Some, ap, sym, subst}
+use Rattle.std.specs.Option.{option_map}
+use Rattle.line_arena.specs.Keyed.{entry_at}
+use Rattle.line_arena.specs.Lists.{spot_of}
+use Rattle.line_arena.proofs.ArenaLemmas.{live_entry, stands_at}
+use Rattle.line_arena.proofs.arena.LineArena.point.Goals as goal
+
+pub get-requires : goal.get-requires
+get-requires c =
+    subst (λ i. entry_at c.self.inside.lists.crossings i ≢ None) (sym c.place.ensures)
+    (live_entry c.self.inside.lists c.self.inside.written c.args.self.now c.self.view_is c.self.invariant c.args.crossing c.requires.live)
+
+pub returns : goal.returns
+returns c =
+    let a = c.self.inside.lists in
+    let is = subst (λ i. entry_at a.crossings i ≡ Some c.get.result.now) c.place.ensures c.get.ensures.value in
+    stands_at a c.self.inside.written c.args.self.now c.self.view_is c.self.invariant c.args.crossing (spot_of c.get.result.now) (ap (option_map spot_of) is)

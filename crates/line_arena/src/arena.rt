@@ -1,0 +1,203 @@
+ghost use Rattle.std.specs.Prelude.{◌≡◌, ◌+◌, ◌-◌, ◌<◌, ◌≤◌, ◌↔◌, ◌≤ℤ◌, ℕ, None, Some, IsNone, IsSome, IfSome, OnOk};
+ghost use Rattle.std.specs.FinMap as map;
+ghost use Rattle.line_arena.specs.Arena.{IsApart, IsArena, IsFirst, IsNearest, IsOn, LiesFurther, Meet, StandsAt, counted};
+
+use crate::id::{CrossId, LineId};
+use crate::keyed::KeyedSlab;
+use crate::lists::Lists;
+use plane_geom::{Dir, Line, Point};
+use std::alloc::{AllocError, Global};
+use std::marker::Model;
+
+/// Vertical and horizontal lines and their crossings, each under an id of its own.
+///
+/// A crossing is a node of two doubly linked lists at once, that of its vertical and that of its horizontal line,
+/// by rising coordinate. Lines and crossings are also found by what they are, in constant time on average.
+#[derive(Drop)]
+pub struct LineArena {
+    lists: Lists,
+    written: u64,
+}
+
+impl Model for LineArena {
+    ghost use Rattle.line_arena.specs.Arena.{Arena, arena_code};
+
+    ghost Value = { Arena };
+
+    ghost coded = { arena_code };
+
+    ghost use Rattle.line_arena.specs.Lists.{AreLists};
+    ghost use Rattle.line_arena.specs.View.{arena_of};
+
+    ghost view = { λ a. arena_of a.lists a.written };
+
+    ghost invariant = { λ a. AreLists a.lists };
+}
+
+impl LineArena {
+    /// An arena without lines. Takes no memory.
+    pub fn new(alloc: Global) -> LineArena
+        ensures lines { result.lines ≡ map.empty }
+        ensures crossings { result.crossings ≡ map.empty }
+        ensures spare_lines { result.spare_lines ≡ 0 }
+        ensures spare_crossings { result.spare_crossings ≡ 0 }
+        ensures written { result.written ≡ 0 }
+    {
+        LineArena {
+            lists: Lists {
+                lines: KeyedSlab::new(alloc),
+                crossings: KeyedSlab::new(alloc),
+            },
+            written: 0,
+        }
+    }
+
+    /// Makes room for so many more lines and crossings, so that as many puts take no memory.
+    ///
+    /// Lines and crossings stay as they are, and no room is lost, also where memory is wanting.
+    pub fn reserve(&mut self, lines: usize, crossings: usize) -> Result<(), AllocError>
+        ensures lines { self.new.lines ≡ self.old.lines }
+        ensures crossings { self.new.crossings ≡ self.old.crossings }
+        ensures written { self.new.written ≡ self.old.written }
+        ensures spare_lines { self.old.spare_lines ≤ self.new.spare_lines }
+        ensures spare_crossings { self.old.spare_crossings ≤ self.new.spare_crossings }
+        ensures places { self.old.places ≤ self.new.places }
+        ensures room_for_lines { OnOk result (lines ≤ self.new.spare_lines) }
+        ensures room_for_crossings { OnOk result (crossings ≤ self.new.spare_crossings) }
+    {
+        self.lists.lines.reserve(lines)?;
+        self.lists.crossings.reserve(crossings)
+    }
+
+    /// Puts in a line that shares no point with a line of its way at its coordinate. Takes no memory.
+    ///
+    /// `written` rises by one, and stays once it is 2^64 - 1.
+    pub fn put_line(&mut self, line: Line) -> LineId
+        requires spare { 0 < self.old.spare_lines }
+        requires ordered { line.lo ≤ℤ line.hi }
+        requires apart { IsApart self.old line }
+        ensures new_id { map.get self.old.lines result ≡ None }
+        ensures after { self.new ≡ record self.old {
+          lines = map.insert self.old.lines result line;
+          spare_lines = self.old.spare_lines - 1;
+          written = counted self.old.written;
+        } }
+    {
+        self.written = self.written.saturating_add(1);
+        self.lists.put_line(line)
+    }
+
+    /// Puts in the crossing of a vertical and a horizontal line that meet. Takes no memory.
+    ///
+    /// Takes constant time on average where the crossing goes first or last on each of its lines.
+    /// `written` rises by one, and stays once it is 2^64 - 1.
+    pub fn put_crossing(&mut self, vertical: LineId, horizontal: LineId) -> CrossId
+        requires spare { 0 < self.old.spare_crossings }
+        requires meet { Meet self.old vertical horizontal }
+        requires new_pair { (c : ℕ) → map.get self.old.crossings c ≡ Some (record { vertical = vertical; horizontal = horizontal }) → ⊥ }
+        ensures new_id { map.get self.old.crossings result ≡ None }
+        ensures after { self.new ≡ record self.old {
+          crossings = map.insert self.old.crossings result (record { vertical = vertical; horizontal = horizontal });
+          spare_crossings = self.old.spare_crossings - 1;
+          written = counted self.old.written;
+        } }
+    {
+        self.written = self.written.saturating_add(1);
+        self.lists.put_crossing(vertical, horizontal)
+    }
+
+    /// Takes out a crossing. Takes no memory.
+    pub fn remove_crossing(&mut self, crossing: CrossId)
+        requires live { IsSome (map.get self.old.crossings crossing) }
+        ensures after { self.new ≡ record self.old {
+          crossings = map.remove self.old.crossings crossing;
+          spare_crossings = self.old.spare_crossings + 1;
+        } }
+    {
+        self.lists.remove_crossing(crossing);
+    }
+
+    /// Takes out a line without crossings. Takes no memory.
+    pub fn remove_line(&mut self, line: LineId)
+        requires live { IsSome (map.get self.old.lines line) }
+        requires no_crossings { (c : ℕ) → IsOn self.old line c → ⊥ }
+        ensures after { self.new ≡ record self.old {
+          lines = map.remove self.old.lines line;
+          spare_lines = self.old.spare_lines + 1;
+        } }
+    {
+        self.lists.remove_line(line);
+    }
+
+    /// The id of the line, in constant time on average.
+    pub fn line_at(&self, line: Line) -> Option<LineId>
+        ensures found { IfSome result (λ l. map.get self.now.lines l ≡ Some line) }
+        ensures absent { IsNone result ↔ ((l : ℕ) → map.get self.now.lines l ≡ Some line → ⊥) }
+        ensures arena { IsArena self.now }
+    {
+        let place = self.lists.lines.find(line)?;
+        Some(LineId::new(place))
+    }
+
+    /// The crossing with the smallest coordinate on the line.
+    pub fn first_on_line(&self, line: LineId) -> Option<CrossId>
+        requires live { IsSome (map.get self.now.lines line) }
+        ensures first { IfSome result (λ c. IsFirst self.now line c) }
+        ensures absent { IsNone result ↔ ((c : ℕ) → IsOn self.now line c → ⊥) }
+        ensures arena { IsArena self.now }
+    {
+        self.lists.lines.get(line.place()).1.first
+    }
+
+    /// The crossing at the point, in constant time on average.
+    pub fn crossing_at(&self, at: Point) -> Option<CrossId>
+        ensures found { IfSome result (λ c. StandsAt self.now c at) }
+        ensures absent { IsNone result ↔ ((c : ℕ) → StandsAt self.now c at → ⊥) }
+        ensures arena { IsArena self.now }
+    {
+        let place = self.lists.crossings.find(at)?;
+        Some(CrossId::new(place))
+    }
+
+    /// The number in the id, below `places`.
+    pub fn index(&self, crossing: CrossId) -> usize
+        requires live { IsSome (map.get self.now.crossings crossing) }
+        ensures number { result ≡ crossing }
+        ensures within { result < self.now.places }
+    {
+        let (_, _) = self.lists.crossings.get(crossing.place());
+        crossing.place()
+    }
+
+    /// What the numbers of all crossings are below. Only `reserve` changes it, and it never falls.
+    pub fn places(&self) -> usize
+        ensures { result ≡ self.now.places }
+    {
+        self.lists.crossings.places()
+    }
+
+    /// The nearest crossing further on in the direction, on the line along which it leads. Reads one link.
+    pub fn next_on_line(&self, crossing: CrossId, dir: Dir) -> Option<CrossId>
+        requires live { IsSome (map.get self.now.crossings crossing) }
+        ensures nearest { IfSome result (λ c. IsNearest self.now dir crossing c) }
+        ensures absent { IsNone result ↔ ((c : ℕ) → LiesFurther self.now dir crossing c → ⊥) }
+        ensures arena { IsArena self.now }
+    {
+        self.lists.crossings.get(crossing.place()).1.next(dir)
+    }
+
+    /// Where the crossing stands.
+    pub fn point(&self, crossing: CrossId) -> Point
+        requires live { IsSome (map.get self.now.crossings crossing) }
+        ensures { StandsAt self.now crossing result }
+    {
+        self.lists.crossings.get(crossing.place()).0
+    }
+
+    /// How many lines and crossings were put in, and 2^64 - 1 where it would be more.
+    pub fn written(&self) -> u64
+        ensures { result ≡ self.now.written }
+    {
+        self.written
+    }
+}

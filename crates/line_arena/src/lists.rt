@@ -1,0 +1,283 @@
+// Lines and crossings, each crossing in the lists of its two lines.
+ghost use Rattle.std.specs.Prelude.{◌≡◌, ◌≢◌, ◌+◌, ◌-◌, ◌<◌, ◌≤◌, ◌↔◌, ℕ, ◌≤ℤ◌, Some, None, IsTrue};
+ghost use Rattle.std.specs.Option.{ForSome};
+ghost use Rattle.slab.specs.Slab.{slab_len};
+ghost use Rattle.plane_geom.specs.Point.{opposite};
+ghost use Rattle.plane_geom.specs.declared.point.Dir.{Dir};
+ghost use Rattle.line_arena.specs.Along.{IsFurther, reach};
+ghost use Rattle.line_arena.specs.Keyed.{entry_at};
+
+use crate::id::{CrossId, LineId};
+use crate::keyed::KeyedSlab;
+use crate::node::{Ends, Node};
+use plane_geom::{Dir, Line, Point};
+
+#[derive(Drop)]
+pub struct Lists {
+    pub lines: KeyedSlab<Line, Ends>,
+    pub crossings: KeyedSlab<Point, Node>,
+}
+
+/// Whether the second point lies further in the direction.
+fn is_further(dir: Dir, from: Point, to: Point) -> bool
+    ensures { IsTrue result ↔ IsFurther dir from to }
+{
+    match dir {
+        Dir::East => from.x < to.x,
+        Dir::South => from.y < to.y,
+        Dir::West => to.x < from.x,
+        Dir::North => to.y < from.y,
+    }
+}
+
+/// How far the points are from each other along the lines of the direction.
+fn distance_along(dir: Dir, a: Point, b: Point) -> u64 {
+    match dir {
+        Dir::East | Dir::West => a.x.abs_diff(b.x),
+        Dir::South | Dir::North => a.y.abs_diff(b.y),
+    }
+}
+
+impl Lists {
+    ghost use Rattle.line_arena.specs.Lists.{AreLinked, AreLists, IsNext, KnowsNeighbours, AreMet, IsApart, IsPut, IsSpot, Relinks, RunsAlong, SameDirection, SameLinks, SamePlaces, Spot, Stands, UpdatesAt, line_along, line_at, link, spot_at, without};
+
+    /// The crossing that follows in the line's list in the direction; after none it is where the list begins.
+    fn next(&self, line: LineId, from: &Option<CrossId>, dir: Dir) -> Option<CrossId>
+        requires line { entry_at self.now.lines line ≢ None }
+        requires from { ForSome from.now (λ c. entry_at self.now.crossings c ≢ None) }
+        ensures { result ≡ link self.now line from.now dir }
+    {
+        match from {
+            None => self.lines.get(line.place()).1.start(dir),
+            Some(crossing) => self.crossings.get(crossing.place()).1.next(dir),
+        }
+    }
+
+    /// Lets the crossing follow in the line's list in the direction.
+    fn set_next(&mut self, line: LineId, from: Option<CrossId>, dir: Dir, to: Option<CrossId>)
+        requires runs { RunsAlong self.old line dir }
+        requires from { ForSome from (λ c. entry_at self.old.crossings c ≢ None) }
+        ensures { Relinks self.old self.new line from dir to }
+    {
+        match from {
+            None => {
+                let (_, ends) = *self.lines.get(line.place());
+                self.lines.set(line.place(), ends.with_start(dir, to));
+            }
+            Some(crossing) => {
+                let (_, node) = *self.crossings.get(crossing.place());
+                self.crossings
+                    .set(crossing.place(), node.with_next(dir, to));
+            }
+        }
+    }
+
+    /// The nearest crossing of the line that lies further in the direction than the point.
+    ///
+    /// Walks from where the list begins.
+    fn first_past(&self, line: LineId, dir: Dir, point: Point) -> Option<CrossId>
+        requires lists { AreLists self.now }
+        requires runs { RunsAlong self.now line dir }
+        requires free { (c : ℕ) → Stands (spot_at self.now) line dir c (reach dir point) → ⊥ }
+        ensures { IsNext (Stands (spot_at self.now) line dir) (Some (reach dir point)) result }
+    {
+        let mut next = self.next(line, &None, dir);
+        while let Some(crossing) = next {
+            let (at, node) = self.crossings.get(crossing.place());
+            if is_further(dir, point, *at) {
+                return next;
+            }
+            next = node.next(dir);
+        }
+        None
+    }
+
+    /// Whether the line's list in the direction begins nearer to the point than it ends.
+    fn starts_nearer(&self, line: LineId, dir: Dir, point: Point) -> bool
+        requires lists { AreLists self.now }
+        requires runs { RunsAlong self.now line dir }
+    {
+        let start = self.next(line, &None, dir);
+        let stop = self.next(line, &None, dir.opposite());
+        match (start, stop) {
+            (Some(start), Some(stop)) => {
+                let (start, _) = self.crossings.get(start.place());
+                let (stop, _) = self.crossings.get(stop.place());
+                distance_along(dir, *start, point) < distance_along(dir, *stop, point)
+            }
+            _ => true,
+        }
+    }
+
+    /// The crossings of the line between which the point stands: the nearest one back, and the nearest one on in the direction.
+    fn neighbours(&self, line: LineId, dir: Dir, point: Point) -> (Option<CrossId>, Option<CrossId>)
+        requires lists { AreLists self.now }
+        requires runs { RunsAlong self.now line dir }
+        requires free { (c : ℕ) → Stands (spot_at self.now) line dir c (reach dir point) → ⊥ }
+        ensures back { IsNext (Stands (spot_at self.now) line (opposite dir)) (Some (reach (opposite dir) point)) result.0 }
+        ensures on { IsNext (Stands (spot_at self.now) line dir) (Some (reach dir point)) result.1 }
+    {
+        if self.starts_nearer(line, dir, point) {
+            let on = self.first_past(line, dir, point);
+            let back = self.next(line, &on, dir.opposite());
+            (back, on)
+        } else {
+            let back = self.first_past(line, dir.opposite(), point);
+            let on = self.next(line, &back, dir);
+            (back, on)
+        }
+    }
+
+    /// Puts the crossing, which knows its neighbours, into the list of its line in the direction.
+    fn link_in(&mut self, crossing: CrossId, dir: Dir)
+        requires knows { KnowsNeighbours self.old crossing }
+        requires others { AreLinked self.old (without crossing (spot_at self.old)) dir }
+        ensures places { SamePlaces self.old self.new }
+        ensures linked { AreLinked self.new (spot_at self.new) dir }
+        ensures own { SameLinks self.old self.new crossing }
+        ensures other_directions { (d : Dir) → d ≢ dir → SameDirection self.old self.new d }
+    {
+        let (_, node) = *self.crossings.get(crossing.place());
+        let before = node.next(dir.opposite());
+        self.set_next(node.line(dir), before, dir, Some(crossing));
+    }
+
+    /// Takes the crossing out of the list of its line in the direction, and joins its neighbours.
+    fn unlink_in(&mut self, crossing: CrossId, dir: Dir)
+        requires knows { KnowsNeighbours self.old crossing }
+        requires linked { AreLinked self.old (spot_at self.old) dir }
+        ensures places { SamePlaces self.old self.new }
+        ensures others { AreLinked self.new (without crossing (spot_at self.new)) dir }
+        ensures own { SameLinks self.old self.new crossing }
+        ensures other_directions { (d : Dir) → d ≢ dir → SameDirection self.old self.new d }
+    {
+        let (_, node) = *self.crossings.get(crossing.place());
+        let before = node.next(dir.opposite());
+        self.set_next(node.line(dir), before, dir, node.next(dir));
+    }
+
+    /// Puts the crossing, which knows its neighbours, into the lists of its lines.
+    fn link_all(&mut self, crossing: CrossId)
+        requires knows { KnowsNeighbours self.old crossing }
+        requires others { (d : Dir) → AreLinked self.old (without crossing (spot_at self.old)) d }
+        ensures places { SamePlaces self.old self.new }
+        ensures linked { (d : Dir) → AreLinked self.new (spot_at self.new) d }
+    {
+        self.link_in(crossing, Dir::East);
+        self.link_in(crossing, Dir::South);
+        self.link_in(crossing, Dir::West);
+        self.link_in(crossing, Dir::North);
+    }
+
+    /// Takes the crossing out of the lists of its lines.
+    fn unlink_all(&mut self, crossing: CrossId)
+        requires knows { KnowsNeighbours self.old crossing }
+        requires linked { (d : Dir) → AreLinked self.old (spot_at self.old) d }
+        ensures places { SamePlaces self.old self.new }
+        ensures others { (d : Dir) → AreLinked self.new (without crossing (spot_at self.new)) d }
+    {
+        self.unlink_in(crossing, Dir::East);
+        self.unlink_in(crossing, Dir::South);
+        self.unlink_in(crossing, Dir::West);
+        self.unlink_in(crossing, Dir::North);
+    }
+
+    /// Puts in a line without crossings.
+    pub fn put_line(&mut self, line: Line) -> LineId
+        requires lists { AreLists self.old }
+        requires room { slab_len self.old.lines.slab < self.old.lines.room }
+        requires ordered { line.lo ≤ℤ line.hi }
+        requires apart { IsApart (line_at self.old) line }
+        ensures lists { AreLists self.new }
+        ensures new_id { line_at self.old result ≡ None }
+        ensures put { UpdatesAt (line_at self.old) (line_at self.new) result (Some line) }
+        ensures crossings { self.new.crossings ≡ self.old.crossings }
+        ensures count { slab_len self.new.lines.slab ≡ slab_len self.old.lines.slab + 1 }
+        ensures room { self.new.lines.room ≡ self.old.lines.room }
+    {
+        let ends = Ends {
+            first: None,
+            last: None,
+        };
+        LineId::new(self.lines.insert(line, ends))
+    }
+
+    /// Takes out a line without crossings.
+    pub fn remove_line(&mut self, line: LineId)
+        requires lists { AreLists self.old }
+        requires live { line_at self.old line ≢ None }
+        requires empty { (c : ℕ) (s : Spot) → spot_at self.old c ≡ Some s → (s.vertical ≢ line) × (s.horizontal ≢ line) }
+        ensures lists { AreLists self.new }
+        ensures removed { UpdatesAt (line_at self.old) (line_at self.new) line None }
+        ensures crossings { self.new.crossings ≡ self.old.crossings }
+        ensures count { slab_len self.new.lines.slab + 1 ≡ slab_len self.old.lines.slab }
+        ensures fits { slab_len self.old.lines.slab ≤ self.old.lines.room }
+        ensures room { self.new.lines.room ≡ self.old.lines.room }
+    {
+        self.lines.remove(line.place());
+    }
+
+    /// Where the lines meet.
+    fn meeting_point(&self, vertical: LineId, horizontal: LineId) -> Point
+        requires meet { AreMet (line_at self.now) vertical horizontal }
+        ensures { IsSpot (line_at self.now) (record { point = result; vertical = vertical; horizontal = horizontal }) }
+    {
+        Point {
+            x: self.lines.get(vertical.place()).0.at,
+            y: self.lines.get(horizontal.place()).0.at,
+        }
+    }
+
+    /// Puts in the crossing of the lines.
+    ///
+    /// On each line the walk to its place begins at the nearer end.
+    pub fn put_crossing(&mut self, vertical: LineId, horizontal: LineId) -> CrossId
+        requires lists { AreLists self.old }
+        requires room { slab_len self.old.crossings.slab < self.old.crossings.room }
+        requires meet { AreMet (line_at self.old) vertical horizontal }
+        requires new_pair { (c : ℕ) (s : Spot) → spot_at self.old c ≡ Some s → s.vertical ≡ vertical → s.horizontal ≡ horizontal → ⊥ }
+        ensures lists { AreLists self.new }
+        ensures new_id { spot_at self.old result ≡ None }
+        ensures put { IsPut (spot_at self.old) (spot_at self.new) result vertical horizontal }
+        ensures lines { (l : ℕ) → line_at self.new l ≡ line_at self.old l }
+        ensures line_count { slab_len self.new.lines.slab ≡ slab_len self.old.lines.slab }
+        ensures line_room { self.new.lines.room ≡ self.old.lines.room }
+        ensures count { slab_len self.new.crossings.slab ≡ slab_len self.old.crossings.slab + 1 }
+        ensures room { self.new.crossings.room ≡ self.old.crossings.room }
+        ensures places { self.new.crossings.slab.capacity ≡ self.old.crossings.slab.capacity }
+        ensures within { result < self.new.crossings.slab.capacity }
+    {
+        let point = self.meeting_point(vertical, horizontal);
+        let (north, south) = self.neighbours(vertical, Dir::South, point);
+        let (west, east) = self.neighbours(horizontal, Dir::East, point);
+        let node = Node {
+            vertical,
+            horizontal,
+            east,
+            south,
+            west,
+            north,
+        };
+        let crossing = CrossId::new(self.crossings.insert(point, node));
+        self.link_all(crossing);
+        crossing
+    }
+
+    /// Takes out a crossing, and joins its neighbours.
+    pub fn remove_crossing(&mut self, crossing: CrossId)
+        requires lists { AreLists self.old }
+        requires live { spot_at self.old crossing ≢ None }
+        ensures lists { AreLists self.new }
+        ensures removed { UpdatesAt (spot_at self.old) (spot_at self.new) crossing None }
+        ensures lines { (l : ℕ) → line_at self.new l ≡ line_at self.old l }
+        ensures line_count { slab_len self.new.lines.slab ≡ slab_len self.old.lines.slab }
+        ensures line_room { self.new.lines.room ≡ self.old.lines.room }
+        ensures count { slab_len self.new.crossings.slab + 1 ≡ slab_len self.old.crossings.slab }
+        ensures fits { slab_len self.old.crossings.slab ≤ self.old.crossings.room }
+        ensures room { self.new.crossings.room ≡ self.old.crossings.room }
+        ensures places { self.new.crossings.slab.capacity ≡ self.old.crossings.slab.capacity }
+    {
+        self.unlink_all(crossing);
+        self.crossings.remove(crossing.place());
+    }
+}

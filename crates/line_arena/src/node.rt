@@ -1,0 +1,84 @@
+// What a line and a crossing know of the lists that they are in.
+ghost use Rattle.std.specs.Prelude.{◌≡◌};
+ghost use Rattle.line_arena.specs.Node.{line_of, next_of, start_of, with_next, with_start};
+
+use crate::id::{CrossId, LineId};
+use plane_geom::Dir;
+
+/// The ends of a line's list.
+#[derive(Clone, Copy, Debug)]
+pub struct Ends {
+    pub first: Option<CrossId>,
+    pub last: Option<CrossId>,
+}
+
+/// A crossing in the lists of its two lines: its nearest neighbours to all four sides.
+#[derive(Clone, Copy, Debug)]
+pub struct Node {
+    pub vertical: LineId,
+    pub horizontal: LineId,
+    pub east: Option<CrossId>,
+    pub south: Option<CrossId>,
+    pub west: Option<CrossId>,
+    pub north: Option<CrossId>,
+}
+
+impl Ends {
+    /// Where one begins who walks along the line in the direction.
+    pub fn start(&self, dir: Dir) -> Option<CrossId>
+        ensures { result ≡ start_of dir self.now }
+    {
+        match dir {
+            Dir::East | Dir::South => self.first,
+            Dir::West | Dir::North => self.last,
+        }
+    }
+
+    /// The same ends with another such begin.
+    pub fn with_start(mut self, dir: Dir, to: Option<CrossId>) -> Ends
+        ensures { result ≡ with_start dir to self }
+    {
+        match dir {
+            Dir::East | Dir::South => self.first = to,
+            Dir::West | Dir::North => self.last = to,
+        }
+        self
+    }
+}
+
+impl Node {
+    /// The line along which one travels in the direction.
+    pub fn line(&self, dir: Dir) -> LineId
+        ensures { result ≡ line_of dir self.now }
+    {
+        match dir {
+            Dir::East | Dir::West => self.horizontal,
+            Dir::South | Dir::North => self.vertical,
+        }
+    }
+
+    /// The neighbour in the direction.
+    pub fn next(&self, dir: Dir) -> Option<CrossId>
+        ensures { result ≡ next_of dir self.now }
+    {
+        match dir {
+            Dir::East => self.east,
+            Dir::South => self.south,
+            Dir::West => self.west,
+            Dir::North => self.north,
+        }
+    }
+
+    /// The same node with another neighbour in the direction.
+    pub fn with_next(mut self, dir: Dir, to: Option<CrossId>) -> Node
+        ensures { result ≡ with_next dir to self }
+    {
+        match dir {
+            Dir::East => self.east = to,
+            Dir::South => self.south = to,
+            Dir::West => self.west = to,
+            Dir::North => self.north = to,
+        }
+        self
+    }
+}

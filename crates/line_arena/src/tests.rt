@@ -1,0 +1,167 @@
+ghost use Rattle.std.specs.Prelude.{◌≡◌, ◌<◌, pos, IfOk, ℕ, ◌<ℤ◌, Some};
+ghost use Rattle.std.specs.Option.{ForSome};
+ghost use Rattle.line_arena.specs.TestGrid.{grid_line_of, grid_point_of};
+
+use crate::LineArena;
+use plane_geom::{Dir, Line, Point, Way};
+use std::alloc::{AllocError, Global};
+use std::test::Fail;
+
+const SIDE: u8 = 30;
+
+/// The line of the grid at the number, through all of the others.
+fn grid_line(way: Way, at: u8) -> Line
+    ensures { result ≡ grid_line_of way at }
+{
+    Line {
+        way,
+        at: i64::from(at),
+        lo: 0,
+        hi: i64::from(SIDE),
+    }
+}
+
+fn grid_point(column: u8, row: u8) -> Point
+    ensures { result ≡ grid_point_of column row }
+{
+    Point {
+        x: i64::from(column),
+        y: i64::from(row),
+    }
+}
+
+/// An arena with the lines of the grid.
+fn lined(alloc: Global) -> Result<LineArena, AllocError> {
+    let mut arena = LineArena::new(alloc);
+    for at in 0..SIDE {
+        arena.reserve(1, 0)?;
+        arena.put_line(grid_line(Way::Vertical, at));
+        arena.reserve(1, 0)?;
+        arena.put_line(grid_line(Way::Horizontal, at));
+    }
+    Ok(arena)
+}
+
+/// Puts in the crossing of the grid if it is not there, and takes it out if it is.
+fn toggle(arena: &mut LineArena, column: u8, row: u8) -> Result<(), AllocError>
+    requires column_within { column < 30 }
+    requires row_within { row < 30 }
+{
+    if let Some(crossing) = arena.crossing_at(grid_point(column, row)) {
+        arena.remove_crossing(crossing);
+        return Ok(());
+    }
+    arena.reserve(0, 1)?;
+    let vertical = arena.line_at(grid_line(Way::Vertical, column));
+    let horizontal = arena.line_at(grid_line(Way::Horizontal, row));
+    if let (Some(vertical), Some(horizontal)) = (vertical, horizontal) {
+        arena.put_crossing(vertical, horizontal);
+    }
+    Ok(())
+}
+
+/// The points of the crossings from this one on in the direction.
+fn walked(
+    alloc: Global,
+    arena: &LineArena,
+    from: Point,
+    dir: Dir,
+) -> Result<Vec<Point>, AllocError> {
+    let mut points = Vec::new(alloc);
+    let mut next = arena.crossing_at(from);
+    for _ in 0..=SIDE {
+        let Some(crossing) = next else { break };
+        points.push(arena.point(crossing))?;
+        next = arena.next_on_line(crossing, dir);
+    }
+    Ok(points)
+}
+
+/// The points of the grid's line in the direction, all of them or every other one.
+fn expected(alloc: Global, at: u8, dir: Dir, half: bool) -> Result<Vec<Point>, AllocError> {
+    let mut points = Vec::new(alloc);
+    for step in 0..SIDE {
+        if half && (u16::from(at) + u16::from(step)) % 2 == 0 {
+            continue;
+        }
+        points.push(match dir {
+            Dir::East | Dir::West => grid_point(step, at),
+            Dir::South | Dir::North => grid_point(at, step),
+        })?;
+    }
+    if matches!(dir, Dir::West | Dir::North) {
+        points.reverse();
+    }
+    Ok(points)
+}
+
+/// Whether every line of the grid is walked along as expected, both ways.
+fn stands(alloc: Global, arena: &LineArena, half: bool) -> Result<bool, AllocError> {
+    for at in 0..SIDE {
+        for dir in [Dir::East, Dir::South, Dir::West, Dir::North] {
+            let want = expected(alloc, at, dir, half)?;
+            let Some(first) = want.first().copied() else {
+                return Ok(false);
+            };
+            if walked(alloc, arena, first, dir)? != want {
+                return Ok(false);
+            }
+            let way = match dir {
+                Dir::East => Way::Horizontal,
+                Dir::South => Way::Vertical,
+                _ => continue,
+            };
+            if first_of(arena, grid_line(way, at)) != Some(first) {
+                return Ok(false);
+            }
+        }
+    }
+    Ok(true)
+}
+
+/// Where the first crossing of the line stands.
+fn first_of(arena: &LineArena, line: Line) -> Option<Point> {
+    let first = arena.first_on_line(arena.line_at(line)?)?;
+    Some(arena.point(first))
+}
+
+#[test]
+fn walks_along_every_line(rt: HostRuntime) -> Result<(), Fail> {
+    let all = u16::from(SIDE) * u16::from(SIDE);
+    for step in [1, all - 1, 7] {
+        let mut arena = lined(rt.alloc())?;
+        for half in [false, true, false] {
+            for turn in 0..all {
+                let place = (u32::from(turn) * u32::from(step) % u32::from(all)) as u16;
+                let (column, row) = ((place % 30) as u8, (place / 30) as u8);
+                if arena.written() < 960 || (column + row) % 2 == 0 {
+                    toggle(&mut arena, column, row)?;
+                }
+            }
+            assert!(rt;
+                stands(rt.alloc(), &arena, half)?,
+                "step {step}, half {half}"
+            );
+        }
+        assert_eq!(rt; arena.written(), 60 + 900 + 450);
+    }
+    Ok(())
+}
+
+#[test]
+fn answers_each_call(rt: HostRuntime) -> Result<(), Fail> {
+    let mut arena = lined(rt.alloc())?;
+    let column = grid_line(Way::Vertical, 5);
+    toggle(&mut arena, 5, 10)?;
+    assert_eq!(rt; arena.written(), 61);
+    if let Some(crossing) = arena.crossing_at(grid_point(5, 10)) {
+        assert_eq!(rt; arena.point(crossing), grid_point(5, 10));
+        assert_eq!(rt; arena.next_on_line(crossing, Dir::North), None);
+        assert!(rt; arena.index(crossing) < arena.places());
+    }
+    assert_eq!(rt; arena.crossing_at(grid_point(10, 5)), None);
+    assert_eq!(rt; first_of(&arena, column), Some(grid_point(5, 10)));
+    toggle(&mut arena, 5, 10)?;
+    assert_eq!(rt; first_of(&arena, column), None);
+    Ok(())
+}
