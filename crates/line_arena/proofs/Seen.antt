@@ -12,7 +12,7 @@ use Rattle.slab.specs.Slab.{Slab, entries, entries_from, get}
 use Rattle.line_arena.specs.Lists.{UpdatesAt}
 use Rattle.line_arena.specs.View.{seen}
 
-tied : (q k : ℕ) → q ≡ k → eq_by_cmp nat_cmp q k ≡ true
+pub tied : (q k : ℕ) → q ≡ k → eq_by_cmp nat_cmp q k ≡ true
 tied q k e = subst (λ x. eq_by_cmp nat_cmp q x ≡ true) e ((eq_by_cmp_equiv nat_cmp_total).refl q)
 
 equal : (r : Ordering) → is_eq r ≡ true → r ≡ Equal
@@ -20,7 +20,7 @@ equal Less h = cc
 equal Equal h = refl
 equal Greater h = cc
 
-untied : (q k : ℕ) → q ≢ k → eq_by_cmp nat_cmp q k ≡ false
+pub untied : (q k : ℕ) → q ≢ k → eq_by_cmp nat_cmp q k ≡ false
 untied q k ne =
     elim (cases_Bool (eq_by_cmp nat_cmp q k)) [
       | inl t ↦ absurd (ne (nat_cmp-IsAntisymmetric q k (equal (nat_cmp q k) t)))

@@ -165,3 +165,33 @@ fn answers_each_call(rt: HostRuntime) -> Result<(), Fail> {
     assert_eq!(rt; first_of(&arena, column), None);
     Ok(())
 }
+
+#[test]
+fn fills_just_the_room_taken(rt: HostRuntime) -> Result<(), Fail> {
+    let row = Line {
+        way: Way::Horizontal,
+        at: 7,
+        lo: 0,
+        hi: 10,
+    };
+    // A line that is a single point.
+    let dot = Line {
+        way: Way::Vertical,
+        at: 5,
+        lo: 7,
+        hi: 7,
+    };
+    let mut arena = LineArena::new(rt.alloc());
+    arena.reserve(2, 1)?;
+    let across = arena.put_line(row);
+    let down = arena.put_line(dot);
+    let crossing = arena.put_crossing(down, across);
+    assert_eq!(rt; arena.point(crossing), Point { x: 5, y: 7 });
+    assert_eq!(rt; arena.next_on_line(crossing, Dir::South), None);
+    arena.remove_crossing(crossing);
+    arena.remove_line(down);
+    assert_eq!(rt; arena.line_at(dot), None);
+    assert_eq!(rt; arena.line_at(row), Some(across));
+    assert_eq!(rt; arena.written(), 3);
+    Ok(())
+}
