@@ -165,6 +165,7 @@ impl LineArena {
         ensures number { result ≡ crossing }
         ensures within { result < self.now.places }
     {
+        // A live entry alone is known to stand below `places`.
         let (_, _) = self.lists.crossings.get(crossing.place());
         crossing.place()
     }

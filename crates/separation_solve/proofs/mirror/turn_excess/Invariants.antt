@@ -1,0 +1,6 @@
+use Rattle.std.proofs.Common.{neg_ℤ}
+use Rattle.separation_solve.proofs.Turning.{IsTurned}
+use Rattle.separation_solve.proofs.mirror.turn_excess.Given as goal
+
+abbrev pub invariant-loop-index : goal.invariant-loop-index
+invariant-loop-index l = IsTurned neg_ℤ l.fn.excess l.excess l.index

@@ -1,0 +1,6 @@
+use Rattle.separation_solve.specs.Network.{turned_place}
+use Rattle.separation_solve.proofs.Turning.{IsTurned}
+use Rattle.separation_solve.proofs.mirror.turn_places.Given as goal
+
+abbrev pub invariant-loop-index : goal.invariant-loop-index
+invariant-loop-index l = IsTurned turned_place l.fn.places l.places l.index

@@ -1,0 +1,5 @@
+use Rattle.separation_solve.proofs.Forces.{IsReleasing}
+use Rattle.separation_solve.proofs.network.Network.release.Given as goal
+
+abbrev pub invariant-loop-item : goal.invariant-loop-item
+invariant-loop-item l = IsReleasing l.fn.self l.self l.item

@@ -1,0 +1,8 @@
+use Rattle.separation_solve.proofs.Sending.{IsSending}
+use Rattle.separation_solve.proofs.network.Network.send.Given as goal
+
+abbrev pub invariant-loop-via : goal.invariant-loop-via
+invariant-loop-via l = IsSending l.initial.self l.self l.reach l.target l.at l.amount
+
+abbrev pub decreases-loop-via : goal.decreases-loop-via
+decreases-loop-via l = l.at

@@ -1,0 +1,20 @@
+use Rattle.std.proofs.Common.{◌<◌, unsigned_abs, subst}
+use Rattle.std.proofs.lemmas.Result.{IfOk-weaker}
+use Rattle.separation_solve.specs.declared.bundle.Solution.{Solution}
+use Rattle.separation_solve.specs.Block.{objective}
+use Rattle.separation_solve.specs.Certified.{IsAccepted}
+use Rattle.separation_solve.specs.Least.{IsLeast}
+use Rattle.separation_solve.proofs.Certificates.{certified_least}
+use Rattle.separation_solve.proofs.Upright.{same_objective}
+use Rattle.separation_solve.proofs.solver.solve.Goals as goal
+
+pub loop-network-smaller : goal.loop-network-smaller
+loop-network-smaller c =
+    let same = same_objective c.loop-network.network c.balance.new.self c.in_ok-block.ensures.same c.in_ok-block.ensures.places in
+    subst (λ z. unsigned_abs (objective c.shift.new.self) < unsigned_abs z) same c.shift.ensures.falls
+
+pub returns-clause-least : goal.returns-clause-least
+returns-clause-least c =
+    let b = c.args.bundle.now in
+    IfOk-weaker c.into_solution.result (IsAccepted b) (λ (s : Solution). IsLeast b s.gap s.den.items s.pos.items)
+    (λ s accepted. certified_least b s c.requires.bundle accepted.certified) c.into_solution.ensures.accepted

@@ -1,0 +1,5 @@
+use Rattle.separation_solve.proofs.Begin.{DrawnBack}
+use Rattle.separation_solve.proofs.start.draw_back.Given as goal
+
+abbrev pub invariant-loop-index : goal.invariant-loop-index
+invariant-loop-index l = DrawnBack l.latest l.fn.places l.index l.places

@@ -1,0 +1,5 @@
+use Rattle.separation_solve.proofs.Begin.{IsPressed}
+use Rattle.separation_solve.proofs.start.press_on.Given as goal
+
+abbrev pub invariant-loop-index : goal.invariant-loop-index
+invariant-loop-index l = IsPressed l.fn.gap l.fn.places l.by_left l.index l.places

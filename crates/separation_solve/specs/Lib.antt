@@ -1,0 +1,15 @@
+pub mod Sum
+pub mod Bundle
+pub mod Gap
+pub mod Latest
+pub mod Least
+pub mod Certified
+pub mod Reduced
+pub mod Fraction
+pub mod Apart
+pub mod Checked
+pub mod Network
+pub mod Block
+pub mod Reach
+pub mod Push
+pub mod Start

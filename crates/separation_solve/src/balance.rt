@@ -1,0 +1,59 @@
+ghost use Rattle.std.specs.Prelude.{◌≡◌, ℕ, ◌<◌, pos, ◌≤ℤ◌, ◌<ℤ◌, IfOk, All, MatchOption, length};
+ghost use Rattle.separation_solve.specs.Bundle.{int_at};
+
+use crate::network::Network;
+use crate::reach::{Outcome, Reach, search};
+use std::alloc::{AllocError, Global};
+
+impl Network {
+    ghost use Rattle.separation_solve.specs.Network.{IsSameBundle, IsSound, items_of, upright_places, total_size};
+    ghost use Rattle.separation_solve.specs.Reach.{IsBlock};
+
+    /// Pushes flow until each item is balanced, or a block is found that wants to go right and is free to.
+    pub fn balance(&mut self, alloc: Global) -> Result<Option<Reach>, AllocError>
+        requires { IsSound self.old }
+        ensures sound { IsSound self.new }
+        ensures same { IsSameBundle self.old self.new }
+        ensures places { upright_places self.new ≡ upright_places self.old }
+        ensures found { IfOk result (λ found. MatchOption found (All (λ z. z ≡ pos 0) self.new.excess.items)
+            (λ block. (start : ℕ) × IsBlock self.new start block)) }
+    {
+        while let Some(start) = self.next_start() {
+            match search(alloc, self, start)? {
+                Outcome::Target(reach, target) => self.push(&reach, target),
+                Outcome::Block(block) => return Ok(Some(block)),
+            }
+        }
+        Ok(None)
+    }
+
+    /// An item that wants to go right, after the sides are changed if need be.
+    fn next_start(&mut self) -> Option<usize>
+        requires { IsSound self.old }
+        ensures sound { IsSound self.new }
+        ensures same { IsSameBundle self.old self.new }
+        ensures places { upright_places self.new ≡ upright_places self.old }
+        ensures size { total_size self.new.excess.items ≡ total_size self.old.excess.items }
+        ensures start { MatchOption result (All (λ z. z ≡ pos 0) self.new.excess.items)
+            (λ start. (start < items_of self.new) × (int_at self.new.excess.items start <ℤ pos 0)) }
+    {
+        let start = self.hindmost();
+        if start.is_some() {
+            return start;
+        }
+        self.mirror();
+        self.hindmost()
+    }
+
+    /// Of the items that want to go right, the one farthest to the left.
+    fn hindmost(&self) -> Option<usize>
+        ensures { MatchOption result (All (λ z. pos 0 ≤ℤ z) self.now.excess.items)
+            (λ start. (start < length self.now.excess.items) × (int_at self.now.excess.items start <ℤ pos 0)) }
+    {
+        if self.mirrored {
+            self.excess.iter().rposition(|excess| *excess < 0)
+        } else {
+            self.excess.iter().position(|excess| *excess < 0)
+        }
+    }
+}

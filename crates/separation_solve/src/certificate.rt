@@ -1,0 +1,302 @@
+ghost use Rattle.std.specs.Prelude.{◌≡◌, ℕ, ◌^◌, ◌+◌, ◌<◌, ℤ, pos, ◌+ℤ◌, ◌-ℤ◌, ◌*ℤ◌, ◌≤ℤ◌, ◌<ℤ◌, IsTrue, ◌↔◌, All, EachIndex, MatchOption, length, slice_index, ◌==◌, if◌then◌else◌};
+ghost use Rattle.std.specs.Ordering.{MatchOrdering};
+ghost use Rattle.separation_solve.specs.Apart.{IsOnSheet};
+ghost use Rattle.separation_solve.specs.Bundle.{IsBundle, IsCoordinate, IsItem, int_at, slack};
+ghost use Rattle.separation_solve.specs.Certified.{IsAccepted, from_left, from_right};
+ghost use Rattle.separation_solve.specs.Checked.{HasLengths, HasMultipliers, IsAtRest, IsMet, IsMultiplier, IsOnSheetAt, IsPush, KeepsLimits, KeepsLimitsAt, KeepsRule, KeepsRuleAt};
+ghost use Rattle.separation_solve.specs.Least.{IsLeast};
+
+use crate::bundle::{Bundle, Item, Rule, Solution};
+use crate::place::Place;
+use std::cmp::Ordering;
+
+/// The most that a number of a solution may be.
+const MOST: i128 = 1 << 100;
+
+/// The most that the multipliers of one item may be together.
+const MOST_TOGETHER: i128 = 1 << 126;
+
+/// Whether the solution's multipliers show that its positions meet the bundle with its gap, with the least weighted
+/// sum of squared displacements. Takes no memory, and for each item a pass over all rules.
+///
+/// The multipliers are those of Karush, Kuhn and Tucker (Boyd and Vandenberghe, "Convex Optimization", section 5.5).
+/// Says no also where a list has the wrong length, a number is above 2^100, the sum of one item's multipliers is
+/// above 2^126, or the gap is not from 0 to the wanted one.
+pub fn verify(bundle: &Bundle, solution: &Solution) -> bool
+    requires { IsBundle bundle.now }
+    ensures accepted { IsTrue result ↔ IsAccepted bundle.now solution.now }
+    ensures least { IsTrue result → IsLeast bundle.now solution.now.gap solution.now.den.items solution.now.pos.items }
+{
+    if solution.gap < 0 {
+        return false;
+    }
+    if solution.gap > bundle.wanted {
+        return false;
+    }
+    if !has_lengths(bundle, solution) {
+        return false;
+    }
+    if !has_multipliers(solution) {
+        return false;
+    }
+    if !keeps_limits(bundle, solution) {
+        return false;
+    }
+    if !keeps_rules(bundle, solution) {
+        return false;
+    }
+    are_at_rest(bundle, solution)
+}
+
+/// Whether each list has the length that the bundle asks for.
+fn has_lengths(bundle: &Bundle, solution: &Solution) -> bool
+    ensures { IsTrue result ↔ HasLengths bundle.now solution.now }
+{
+    let items = bundle.items.len();
+    solution.den.len() == items
+        && solution.pos.len() == items
+        && solution.mult.len() == bundle.rules.len()
+        && solution.low.len() == items
+        && solution.high.len() == items
+}
+
+/// Whether none is negative or too large.
+fn are_multipliers(multipliers: &[i128]) -> bool
+    ensures { IsTrue result ↔ All IsMultiplier multipliers.now }
+{
+    multipliers.iter().all(|m| 0 <= *m && *m <= MOST)
+}
+
+/// The numerator of a limit over a denominator.
+fn limit_over(limit: i64, den: u64) -> i128
+    requires limit { IsCoordinate limit }
+    requires den { 0 < den }
+    ensures { result ≡ limit *ℤ pos den }
+{
+    i128::from(limit) * i128::from(den)
+}
+
+/// Whether the one is at most the other, and equal to it where the multiplier is not 0.
+fn is_met(least: i128, most: i128, multiplier: i128) -> bool
+    ensures { IsTrue result ↔ IsMet least most multiplier }
+{
+    if multiplier == 0 {
+        least <= most
+    } else {
+        least == most
+    }
+}
+
+/// Whether all multipliers are at least 0 and none is too large.
+fn has_multipliers(solution: &Solution) -> bool
+    ensures { IsTrue result ↔ HasMultipliers solution.now }
+{
+    if !are_multipliers(&solution.mult) {
+        return false;
+    }
+    if !are_multipliers(&solution.low) {
+        return false;
+    }
+    are_multipliers(&solution.high)
+}
+
+impl Item {
+    /// Whether it may stand at the fraction with these multipliers of its limits.
+    fn keeps_limits(&self, den: u64, place: i128, low: i128, high: i128) -> bool
+        requires item { IsItem self.now }
+        requires den { 0 < den }
+        ensures { IsTrue result ↔ KeepsLimits self.now den place low high }
+    {
+        is_met(limit_over(self.lo, den), place, low)
+            && is_met(place, limit_over(self.hi, den), high)
+    }
+}
+
+/// Whether each item stands within its limits, with multipliers only where it stands at one.
+fn keeps_limits(bundle: &Bundle, solution: &Solution) -> bool
+    requires bundle { IsBundle bundle.now }
+    requires lengths { HasLengths bundle.now solution.now }
+    requires lows { All IsMultiplier solution.now.low.items }
+    requires highs { All IsMultiplier solution.now.high.items }
+    ensures { IsTrue result ↔ EachIndex bundle.now.items.items (KeepsLimitsAt bundle.now solution.now) }
+{
+    for (i, item) in bundle.items.iter().enumerate() {
+        let den = solution.den[i];
+        if den == 0 {
+            return false;
+        }
+        if !item.keeps_limits(den, solution.pos[i], solution.low[i], solution.high[i]) {
+            return false;
+        }
+    }
+    true
+}
+
+impl Solution {
+    /// Where the item stands.
+    fn place(&self, item: u32) -> Place
+        requires den { item < length self.now.den.items }
+        requires pos { item < length self.now.pos.items }
+        ensures pos { result.pos ≡ int_at self.now.pos.items item }
+        ensures den { result.den ≡ slice_index self.now.den.items item }
+    {
+        Place {
+            pos: self.pos[item as usize],
+            den: self.den[item as usize],
+        }
+    }
+
+    /// How far apart the rule's items stand, against what it asks.
+    fn compare_to_rule(&self, rule: &Rule) -> Ordering
+        requires same { length self.now.pos.items ≡ length self.now.den.items }
+        requires left { rule.now.left < length self.now.den.items }
+        requires right { rule.now.right < length self.now.den.items }
+        requires left_place { IsOnSheetAt self.now rule.now.left }
+        requires right_place { IsOnSheetAt self.now rule.now.right }
+        requires gap_low { pos 0 ≤ℤ self.now.gap }
+        requires gap_high { self.now.gap ≤ℤ pos 1000000 }
+        ensures { let beyond = slack self.now.gap self.now.den.items self.now.pos.items rule.now in
+            MatchOrdering result (beyond <ℤ pos 0) (beyond ≡ pos 0) (pos 0 <ℤ beyond) }
+    {
+        let left = self.place(rule.left);
+        let right = self.place(rule.right);
+        left.compare_gap(right, rule.asked(self.gap))
+    }
+
+    /// Whether the positions meet the rule, and meet it exactly where its multiplier is not 0.
+    fn keeps_rule(&self, rule: &Rule, multiplier: i128) -> bool
+        requires same { length self.now.pos.items ≡ length self.now.den.items }
+        requires left { rule.now.left < length self.now.den.items }
+        requires right { rule.now.right < length self.now.den.items }
+        requires left_place { IsOnSheetAt self.now rule.now.left }
+        requires right_place { IsOnSheetAt self.now rule.now.right }
+        requires gap_low { pos 0 ≤ℤ self.now.gap }
+        requires gap_high { self.now.gap ≤ℤ pos 1000000 }
+        ensures { IsTrue result ↔ KeepsRule self.now.gap self.now.den.items self.now.pos.items rule.now multiplier }
+    {
+        match self.compare_to_rule(rule) {
+            Ordering::Less => false,
+            Ordering::Equal => multiplier == 0
+                || self.den[rule.left as usize] == self.den[rule.right as usize],
+            Ordering::Greater => multiplier == 0,
+        }
+    }
+}
+
+/// Whether the positions meet each rule, with multipliers only where they meet it exactly.
+fn keeps_rules(bundle: &Bundle, solution: &Solution) -> bool
+    requires bundle { IsBundle bundle.now }
+    requires lengths { HasLengths bundle.now solution.now }
+    requires places { EachIndex bundle.now.items.items (KeepsLimitsAt bundle.now solution.now) }
+    requires multipliers { All IsMultiplier solution.now.mult.items }
+    requires gap_low { pos 0 ≤ℤ solution.now.gap }
+    requires gap_high { solution.now.gap ≤ℤ bundle.now.wanted }
+    ensures { IsTrue result ↔ EachIndex bundle.now.rules.items (KeepsRuleAt bundle.now solution.now) }
+{
+    for (j, rule) in bundle.rules.iter().enumerate() {
+        if !solution.keeps_rule(rule, solution.mult[j]) {
+            return false;
+        }
+    }
+    true
+}
+
+/// The multiplier of a rule that has an end at the item; else 0.
+fn if_at(end: u32, item: usize, multiplier: i128) -> i128
+    requires { IsMultiplier multiplier }
+    ensures value { result ≡ (if end == item then multiplier else pos 0) }
+    ensures multiplier { IsMultiplier result }
+{
+    if end as usize == item { multiplier } else { 0 }
+}
+
+/// What the multipliers of an item's rules are together: of those in which it is on the right, and on the left.
+#[derive(Drop)]
+struct Push {
+    from_left: i128,
+    from_right: i128,
+}
+
+/// The push of the item's rules; `None` where it is above the most that an item's multipliers may be.
+fn push_of(rules: &[Rule], multipliers: &[i128], item: usize) -> Option<Push>
+    requires same { length multipliers.now ≡ length rules.now }
+    requires multipliers { All IsMultiplier multipliers.now }
+    ensures { let left = from_left item rules.now multipliers.now in
+        let right = from_right item rules.now multipliers.now in
+        MatchOption result (pos (2 ^ 126) <ℤ (left +ℤ right)) (λ push. IsPush left right push.from_left push.from_right) }
+{
+    let mut push = Push {
+        from_left: 0,
+        from_right: 0,
+    };
+    for (j, rule) in rules.iter().enumerate() {
+        push.from_left += if_at(rule.right, item, multipliers[j]);
+        push.from_right += if_at(rule.left, item, multipliers[j]);
+        if push.from_left + push.from_right > MOST_TOGETHER {
+            return None;
+        }
+    }
+    Some(push)
+}
+
+/// Whether what pushes an item to the right and to the left balances its displacement, and is not too large together.
+fn balances(displacement: i128, rightward: i128, leftward: i128) -> bool
+    requires rightward { pos 0 ≤ℤ rightward }
+    requires leftward { pos 0 ≤ℤ leftward }
+    requires together { (rightward +ℤ leftward) ≤ℤ pos (2 ^ 126 + 2 ^ 101) }
+    ensures { IsTrue result ↔ ((rightward +ℤ leftward) ≤ℤ pos (2 ^ 126)) × (displacement ≡ rightward -ℤ leftward) }
+{
+    rightward + leftward <= MOST_TOGETHER && displacement == rightward - leftward
+}
+
+impl Item {
+    /// Twice its weighted displacement at the fraction, over the denominator.
+    fn displacement(&self, den: u64, place: i128) -> i128
+        requires item { IsItem self.now }
+        requires place { IsOnSheet den place }
+        ensures { result ≡ pos 2 *ℤ pos self.now.weight *ℤ (place -ℤ (pos den *ℤ self.now.want)) }
+    {
+        let away = place - limit_over(self.want, den);
+        2 * i128::from(self.weight) * away
+    }
+}
+
+/// Whether the multipliers of the item at the place balance its displacement, and are not too large together.
+fn is_item_at_rest(bundle: &Bundle, solution: &Solution, item: usize) -> bool
+    requires bundle { IsBundle bundle.now }
+    requires lengths { HasLengths bundle.now solution.now }
+    requires places { EachIndex bundle.now.items.items (KeepsLimitsAt bundle.now solution.now) }
+    requires multipliers { All IsMultiplier solution.now.mult.items }
+    requires lows { All IsMultiplier solution.now.low.items }
+    requires highs { All IsMultiplier solution.now.high.items }
+    requires item { item < length bundle.now.items.items }
+    ensures { IsTrue result ↔ IsAtRest bundle.now solution.now item }
+{
+    let displacement = bundle.items[item].displacement(solution.den[item], solution.pos[item]);
+    match push_of(&bundle.rules, &solution.mult, item) {
+        Some(push) => balances(
+            displacement,
+            push.from_left + solution.low[item],
+            push.from_right + solution.high[item],
+        ),
+        None => false,
+    }
+}
+
+/// Whether each item's multipliers balance its displacement, and are not too large together.
+fn are_at_rest(bundle: &Bundle, solution: &Solution) -> bool
+    requires bundle { IsBundle bundle.now }
+    requires lengths { HasLengths bundle.now solution.now }
+    requires places { EachIndex bundle.now.items.items (KeepsLimitsAt bundle.now solution.now) }
+    requires multipliers { All IsMultiplier solution.now.mult.items }
+    requires lows { All IsMultiplier solution.now.low.items }
+    requires highs { All IsMultiplier solution.now.high.items }
+    ensures { IsTrue result ↔ EachIndex bundle.now.items.items (IsAtRest bundle.now solution.now) }
+{
+    for i in 0..bundle.items.len() {
+        if !is_item_at_rest(bundle, solution, i) {
+            return false;
+        }
+    }
+    true
+}

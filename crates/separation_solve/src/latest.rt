@@ -1,0 +1,62 @@
+ghost use Rattle.std.specs.Prelude.{◌≡◌, ℤ, pos, ◌≤ℤ◌, IfOk, MatchOption, All, EachIndex, length};
+ghost use Rattle.std.specs.List.Sorted.{IsNonDecreasingBy, IsPermutation};
+ghost use Rattle.separation_solve.specs.Bundle.{IsBundle, IsItem, int_at, item_at};
+ghost use Rattle.separation_solve.specs.Latest.{HasNoRoom, IsLatest};
+
+use crate::bundle::{Bundle, Item, Rule};
+use std::alloc::{AllocError, Global};
+
+/// The rules by their left items, in ascending order.
+pub(crate) fn rules_by_left(alloc: Global, rules: &[Rule]) -> Result<Vec<Rule>, AllocError>
+    ensures same { IfOk result (λ sorted. IsPermutation rules.now sorted.items) }
+    ensures sorted { IfOk result (λ sorted. IsNonDecreasingBy (λ rule. rule.left) sorted.items) }
+{
+    let mut sorted = Vec::from_slice(alloc, rules)?;
+    sorted.sort_unstable_by_key(|rule| rule.left);
+    Ok(sorted)
+}
+
+/// The upper limit of each item.
+fn upper_limits(alloc: Global, items: &[Item]) -> Result<Vec<i64>, AllocError>
+    requires { All IsItem items.now }
+    ensures len { IfOk result (λ limits. length limits.items ≡ length items.now) }
+    ensures each { IfOk result (λ limits. EachIndex items.now (λ i. int_at limits.items i ≡ (item_at items.now i).hi)) }
+{
+    let mut limits = Vec::with_capacity(alloc, items.len())?;
+    for item in items {
+        limits.push(item.hi)?;
+    }
+    Ok(limits)
+}
+
+/// The whole positions that meet the bundle with the gap, each as far right as any that do; `None` where none do.
+///
+/// Each item begins at its upper limit. Every rule goes forward, so with the rules taken by their left items from the
+/// last one down, an item's place is settled before it limits another.
+pub(crate) fn latest(
+    alloc: Global,
+    bundle: &Bundle,
+    by_left: &[Rule],
+    gap: i64,
+) -> Result<Option<Vec<i64>>, AllocError>
+    requires bundle { IsBundle bundle.now }
+    requires same { IsPermutation bundle.now.rules.items by_left.now }
+    requires sorted { IsNonDecreasingBy (λ rule. rule.left) by_left.now }
+    requires gap_low { pos 0 ≤ℤ gap }
+    requires gap_high { gap ≤ℤ pos 1000000 }
+    ensures { IfOk result (λ found. MatchOption found (HasNoRoom bundle.now gap) (λ places. IsLatest bundle.now gap places.items)) }
+{
+    let mut places = upper_limits(alloc, &bundle.items)?;
+    for j in (0..by_left.len()).rev() {
+        let rule = by_left[j];
+        let left = rule.left as usize;
+        let bound = places[rule.right as usize] - rule.asked(gap);
+        if bound < bundle.items[left].lo {
+            return Ok(None);
+        }
+        if bound < places[left] {
+            places[left] = bound;
+        }
+    }
+    Ok(Some(places))
+}

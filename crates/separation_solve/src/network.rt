@@ -1,0 +1,177 @@
+ghost use Rattle.std.specs.Prelude.{◌≡◌, ◌↔◌, ℕ, ◌+◌, ◌<◌, ◌≤◌, ℤ, pos, neg_ℤ, ◌≤ℤ◌, IsTrue, IfOk, List, length, map, not, EachIndex, All, OnOk, ◌++◌};
+ghost use Rattle.separation_solve.specs.Bundle.{IsBundle, IsItem};
+ghost use Rattle.separation_solve.specs.Gap.{IsGap};
+ghost use Rattle.separation_solve.specs.Network.{IsNetworkOf, IsListed, IsTight, IsLink, links_of, link_at, lower_links, upper_links, rule_link};
+
+use crate::bundle::{Bundle, Item, Rule};
+use crate::fraction::Fraction;
+use crate::start::start_places;
+use std::alloc::{AllocError, Global};
+
+/// The node `to` stands at least the gap to the right of the node `from`.
+#[derive(Clone, Copy)]
+pub struct Link {
+    pub from: usize,
+    pub to: usize,
+    pub gap: i64,
+}
+
+/// Places of a bundle's items for a gap, and the multipliers of its rules and limits as a flow.
+///
+/// The nodes are the items and, last, the wall, which stands at 0. The links are the rules, then each item's
+/// lower limit, from the wall, and then each item's upper limit, to the wall.
+#[derive(Drop)]
+pub struct Network {
+    pub links: Vec<Link>,
+    /// The links at each node.
+    pub touching: Vec<Vec<usize>>,
+    pub wants: Vec<i64>,
+    pub weights: Vec<u32>,
+    /// Whether left and right have changed sides.
+    pub mirrored: bool,
+    pub places: Vec<Fraction>,
+    /// Each link's multiplier.
+    pub flow: Vec<i128>,
+    /// By how much each item's weighted displacement is more than what the flow pushes it by.
+    pub excess: Vec<i128>,
+}
+
+impl Network {
+    ghost use Rattle.std.specs.Prelude.{false};
+    ghost use Rattle.separation_solve.specs.Network.{IsSound, items_of};
+
+    /// A network with no flow, whose places meet the bundle.
+    pub fn new(alloc: Global, bundle: &Bundle, gap: i64) -> Result<Network, AllocError>
+        requires bundle { IsBundle bundle.now }
+        requires gap { IsGap bundle.now gap }
+        ensures sound { IfOk result IsSound }
+        ensures upright { IfOk result (λ n. n.mirrored ≡ false) }
+        ensures of_bundle { IfOk result (IsNetworkOf bundle.now gap) }
+    {
+        let places = start_places(alloc, bundle, gap)?;
+        let links = links_of(alloc, bundle, gap)?;
+        let touching = touching_links(alloc, places.len(), &links)?;
+        let flow = vec![in alloc; 0; links.len()]?;
+        let excess = vec![in alloc; 0; bundle.items.len()]?;
+        let mut network = Network {
+            links,
+            touching,
+            wants: wants_of(alloc, &bundle.items)?,
+            weights: weights_of(alloc, &bundle.items)?,
+            mirrored: false,
+            places,
+            flow,
+            excess,
+        };
+        network.release();
+        Ok(network)
+    }
+
+    /// The place of the node that is no item.
+    pub fn wall(&self) -> usize
+        ensures { result ≡ items_of self.now }
+    {
+        self.wants.len()
+    }
+
+    /// Whether the link's nodes stand exactly its gap apart.
+    pub fn is_tight(&self, link: Link) -> bool
+        requires sound { IsSound self.now }
+        requires link { IsLink (items_of self.now) link }
+        ensures { IsTrue result ↔ IsTight self.now.places.items link }
+    {
+        let from = self.places[link.from];
+        let to = self.places[link.to];
+        from.den == to.den && to.num - from.num == i128::from(link.gap) * i128::from(from.den)
+    }
+}
+
+pub fn wants_of(alloc: Global, items: &[Item]) -> Result<Vec<i64>, AllocError>
+    ensures { IfOk result (λ v. v.items ≡ map (λ item. item.want) items.now) }
+{
+    items.iter().map(|item| item.want).collect(alloc)
+}
+
+fn weights_of(alloc: Global, items: &[Item]) -> Result<Vec<u32>, AllocError>
+    ensures { IfOk result (λ v. v.items ≡ map (λ item. item.weight) items.now) }
+{
+    items.iter().map(|item| item.weight).collect(alloc)
+}
+
+/// The rules, the lower limits and the upper limits as links.
+fn links_of(alloc: Global, bundle: &Bundle, gap: i64) -> Result<Vec<Link>, AllocError>
+    requires { IsBundle bundle.now }
+    ensures { IfOk result (λ v. v.items ≡ links_of bundle.now gap) }
+{
+    let mut links = Vec::new(alloc);
+    push_rules(&mut links, &bundle.rules, gap)?;
+    push_lower_limits(&mut links, &bundle.items)?;
+    push_upper_limits(&mut links, &bundle.items)?;
+    Ok(links)
+}
+
+fn push_rules(links: &mut Vec<Link>, rules: &[Rule], gap: i64) -> Result<(), AllocError>
+    ensures { OnOk result (links.new.items ≡ links.old.items ++ map (rule_link gap) rules.now) }
+{
+    for rule in rules {
+        links.push(Link {
+            from: rule.left as usize,
+            to: rule.right as usize,
+            gap: rule.asked(gap),
+        })?;
+    }
+    Ok(())
+}
+
+fn push_lower_limits(links: &mut Vec<Link>, items: &[Item]) -> Result<(), AllocError>
+    requires { All IsItem items.now }
+    ensures { OnOk result (links.new.items ≡ links.old.items ++ lower_links (length items.now) 0 items.now) }
+{
+    let wall = items.len();
+    for (index, item) in items.iter().enumerate() {
+        links.push(Link {
+            from: wall,
+            to: index,
+            gap: item.lo,
+        })?;
+    }
+    Ok(())
+}
+
+fn push_upper_limits(links: &mut Vec<Link>, items: &[Item]) -> Result<(), AllocError>
+    requires { All IsItem items.now }
+    ensures { OnOk result (links.new.items ≡ links.old.items ++ upper_links (length items.now) 0 items.now) }
+{
+    let wall = items.len();
+    for (index, item) in items.iter().enumerate() {
+        links.push(Link {
+            from: index,
+            to: wall,
+            gap: -item.hi,
+        })?;
+    }
+    Ok(())
+}
+
+/// For each node the links that begin or end there.
+fn touching_links(
+    alloc: Global,
+    nodes: usize,
+    links: &[Link],
+) -> Result<Vec<Vec<usize>>, AllocError>
+    requires from { All (λ link. link.from < nodes) links.now }
+    requires to { All (λ link. link.to < nodes) links.now }
+    ensures nodes { IfOk result (λ v. length v.items ≡ nodes) }
+    ensures listed { IfOk result (λ v. EachIndex links.now (IsListed links.now v.items)) }
+    ensures no_others { IfOk result (λ v. All (λ w. All (λ j. j < length links.now) w.items) v.items) }
+{
+    let mut touching = Vec::new(alloc);
+    for _ in 0..nodes {
+        touching.push(Vec::new(alloc))?;
+    }
+    for (index, link) in links.iter().enumerate() {
+        touching[link.from].push(index)?;
+        touching[link.to].push(index)?;
+    }
+    Ok(touching)
+}

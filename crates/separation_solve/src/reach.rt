@@ -1,0 +1,159 @@
+ghost use Rattle.std.specs.Prelude.{◌≡◌, ◌↔◌, ℕ, ◌<◌, ◌≤◌, pos, ◌<ℤ◌, IsTrue, IfOk, OnOk, MatchOption, IsSome, Some, length};
+ghost use Rattle.separation_solve.specs.Bundle.{int_at};
+ghost use Rattle.separation_solve.specs.Network.{IsSound, items_of};
+ghost use Rattle.separation_solve.specs.Reach.{AddsLeads, IsFollowing, IsLedTo, IsNoLead, IsOutcome, IsReach, IsStep, KeepsSteps, TakesFlow, found_at, start_of, step_at};
+
+use crate::network::Network;
+use std::alloc::{AllocError, Global};
+
+/// How a step was come by: over a link, from an earlier step.
+#[derive(Clone, Copy)]
+pub struct Via {
+    pub parent: usize,
+    pub link: usize,
+}
+
+/// A node that was reached.
+#[derive(Clone, Copy)]
+pub struct Step {
+    pub node: usize,
+    /// None at the start.
+    pub via: Option<Via>,
+    /// How far to the right of the start it stands.
+    pub offset: i64,
+    /// How much flow can go there from the start.
+    pub room: i128,
+}
+
+/// Nodes to which flow can go from the first one: forward over a tight link, or back over a link with flow.
+#[derive(Drop)]
+pub struct Reach {
+    pub steps: Vec<Step>,
+    /// Each node's step.
+    pub found: Vec<Option<usize>>,
+}
+
+/// What a search for a node that takes flow came to.
+#[derive(Drop)]
+pub enum Outcome {
+    /// The node of this step takes flow.
+    Target(Reach, usize),
+    /// No node that can be reached does.
+    Block(Reach),
+}
+
+/// Looks, breadth first, for a node that takes flow from the start.
+pub fn search(alloc: Global, network: &Network, start: usize) -> Result<Outcome, AllocError>
+    requires sound { IsSound network.now }
+    requires item { start < items_of network.now }
+    requires short { int_at network.now.excess.items start <ℤ pos 0 }
+    ensures { IfOk result (IsOutcome network.now start) }
+{
+    let mut reach = Reach::new(alloc, network, start)?;
+    let mut next = 0;
+    while next < reach.steps.len() {
+        if network.takes_flow(reach.steps[next].node) {
+            return Ok(Outcome::Target(reach, next));
+        }
+        reach.extend(network, next)?;
+        next += 1;
+    }
+    Ok(Outcome::Block(reach))
+}
+
+impl Reach {
+    ghost use Rattle.separation_solve.specs.declared.network.Network.{Network};
+
+    /// The start alone.
+    fn new(alloc: Global, network: &Network, start: usize) -> Result<Reach, AllocError>
+        requires sound { IsSound network.now }
+        requires item { start < items_of network.now }
+        requires short { int_at network.now.excess.items start <ℤ pos 0 }
+        ensures { IfOk result (IsReach network.now start) }
+    {
+        let mut found = vec![in alloc; None; network.places.len()]?;
+        found[start] = Some(0);
+        let first = Step {
+            node: start,
+            via: None,
+            offset: 0,
+            room: -network.excess[start],
+        };
+        let steps = vec![in alloc; first]?;
+        Ok(Reach { steps, found })
+    }
+
+    /// Adds the nodes to which flow can go from the step's.
+    fn extend(&mut self, network: &Network, parent: usize) -> Result<(), AllocError>
+        requires sound { IsSound network.now }
+        requires reach { IsReach network.now (start_of self.old) self.old }
+        requires parent { parent < length self.old.steps.items }
+        ensures reach { OnOk result (IsReach network.now (start_of self.old) self.new) }
+        ensures keeps { OnOk result (KeepsSteps self.old self.new) }
+        ensures adds { OnOk result (AddsLeads network.now (step_at self.old.steps.items parent).node self.new) }
+    {
+        let step = self.steps[parent];
+        for link in &network.touching[step.node] {
+            if let Some(next) = network.lead(*link, parent, step) {
+                self.add(next)?;
+            }
+        }
+        Ok(())
+    }
+
+    /// Adds the step, unless its node was reached before.
+    fn add(&mut self, step: Step) -> Result<(), AllocError>
+        requires { step.node < length self.old.found.items }
+        ensures reach { OnOk result ((n : Network) → IsReach n (start_of self.old) self.old → IsFollowing n self.old step → IsReach n (start_of self.old) self.new) }
+        ensures keeps { OnOk result (KeepsSteps self.old self.new) }
+        ensures added { OnOk result (IsSome (found_at self.new.found.items step.node)) }
+    {
+        if self.found[step.node].is_none() {
+            self.found[step.node] = Some(self.steps.len());
+            self.steps.push(step)?;
+        }
+        Ok(())
+    }
+}
+
+impl Network {
+    /// Whether flow may end at the node: the wall, or an item with an excess.
+    fn takes_flow(&self, node: usize) -> bool
+        requires sound { IsSound self.now }
+        requires node { node ≤ items_of self.now }
+        ensures { IsTrue result ↔ TakesFlow self.now node }
+    {
+        node == self.wall() || self.excess[node] > 0
+    }
+
+    /// The step over the link, from the step at the index `parent`, if flow can go that way.
+    fn lead(&self, index: usize, parent: usize, step: Step) -> Option<Step>
+        requires sound { IsSound self.now }
+        requires link { index < length self.now.links.items }
+        requires step { (start : ℕ) × IsStep self.now start step }
+        ensures { MatchOption result (IsNoLead self.now index step.node) (IsLedTo self.now index parent step) }
+    {
+        let link = self.links[index];
+        let via = Some(Via {
+            parent,
+            link: index,
+        });
+        if link.from == step.node && self.is_tight(link) {
+            Some(Step {
+                node: link.to,
+                via,
+                offset: step.offset + link.gap,
+                room: step.room,
+            })
+        } else if link.to == step.node && self.flow[index] > 0 {
+            Some(Step {
+                node: link.from,
+                via,
+                offset: step.offset - link.gap,
+                room: step.room.min(self.flow[index]),
+            })
+        } else {
+            None
+        }
+    }
+}

@@ -1,0 +1,127 @@
+ghost use Rattle.std.specs.Prelude.{◌≡◌, ℕ, ◌≤◌, ◌<◌, ◌≤ℤ◌, ◌<ℤ◌, ◌+ℤ◌, ◌-ℤ◌, ◌*ℤ◌, EachIndex, MatchOption, pos, negsuc, length, unsigned_abs};
+ghost use Rattle.separation_solve.specs.Fraction.{IsLight, IsNotBeyond};
+ghost use Rattle.separation_solve.specs.Reduced.{IsReduced, IsWithin};
+ghost use Rattle.separation_solve.specs.Bundle.{IsCoordinate};
+ghost use Rattle.separation_solve.specs.Network.{IsSound, items_of, link_at};
+ghost use Rattle.separation_solve.specs.Reach.{IsBlock, IsReach};
+ghost use Rattle.separation_solve.specs.Block.{ChangesPlaces, IsAim, IsContact, IsFound, LeadsOut, LeavesRoom, PlacesBlock, block_moment, block_weight, objective, offset_of};
+
+use crate::fraction::Fraction;
+use crate::network::Network;
+use crate::reach::Reach;
+
+/// The way from the offset to the want, so many times as the weight says.
+fn moment_of(weight: u32, want: i64, offset: i64) -> i128
+    requires weight { weight ≤ 4 }
+    requires want { IsCoordinate want }
+    requires low { negsuc 3999999999 ≤ℤ offset }
+    requires high { offset ≤ℤ pos 4000000000 }
+    ensures { result ≡ pos weight *ℤ (want -ℤ offset) }
+{
+    i128::from(weight) * i128::from(want - offset)
+}
+
+impl Reach {
+    /// How far to the right of the start the node was reached, if it was.
+    fn offset(&self, node: usize) -> Option<i64>
+        requires node { node < length self.now.found.items }
+        requires steps { IsFound self.now }
+        ensures { result ≡ offset_of self.now node }
+    {
+        let step = self.found[node]?;
+        Some(self.steps[step].offset)
+    }
+}
+
+impl Network {
+    /// Moves the nodes that were reached to the right, all as far: to their best place, or to the first contact.
+    pub fn shift(&mut self, block: &Reach)
+        ghost start: { ℕ }
+        requires sound { IsSound self.old }
+        requires block { IsBlock self.old start block.now }
+        ensures sound { IsSound self.new }
+        ensures falls { unsigned_abs (objective self.new) < unsigned_abs (objective self.old) }
+        ensures links { self.new.links ≡ self.old.links }
+        ensures touching { self.new.touching ≡ self.old.touching }
+        ensures wants { self.new.wants ≡ self.old.wants }
+        ensures weights { self.new.weights ≡ self.old.weights }
+        ensures mirrored { self.new.mirrored ≡ self.old.mirrored }
+    {
+        let best = self.best_place(block);
+        let place = self.first_contact(block, best);
+        self.move_block(block, place);
+        self.release();
+    }
+
+    /// Where the start would stand if only the nodes that were reached counted: their weighted mean.
+    fn best_place(&self, block: &Reach) -> Fraction
+        ghost start: { ℕ }
+        requires sound { IsSound self.now }
+        requires block { IsBlock self.now start block.now }
+        ensures aim { IsAim self.now start result }
+        ensures mean { ((block_weight self.now block.now (items_of self.now) *ℤ result.num)
+            +ℤ (pos result.den *ℤ block_moment self.now block.now (items_of self.now))) ≡ pos 0 }
+    {
+        let mut weight: u64 = 0;
+        let mut moment: i128 = 0;
+        for item in 0..self.wants.len() {
+            if let Some(offset) = block.offset(item) {
+                weight += u64::from(self.weights[item]);
+                moment += moment_of(self.weights[item], self.wants[item], offset);
+            }
+        }
+        Fraction::ratio(moment, weight)
+    }
+
+    /// The first place of the start, up to the best one, at which a link to a node outside is tight.
+    fn first_contact(&self, block: &Reach, best: Fraction) -> Fraction
+        ghost start: { ℕ }
+        requires sound { IsSound self.now }
+        requires block { IsBlock self.now start block.now }
+        requires best { IsAim self.now start best }
+        ensures aim { IsAim self.now start result }
+        ensures not_beyond { IsNotBeyond result best }
+        ensures room { EachIndex self.now.links.items (λ j. LeavesRoom self.now block.now result (link_at self.now.links.items j)) }
+    {
+        let mut place = best;
+        for index in 0..self.links.len() {
+            if let Some(contact) = self.contact(block, index) {
+                place = contact.least(place);
+            }
+        }
+        place
+    }
+
+    /// Where the start would stand if the link were tight, for one that leads from a node that was reached to one that was not.
+    fn contact(&self, block: &Reach, index: usize) -> Option<Fraction>
+        ghost start: { ℕ }
+        requires sound { IsSound self.now }
+        requires block { IsBlock self.now start block.now }
+        requires link { index < length self.now.links.items }
+        ensures { MatchOption result (¬ LeadsOut block.now (link_at self.now.links.items index))
+            (λ contact. IsContact self.now start block.now (link_at self.now.links.items index) contact) }
+    {
+        let link = self.links[index];
+        let offset = block.offset(link.from)?;
+        if block.offset(link.to).is_some() {
+            return None;
+        }
+        Some(self.places[link.to].moved(-link.gap - offset))
+    }
+
+    /// Moves the nodes that were reached along with the start, which comes to this place.
+    fn move_block(&mut self, block: &Reach, place: Fraction)
+        ghost start: { ℕ }
+        requires sound { IsSound self.old }
+        requires reach { IsReach self.old start block.now }
+        requires light { IsLight place }
+        ensures placed { PlacesBlock self.old.places.items (items_of self.old) block.now place self.new.places.items }
+        ensures rest { ChangesPlaces self.old self.new }
+    {
+        for item in 0..self.wants.len() {
+            if let Some(offset) = block.offset(item) {
+                self.places[item] = place.moved(offset);
+            }
+        }
+    }
+}

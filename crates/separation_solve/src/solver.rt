@@ -1,0 +1,91 @@
+ghost use Rattle.std.specs.Prelude.{◌≡◌, false, pos, All, IfOk, map};
+ghost use Rattle.separation_solve.specs.Bundle.{IsBundle};
+ghost use Rattle.separation_solve.specs.Certified.{IsAccepted};
+ghost use Rattle.separation_solve.specs.Gap.{IsGap};
+ghost use Rattle.separation_solve.specs.Least.{IsLeast};
+
+use crate::bundle::{Bundle, Solution};
+use crate::fraction::Fraction;
+use crate::network::Network;
+use std::alloc::{AllocError, Global};
+
+/// The least positions of the bundle for the gap, with multipliers that show it.
+///
+/// The multipliers are a flow along rules and limits that stand tight. It is pushed along paths (Ford and Fulkerson,
+/// "Maximal flow through a network", 1956) from the items that want to go right, until each item is balanced or some
+/// of them are free to move together, as the blocks of VPSC (Dwyer, Marriott and Stuckey, 2006). Those then move to
+/// their best place or to the first contact.
+pub fn solve(alloc: Global, bundle: &Bundle, gap: i64) -> Result<Solution, AllocError>
+    requires bundle { IsBundle bundle.now }
+    requires gap { IsGap bundle.now gap }
+    ensures gap { IfOk result (λ s. s.gap ≡ gap) }
+    ensures accepted { IfOk result (IsAccepted bundle.now) }
+    ensures least { IfOk result (λ s. IsLeast bundle.now s.gap s.den.items s.pos.items) }
+{
+    let mut network = Network::new(alloc, bundle, gap)?;
+    while let Some(block) = network.balance(alloc)? {
+        network.shift(&block);
+    }
+    network.into_solution(alloc, bundle, gap)
+}
+
+impl Network {
+    ghost use Rattle.separation_solve.specs.Network.{IsNetworkOf, IsSound};
+
+    /// The network's places and flow as a solution.
+    fn into_solution(
+        mut self,
+        alloc: Global,
+        bundle: &Bundle,
+        gap: i64,
+    ) -> Result<Solution, AllocError>
+        requires sound { IsSound self }
+        requires balanced { All (λ z. z ≡ pos 0) self.excess.items }
+        requires bundle { IsBundle bundle.now }
+        requires gap { IsGap bundle.now gap }
+        requires of_bundle { IsNetworkOf bundle.now gap self }
+        ensures gap { IfOk result (λ s. s.gap ≡ gap) }
+        ensures accepted { IfOk result (IsAccepted bundle.now) }
+    {
+        if self.mirrored {
+            self.mirror();
+        }
+        self.solution(alloc, bundle, gap)
+    }
+
+    /// The places and the flow of a network that is not mirrored.
+    fn solution(&self, alloc: Global, bundle: &Bundle, gap: i64) -> Result<Solution, AllocError>
+        requires sound { IsSound self.now }
+        requires balanced { All (λ z. z ≡ pos 0) self.now.excess.items }
+        requires upright { self.now.mirrored ≡ false }
+        requires bundle { IsBundle bundle.now }
+        requires gap { IsGap bundle.now gap }
+        requires of_bundle { IsNetworkOf bundle.now gap self.now }
+        ensures gap { IfOk result (λ s. s.gap ≡ gap) }
+        ensures accepted { IfOk result (IsAccepted bundle.now) }
+    {
+        let places = &self.places[..bundle.items.len()];
+        let (mult, limits) = self.flow.split_at(bundle.rules.len());
+        let (low, high) = limits.split_at(bundle.items.len());
+        Ok(Solution {
+            gap,
+            den: dens_of(alloc, places)?,
+            pos: nums_of(alloc, places)?,
+            mult: mult.to_vec(alloc)?,
+            low: low.to_vec(alloc)?,
+            high: high.to_vec(alloc)?,
+        })
+    }
+}
+
+fn dens_of(alloc: Global, places: &[Fraction]) -> Result<Vec<u64>, AllocError>
+    ensures { IfOk result (λ v. v.items ≡ map (λ place. place.den) places.now) }
+{
+    places.iter().map(|place| place.den).collect(alloc)
+}
+
+fn nums_of(alloc: Global, places: &[Fraction]) -> Result<Vec<i128>, AllocError>
+    ensures { IfOk result (λ v. v.items ≡ map (λ place. place.num) places.now) }
+{
+    places.iter().map(|place| place.num).collect(alloc)
+}

@@ -1,0 +1,79 @@
+ghost use Rattle.std.specs.Prelude.{◌≡◌, ◌≤◌, ◌≤ℤ◌, pos, All, EachIndex, IfOk, length, map, ◌++◌, ◌∷◌, []};
+ghost use Rattle.std.specs.Int.{int_min};
+ghost use Rattle.std.specs.List.Sorted.{IsNonDecreasingBy};
+ghost use Rattle.separation_solve.specs.Bundle.{IsBundle, IsCoordinate, int_at};
+ghost use Rattle.separation_solve.specs.Gap.{IsGap};
+ghost use Rattle.separation_solve.specs.Fraction.{whole};
+ghost use Rattle.separation_solve.specs.Start.{AreAtMost, AreStartPlaces, IsForward, KeepsRule};
+
+use crate::bundle::{Bundle, MOST_ITEMS, Rule};
+use crate::fraction::Fraction;
+use crate::latest::{latest, rules_by_left};
+use crate::network::wants_of;
+use std::alloc::{AllocError, Global};
+
+/// Whole places that meet the bundle with the gap, and last the wall's.
+///
+/// Each item stands at its want, or as little behind it as the rules let it, but never right of its latest place.
+pub fn start_places(alloc: Global, bundle: &Bundle, gap: i64) -> Result<Vec<Fraction>, AllocError>
+    requires bundle { IsBundle bundle.now }
+    requires gap { IsGap bundle.now gap }
+    ensures { IfOk result (λ places. AreStartPlaces bundle.now gap places.items) }
+{
+    let by_left = rules_by_left(alloc, &bundle.rules)?;
+    let Some(latest) = latest(alloc, bundle, &by_left, gap)? else {
+        unreachable!()
+    };
+    let mut places = wants_of(alloc, &bundle.items)?;
+    press_on(&mut places, &by_left, gap);
+    draw_back(&mut places, &latest);
+    with_wall(alloc, &places)
+}
+
+/// Presses items on until all rules are met. Every rule goes forward, so none is broken again.
+fn press_on(places: &mut [i64], by_left: &[Rule], gap: i64)
+    requires rules { All (IsForward (length places.old)) by_left.now }
+    requires sorted { IsNonDecreasingBy (λ rule. rule.left) by_left.now }
+    requires gap_low { pos 0 ≤ℤ gap }
+    requires gap_high { gap ≤ℤ pos 1000000 }
+    requires few { length places.old ≤ MOST_ITEMS }
+    requires on_sheet { EachIndex places.old (λ i. IsCoordinate (int_at places.old i)) }
+    ensures on { AreAtMost places.new places.old }
+    ensures keeps { All (KeepsRule gap places.new) by_left.now }
+{
+    for index in 0..by_left.len() {
+        let rule = by_left[index];
+        let right = rule.right as usize;
+        let least = places[rule.left as usize] + rule.asked(gap);
+        if places[right] < least {
+            places[right] = least;
+        }
+    }
+}
+
+/// Draws each item back to its latest place, if it stands behind it.
+fn draw_back(places: &mut [i64], latest: &[i64])
+    requires { length places.old ≡ length latest.now }
+    ensures { EachIndex latest.now (λ i. int_at places.new i ≡ int_min (int_at latest.now i) (int_at places.old i)) }
+{
+    for index in 0..places.len() {
+        if latest[index] < places[index] {
+            places[index] = latest[index];
+        }
+    }
+}
+
+/// The whole places, and the wall's.
+fn with_wall(alloc: Global, places: &[i64]) -> Result<Vec<Fraction>, AllocError>
+    ensures { IfOk result (λ all. all.items ≡ map whole places.now ++ whole (pos 0) ∷ []) }
+{
+    let mut all = whole_places(alloc, places)?;
+    all.push(Fraction::whole(0))?;
+    Ok(all)
+}
+
+fn whole_places(alloc: Global, places: &[i64]) -> Result<Vec<Fraction>, AllocError>
+    ensures { IfOk result (λ all. all.items ≡ map whole places.now) }
+{
+    places.iter().map(|at| Fraction::whole(*at)).collect(alloc)
+}
