@@ -192,7 +192,7 @@ small_sum b gap n s i end h =
     let sign : All (λ z. pos 0 ≤ℤ z) n.flow.items = All-from_get_or (λ z. pos 0 ≤ℤ z) n.flow.items (pos 0) end.sound.flow.sign in
     let both = both_ends (λ (l : Link). l.to) (λ (l : Link). l.from) i n.links.items n.flow.items apart_here sign in
     let rest : pos 0 ≤ℤ (pos (items_of n) *ℤ total_size n.excess.items) = mul-nonneg (pos (items_of n)) (total_size n.excess.items) (omega (arith, ints)) (total_size_sign n.excess.items) in
-    let few : (pos (items_of n) *ℤ most_force) ≤ℤ pos 78608000000000000000000000000000000000 = omega (arith, ints, end.sound.frame.few) in
+    let few : (pos (items_of n) *ℤ pos most_force) ≤ℤ pos 78608000000000000000000000000000000000 = omega (arith, ints, end.sound.frame.few) in
     let most : pos 78608000000000000000000000000000000000 ≤ℤ pos (2 ^ 126) = omega (arith, ints, lit< {m = 78608000000000000000000000000000000000} {n = 2 ^ 126} tt) in
     omega (arith, ints, both, rest, few, most, end.sound.flow.small_all, comes_in b gap n s i end h, goes_out b gap n s i end h)
 

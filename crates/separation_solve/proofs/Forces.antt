@@ -62,7 +62,7 @@ sum_below-constant zero c = omega (arith, ints)
 sum_below-constant (suc k) c = omega (arith, ints, sum_below-constant k c)
 
 -- forces are together not too large
-total_forces : (n : Network) → IsFrame n → AreKept n → ((i : ℕ) → i < length n.excess.items → int_at n.excess.items i ≡ force n i) → total_size n.excess.items ≤ℤ most_force
+total_forces : (n : Network) → IsFrame n → AreKept n → ((i : ℕ) → i < length n.excess.items → int_at n.excess.items i ≡ force n i) → total_size n.excess.items ≤ℤ pos most_force
 total_forces n frame kept is =
     let k = length n.excess.items in
     let each = sum_below-le k (λ i. pos (unsigned_abs (int_at n.excess.items i))) (λ _. pos 108800000000000000000)
@@ -84,7 +84,7 @@ no_flow n frame kept none is =
         excess = λ i h. omega (arith, ints, is i h, sum_at-zero (λ (l : Link). l.to) i n.links.items n.flow.items all, sum_at-zero (λ (l : Link). l.from) i n.links.items n.flow.items all);
         small = size;
         small_each = λ j h. omega (arith, ints, none j h, size);
-        small_all = omega (arith, ints, sum, mul-mono (pos (items_of n)) (total_size n.excess.items) most_force (omega (arith, ints)) size);
+        small_all = omega (arith, ints, sum, mul-mono (pos (items_of n)) (total_size n.excess.items) (pos most_force) (omega (arith, ints)) size);
       };
     }
 

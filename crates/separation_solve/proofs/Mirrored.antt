@@ -160,7 +160,7 @@ turned_flow n links wants places excess mirrored frame flow t =
     let items : length wants.items ≡ items_of n = ap length t.wants_are ∙ length-map n.wants.items neg_ℤ in
     let size : total_size excess.items ≡ total_size n.excess.items = ap total_size t.excess_are ∙ total_size-negated n.excess.items in
     let count : pos (length wants.items) *ℤ total_size excess.items ≡ pos (items_of n) *ℤ total_size n.excess.items = ap (λ k. pos k *ℤ total_size excess.items) items ∙ ap (λ z. pos (items_of n) *ℤ z) size in
-    let most : pos (length wants.items) *ℤ most_force ≡ pos (items_of n) *ℤ most_force = ap (λ k. pos k *ℤ most_force) items in
+    let most : pos (length wants.items) *ℤ pos most_force ≡ pos (items_of n) *ℤ pos most_force = ap (λ k. pos k *ℤ pos most_force) items in
     record {
       sign = flow.sign;
       tight = λ j h some.

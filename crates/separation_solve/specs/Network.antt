@@ -56,8 +56,8 @@ abbrev pub total_flow : List ℤ → ℤ
 total_flow zs = sum_below (length zs) (int_at zs)
 
 -- the most that the forces of all items are together
-abbrev pub most_force : ℤ
-most_force = pos 92480000000000000000000000000
+abbrev pub most_force : ℕ
+most_force = 92480000000000000000000000000
 
 -- two nodes, of which one may be the wall, and a gap of the sheet's size at most
 pub record IsLink (items : ℕ) (link : Link) : Type 0 where
@@ -116,9 +116,9 @@ pub record IsFlow (n : Network) : Type 0 where
   pub sign : EachIndex n.flow.items (λ j. pos 0 ≤ℤ int_at n.flow.items j)
   pub tight : EachIndex n.flow.items (λ j. int_at n.flow.items j ≢ pos 0 → IsTight n.places.items (link_at n.links.items j))
   pub excess : EachIndex n.excess.items (λ i. int_at n.excess.items i ≡ force n i -ℤ net_flow n.links.items n.flow.items i)
-  pub small : total_size n.excess.items ≤ℤ most_force
-  pub small_each : EachIndex n.flow.items (λ j. (int_at n.flow.items j +ℤ total_size n.excess.items) ≤ℤ most_force)
-  pub small_all : (total_flow n.flow.items +ℤ (pos (items_of n) *ℤ total_size n.excess.items)) ≤ℤ (pos (items_of n) *ℤ most_force)
+  pub small : total_size n.excess.items ≤ℤ pos most_force
+  pub small_each : EachIndex n.flow.items (λ j. (int_at n.flow.items j +ℤ total_size n.excess.items) ≤ℤ pos most_force)
+  pub small_all : (total_flow n.flow.items +ℤ (pos (items_of n) *ℤ total_size n.excess.items)) ≤ℤ (pos (items_of n) *ℤ pos most_force)
 
 -- the network is as the calls on it leave it
 pub record IsSound (n : Network) : Type 0 where

@@ -45,7 +45,7 @@ impl Network {
         self.hindmost()
     }
 
-    /// Of the items that want to go right, the one farthest to the left.
+    /// The first item that wants to go right, in the order in which rules go forward.
     fn hindmost(&self) -> Option<usize>
         ensures { MatchOption result (All (λ z. pos 0 ≤ℤ z) self.now.excess.items)
             (λ start. (start < length self.now.excess.items) × (int_at self.now.excess.items start <ℤ pos 0)) }

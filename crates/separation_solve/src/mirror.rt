@@ -1,6 +1,6 @@
 ghost use Rattle.std.specs.Prelude.{◌≡◌, ◌≤◌, map, neg_ℤ, not, All, unsigned_abs};
 ghost use Rattle.separation_solve.specs.Bundle.{IsCoordinate};
-ghost use Rattle.separation_solve.specs.Network.{IsSameBundle, IsSound, IsSpot, turned_link, turned_place, upright_places};
+ghost use Rattle.separation_solve.specs.Network.{IsSameBundle, IsSound, IsSpot, most_force, turned_link, turned_place, upright_places};
 
 use crate::fraction::Fraction;
 use crate::network::{Link, Network};
@@ -42,7 +42,7 @@ fn turn_places(places: &mut [Fraction])
 }
 
 fn turn_excess(excess: &mut [i128])
-    requires { All (λ z. unsigned_abs z ≤ 92480000000000000000000000000) excess.old }
+    requires { All (λ z. unsigned_abs z ≤ most_force) excess.old }
     ensures { excess.new ≡ map neg_ℤ excess.old }
 {
     for index in 0..excess.len() {
