@@ -2,7 +2,7 @@
 use Rattle.std.proofs.Common.{◌≡◌, ℕ, ◌+◌, ◌*◌, ◌<◌, ◌≤◌, ℤ, pos, ◌+ℤ◌, ◌≤ℤ◌, ◌<ℤ◌, negsuc, List, length, get_or, set, All, false, ⊎_elim, arith, refl, ap, sym, subst, ◌∙◌, length-set, get_or-set_same, get_or-set_other}
 use Rattle.std.specs.Int.{int_min}
 use Rattle.std.specs.List.Sorted.{IsNonDecreasingBy}
-use Rattle.std.proofs.lemmas.Int.{ints, clamps}
+use Rattle.std.proofs.lemmas.Int.{ints}
 use Rattle.std.proofs.lemmas.Bool.{cases_eq}
 use Rattle.std.proofs.lemmas.List.{get_or_default}
 use Rattle.separation_solve.specs.declared.bundle.Rule.{Rule}
@@ -16,32 +16,6 @@ pub record DrawnBack (latest old : List ℤ) (i : ℕ) (places : List ℤ) : Typ
   pub count : length places ≡ length old
   pub drawn : (k : ℕ) → k < i → k < length old → int_at places k ≡ int_min (int_at latest k) (int_at old k)
   pub rest : (k : ℕ) → i ≤ k → int_at places k ≡ int_at old k
-
-pub drawn_none : (latest old : List ℤ) → DrawnBack latest old 0 old
-drawn_none latest old = record { count = refl; drawn = λ k h m. absurd (omega arith); rest = λ k h. refl }
-
--- an item that does not stand behind its latest place
-pub drawn_kept : (latest old : List ℤ) (i : ℕ) (places : List ℤ) → DrawnBack latest old i places → int_at places i ≤ℤ int_at latest i → DrawnBack latest old (i + 1) places
-drawn_kept latest old i places so h = record {
-  count = so.count;
-  drawn = λ k m l. ⊎_elim
-      (λ (e : k ≡ i). subst (λ j. int_at places j ≡ int_min (int_at latest j) (int_at old j)) (sym e) (omega (arith, ints, clamps, so.rest i (omega arith), h)))
-      (λ (o : k ≡ i → ⊥). so.drawn k (omega arith) l)
-      (cases_eq k i);
-  rest = λ k m. so.rest k (omega arith);
-}
-
--- one that is drawn back
-pub drawn_back : (latest old : List ℤ) (i : ℕ) (places : List ℤ) (at : ℤ) → DrawnBack latest old i places → i < length places → at ≡ int_at latest i → at <ℤ int_at places i → DrawnBack latest old (i + 1) (set places i at)
-drawn_back latest old i places at so h is less = record {
-  count = length-set places i at ∙ so.count;
-  drawn = λ k m l. ⊎_elim
-      (λ (e : k ≡ i). subst (λ j. int_at (set places i at) j ≡ int_min (int_at latest j) (int_at old j)) (sym e)
-      (get_or-set_same places i at (pos 0) h ∙ omega (arith, ints, clamps, so.rest i (omega arith), is, less)))
-      (λ (o : k ≡ i → ⊥). get_or-set_other places i k at (pos 0) o ∙ so.drawn k (omega arith) l)
-      (cases_eq k i);
-  rest = λ k m. get_or-set_other places i k at (pos 0) (λ e. absurd (omega arith)) ∙ so.rest k (omega arith);
-}
 
 -- the first rules are kept, and each item stands at its old place or behind it, but not too far
 pub record IsPressed (gap : ℤ) (old : List ℤ) (rules : List Rule) (k : ℕ) (places : List ℤ) : Type 0 where
@@ -66,7 +40,7 @@ pressed_kept gap old rules k places so h = record {
 }
 
 -- a rule of which the right item has to stand so far on at least
-pub record IsLeast (old places : List ℤ) (rule : Rule) (gap least : ℤ) : Type 0 where
+pub record IsLeastPlace (old places : List ℤ) (rule : Rule) (gap least : ℤ) : Type 0 where
   pub left : rule.left < length places
   pub right : rule.right < length places
   pub is : least ≡ int_at places rule.left +ℤ asked gap rule
@@ -78,7 +52,7 @@ pub record IsLeast (old places : List ℤ) (rule : Rule) (gap least : ℤ) : Typ
 
 pub least_of : (gap : ℤ) (old : List ℤ) (rules : List Rule) (k : ℕ) (places : List ℤ) → IsPressed gap old rules k places →
     k < length rules → All (IsForward (length old)) rules → pos 0 ≤ℤ gap → gap ≤ℤ pos 1000000 → length old ≤ MOST_ITEMS → ((i : ℕ) → i < length old → IsCoordinate (int_at old i)) →
-    IsLeast old places (rule_at rules k) gap (int_at places (rule_at rules k).left +ℤ asked gap (rule_at rules k))
+    IsLeastPlace old places (rule_at rules k) gap (int_at places (rule_at rules k).left +ℤ asked gap (rule_at rules k))
 least_of gap old rules k places so within ok low high few on_sheet =
     let d : Rule = record { left = 0; right = 0; spaced = false } in
     let rule = rule_at rules k in
@@ -99,7 +73,7 @@ least_of gap old rules k places so within ok low high few on_sheet =
 -- a rule that presses its right item on
 pub pressed_on : (gap : ℤ) (old : List ℤ) (rules : List Rule) (k : ℕ) (places : List ℤ) (least : ℤ) → IsPressed gap old rules k places →
     k < length rules → All (IsForward (length old)) rules → IsNonDecreasingBy (λ (r : Rule). r.left) rules →
-    IsLeast old places (rule_at rules k) gap least → int_at places (rule_at rules k).right <ℤ least →
+    IsLeastPlace old places (rule_at rules k) gap least → int_at places (rule_at rules k).right <ℤ least →
     IsPressed gap old rules (k + 1) (set places (rule_at rules k).right least)
 pressed_on gap old rules k places least so within ok sorted at less =
     let d : Rule = record { left = 0; right = 0; spaced = false } in

@@ -1,5 +1,5 @@
 -- The latest positions: each bounds all fractions from the right, and the rules that were taken hold.
-use Rattle.std.proofs.Common.{◌≡◌, ◌≢◌, ℕ, ◌+◌, ◌^◌, ◌<◌, ◌≤◌, ℤ, pos, ◌+ℤ◌, ◌-ℤ◌, ◌*ℤ◌, ◌≤ℤ◌, ◌<ℤ◌, List, [], ◌∷◌, length, get_or, set, replicate, All, ap, sym, subst, refl, ◌∙◌, ⊎_elim, arith, false, length-set, get_or-set_same, get_or-set_other}
+use Rattle.std.proofs.Common.{◌≡◌, ◌≢◌, ℕ, ◌+◌, ◌-◌, ◌^◌, ◌<◌, ◌≤◌, ℤ, pos, ◌+ℤ◌, ◌-ℤ◌, ◌*ℤ◌, ◌≤ℤ◌, ◌<ℤ◌, List, [], ◌∷◌, length, get_or, set, replicate, All, ap, sym, subst, refl, ◌∙◌, ⊎_elim, arith, false, length-set, get_or-set_same, get_or-set_other}
 use Rattle.std.specs.Prelude.{slice_index, EachIndex}
 use Rattle.std.specs.List.Sorted.{IsPermutation, IsNonDecreasingBy}
 use Rattle.std.proofs.lemmas.Int.{ints}
@@ -162,29 +162,41 @@ place_within b gap rs j places i ok bound l =
     let item = ok.items i no_item l in
     record { low = omega (arith, ints, item.lo.low, bound.low i l); high = omega (arith, ints, item.hi.high, bound.high i l) }
 
--- what a step of the loop knows
-pub record IsStep (b : Bundle) (gap : ℤ) (rs : List Rule) (j : ℕ) (places : List ℤ) : Type 0 where
-  pub left : (rule_at rs j).left < length places
-  pub right : (rule_at rs j).right < length places
-  pub item : (rule_at rs j).left < length b.items.items
-  pub fits : (rule_at rs j).right < 2 ^ 64
-  pub place : IsCoordinate (int_at places (rule_at rs j).right)
-  pub left_place : IsCoordinate (int_at places (rule_at rs j).left)
-  pub asked_low : pos 0 ≤ℤ asked gap (rule_at rs j)
-  pub asked_high : asked gap (rule_at rs j) ≤ℤ pos 1000000
+-- what a step of the loop knows: it takes the rule before the n-th
+pub record IsStep (b : Bundle) (gap : ℤ) (rs : List Rule) (n : ℕ) (places : List ℤ) : Type 0 where
+  pub by_left : IsByLeft b rs
+  pub before : n - 1 < length rs
+  pub bound : IsBound b gap rs (n - 1 + 1) places
+  pub left : (rule_at rs (n - 1)).left < length places
+  pub right : (rule_at rs (n - 1)).right < length places
+  pub item : (rule_at rs (n - 1)).left < length b.items.items
+  pub fits : (rule_at rs (n - 1)).right < 2 ^ 64
+  pub place : IsCoordinate (int_at places (rule_at rs (n - 1)).right)
+  pub left_place : IsCoordinate (int_at places (rule_at rs (n - 1)).left)
+  pub lo : IsCoordinate (item_at b.items.items (rule_at rs (n - 1)).left).lo
+  pub asked_low : pos 0 ≤ℤ asked gap (rule_at rs (n - 1))
+  pub asked_high : asked gap (rule_at rs (n - 1)) ≤ℤ pos 1000000
 
-pub step_at : (b : Bundle) (gap : ℤ) (rs : List Rule) (j : ℕ) (places : List ℤ) → IsBundle b → IsByLeft b rs → j < length rs → IsBound b gap rs (j + 1) places → pos 0 ≤ℤ gap → gap ≤ℤ pos 1000000 → IsStep b gap rs j places
-step_at b gap rs j places ok by l bound low high =
+pub step_at : (b : Bundle) (gap : ℤ) (rs : List Rule) (n : ℕ) (places : List ℤ) → IsBundle b → IsPermutation b.rules.items rs → IsNonDecreasingBy (λ (r : Rule). r.left) rs → 0 < n → n ≤ length rs →
+    pos 0 ≤ℤ gap → gap ≤ℤ pos 1000000 → IsBound b gap rs n places → IsStep b gap rs n places
+step_at b gap rs n places ok same sorted some most low high bound =
+    let j = n - 1 in
+    let by : IsByLeft b rs = record { same = same; sorted = sorted } in
+    let l : j < length rs = omega (arith, some, most) in
     let is = rule_in b rs j ok by l in
     let within : (rule_at rs j).left < length b.items.items = omega (arith, is.forward, is.within) in
     let asks = asked_within gap (rule_at rs j) low high in
     record {
+      by_left = by;
+      before = l;
+      bound = subst (λ k. IsBound b gap rs k places) (omega (arith, some)) bound;
       left = omega (arith, within, bound.len);
       right = omega (arith, is.within, bound.len);
       item = within;
       fits = omega (arith, is.within, ok.few);
-      place = place_within b gap rs (j + 1) places (rule_at rs j).right ok bound is.within;
-      left_place = place_within b gap rs (j + 1) places (rule_at rs j).left ok bound within;
+      place = place_within b gap rs n places (rule_at rs j).right ok bound is.within;
+      left_place = place_within b gap rs n places (rule_at rs j).left ok bound within;
+      lo = (ok.items (rule_at rs j).left no_item within).lo;
       asked_low = asks.0;
       asked_high = asks.1;
     }

@@ -185,7 +185,3 @@ first_nearer n start r best place contact j so at nearer = record {
       (λ (o : i ≡ j → ⊥). room_kept n r (link_at n.links.items i) place contact so.aim.reduced nearer (so.room i (omega arith)))
       (cases_eq i j);
 }
-
--- an aim is light
-pub aim_light : (n : Network) (start : ℕ) (place : Fraction) → IsAim n start place → IsLight place
-aim_light n start place aim = record { den = aim.den; within = aim.within }

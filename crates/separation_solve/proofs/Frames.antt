@@ -1,5 +1,5 @@
 -- The links of a bundle as a network's.
-use Rattle.std.proofs.Common.{◌≡◌, ℕ, ◌+◌, ◌-◌, ◌<◌, ◌≤◌, ℤ, pos, neg_ℤ, ◌≤ℤ◌, List, ◌++◌, length, get_or, map, All, Vec, false, if◌then◌else◌, ⊎_elim, arith, ap, sym, subst, ◌∙◌, length-append}
+use Rattle.std.proofs.Common.{◌≡◌, ℕ, ◌+◌, ◌-◌, ◌<◌, ◌≤◌, ℤ, pos, ◌≤ℤ◌, List, ◌++◌, length, get_or, map, All, Vec, ⊎_elim, arith, ap, sym, subst, ◌∙◌, length-append}
 use Rattle.std.specs.declared.alloc.Global.{Global}
 use Rattle.std.proofs.lemmas.Bool.{cases_lt}
 use Rattle.std.proofs.lemmas.Int.{ints}
@@ -11,9 +11,10 @@ use Rattle.separation_solve.specs.declared.network.Link.{Link}
 use Rattle.separation_solve.specs.declared.network.Network.{Network}
 use Rattle.separation_solve.specs.Bundle.{IsBundle, IsCoordinate, IsItem, item_at, rule_at}
 use Rattle.separation_solve.specs.Gap.{IsGap}
-use Rattle.separation_solve.specs.Network.{AreKept, IsFrame, IsKept, IsLimited, IsLink, IsListed, IsNetworkOf, items_of, link_at, links_of, lower_links, place_at, rule_link, turned_link, upper_links}
+use Rattle.separation_solve.specs.Network.{AreKept, IsFrame, IsKept, IsLimited, IsLink, IsListed, items_of, link_at, links_of, lower_links, place_at, rule_link, upper_links}
 use Rattle.separation_solve.specs.Start.{AreStartPlaces}
 use Rattle.separation_solve.proofs.Bounds.{asked_within, no_item, no_rule}
+use Rattle.separation_solve.proofs.Conditions.{want_on_sheet}
 use Rattle.separation_solve.proofs.Mirrored.{coordinate_turned}
 use Rattle.separation_solve.proofs.LinkLists.{get_or-numbered, length-numbered, lower_is, lower_link, no_link, numbered, upper_is, upper_link}
 
@@ -155,9 +156,6 @@ made_items b gap n made = ap length made.wants ∙ length-map b.items.items (λ 
 of_items : {X : Type 0} (b : Bundle) (f : Item → X) (P : X → Type 0) (xs : List X) → IsBundle b → xs ≡ map f b.items.items → ((item : Item) → IsItem item → P (f item)) → All P xs
 of_items b f P xs bundle e h = subst (All P) (sym e) (All-map P f b.items.items (All-weaker IsItem (λ item. P (f item)) h b.items.items bundle.items))
 
-want_coordinate : (item : Item) → IsItem item → IsCoordinate item.want
-want_coordinate item is = record { low = omega (arith, ints, is.lo.low, is.want_low); high = omega (arith, ints, is.hi.high, is.want_high) }
-
 pub made_frame : (b : Bundle) (gap : ℤ) (n : Network) → IsBundle b → IsGap b gap → IsMade b gap n → IsFrame n
 made_frame b gap n bundle is made =
     let items = made_items b gap n made in
@@ -171,7 +169,7 @@ made_frame b gap n bundle is made =
       flow = made.flow;
       light = of_items b (λ (item : Item). item.weight) (λ w. w ≤ 4) n.weights.items bundle made.weights (λ item h. h.weight_high);
       heavy = of_items b (λ (item : Item). item.weight) (λ w. 1 ≤ w) n.weights.items bundle made.weights (λ item h. h.weight_low);
-      wants = of_items b (λ (item : Item). item.want) IsCoordinate n.wants.items bundle made.wants want_coordinate;
+      wants = of_items b (λ (item : Item). item.want) IsCoordinate n.wants.items bundle made.wants want_on_sheet;
       links = λ j h. subst (λ k. IsLink k (link_at n.links.items j)) (sym items)
           (subst (λ l. IsLink (item_count b) (link_at l j)) (sym made.links)
           (All-get_or (IsLink (item_count b)) (links_of b gap) j no_link (omega (arith, ap length made.links, h)) links));
@@ -190,15 +188,6 @@ made_kept b gap n made =
       wall_den = ap (λ k. (place_at n.places.items k).den) items ∙ made.places.wall_den;
       kept = λ j h. subst (λ l. IsKept n.places.items (link_at l j)) (sym made.links) (made.places.kept j (omega (arith, ap length made.links, h)));
     }
-
--- a network that is not mirrored is of the bundle that it was made of
-pub made_of : (b : Bundle) (gap : ℤ) (n : Network) → n.mirrored ≡ false → n.links.items ≡ links_of b gap → n.wants.items ≡ map (λ (item : Item). item.want) b.items.items →
-    n.weights.items ≡ map (λ (item : Item). item.weight) b.items.items → IsNetworkOf b gap n
-made_of b gap n upright links wants weights = record {
-  links = ap (λ m. if m then map turned_link n.links.items else n.links.items) upright ∙ links;
-  wants = ap (λ m. if m then map neg_ℤ n.wants.items else n.wants.items) upright ∙ wants;
-  weights = weights;
-}
 
 -- both ends of each link are nodes
 pub ends_below : (b : Bundle) (gap : ℤ) (links : List Link) (nodes : ℕ) → IsBundle b → IsGap b gap → links ≡ links_of b gap → nodes ≡ item_count b + 1 →

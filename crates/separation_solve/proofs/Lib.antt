@@ -27,6 +27,8 @@ pub mod Conditions
 pub mod Accepted
 pub mod Bounds
 pub mod Widest
+mod Sorting
+pub mod WidestExists
 pub mod Middle
 mod LinkLists
 mod Listing

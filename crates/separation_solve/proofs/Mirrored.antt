@@ -1,5 +1,5 @@
 -- A network whose left and right have changed sides.
-use Rattle.std.proofs.Common.{◌≡◌, ℕ, ◌+◌, ◌<◌, ◌==◌, Bool, true, false, not, ℤ, pos, neg_ℤ, ◌-ℤ◌, ◌+ℤ◌, ◌*ℤ◌, ◌≤ℤ◌, unsigned_abs, Vec, All, Contains, List, [], ◌∷◌, map, length, get_or, slice_index, if◌then◌else◌, arith, refl, ap, sym, subst, ◌∙◌}
+use Rattle.std.proofs.Common.{◌≡◌, ℕ, ◌+◌, ◌<◌, Bool, true, false, not, ℤ, pos, neg_ℤ, ◌-ℤ◌, ◌*ℤ◌, ◌≤ℤ◌, unsigned_abs, Vec, All, Contains, List, [], ◌∷◌, map, length, get_or, slice_index, if◌then◌else◌, arith, refl, ap, sym, subst, ◌∙◌}
 use Rattle.std.specs.declared.alloc.Global.{Global}
 use Rattle.std.proofs.Math.ListN.{get_or-map}
 use Rattle.std.proofs.lemmas.Int.{ints}
@@ -10,10 +10,11 @@ use Rattle.separation_solve.specs.declared.fraction.Fraction.{Fraction}
 use Rattle.separation_solve.specs.declared.network.Link.{Link}
 use Rattle.separation_solve.specs.declared.network.Network.{Network}
 use Rattle.separation_solve.specs.Network.{AreKept, IsFlow, IsFrame, IsKept, IsLink, IsSound, IsSpot, IsTight, force, items_of, link_at, most_force, net_flow, place_at, total_size, turned_link, turned_place}
-use Rattle.separation_solve.specs.Sum.{sum_at, sum_below}
+use Rattle.separation_solve.specs.Sum.{sum_below}
 use Rattle.separation_solve.proofs.Contact.{reduced_mirrored}
 use Rattle.separation_solve.proofs.Ring.{ring, var, num, minus, ◌⊗◌, ◌⊖◌}
 use Rattle.separation_solve.proofs.Sums.{sum_below-same}
+use Rattle.separation_solve.proofs.PartSums.{sum_at-map}
 
 pub neg-neg : (z : ℤ) → neg_ℤ (neg_ℤ z) ≡ z
 neg-neg z = omega (arith, ints)
@@ -27,11 +28,6 @@ place_at-turned places i = get_or-map turned_place places i (record { num = pos 
 
 pub int_at-negated : (zs : List ℤ) (i : ℕ) → int_at (map neg_ℤ zs) i ≡ neg_ℤ (int_at zs i)
 int_at-negated zs i = get_or-map neg_ℤ zs i (pos 0)
-
-sum_at-map : {A : Type 0} (end : A → ℕ) (f : A → A) (i : ℕ) (xs : List A) (zs : List ℤ) → sum_at end i (map f xs) zs ≡ sum_at (λ x. end (f x)) i xs zs
-sum_at-map end f i [] zs = refl
-sum_at-map end f i (x ∷ xs) [] = refl
-sum_at-map end f i (x ∷ xs) (z ∷ zs) = ap (λ s. (if end (f x) == i then z else pos 0) +ℤ s) (sum_at-map end f i xs zs)
 
 net_flow-turned : (links : List Link) (flow : List ℤ) (i : ℕ) → net_flow (map turned_link links) flow i ≡ neg_ℤ (net_flow links flow i)
 net_flow-turned links flow i =

@@ -5,10 +5,9 @@ use Rattle.separation_solve.specs.Block.{factorial, objective, squared}
 use Rattle.separation_solve.specs.Bundle.{int_at}
 use Rattle.separation_solve.specs.Fraction.{most_weight}
 use Rattle.separation_solve.specs.Sum.{sum_below}
-use Rattle.separation_solve.specs.declared.bundle.Bundle.{Bundle}
 use Rattle.separation_solve.specs.declared.fraction.Fraction.{Fraction}
 use Rattle.separation_solve.specs.declared.network.Network.{Network}
-use Rattle.separation_solve.specs.Network.{IsNetworkOf, IsSameBundle, place_at, turned_place, upright_places, upright_wants}
+use Rattle.separation_solve.specs.Network.{IsSameBundle, place_at, turned_place, upright_places, upright_wants}
 use Rattle.separation_solve.proofs.Mirrored.{int_at-negated, place_at-turned}
 use Rattle.separation_solve.proofs.Ring.{ring, var, minus, ◌⊗◌, ◌⊖◌}
 use Rattle.separation_solve.proofs.Sums.{sum_below-same}
@@ -48,11 +47,3 @@ same_objective old new same places =
     ∙ ap (λ ws. objective_of (factorial most_weight) old.weights.items ws (upright_places new)) same.wants
     ∙ ap (objective_of (factorial most_weight) old.weights.items (upright_wants old)) places
     ∙ sym (objective-upright old)
-
--- a network of the same bundle is of the bundle
-pub of_same : (b : Bundle) (gap : ℤ) (old new : Network) → IsNetworkOf b gap old → IsSameBundle old new → IsNetworkOf b gap new
-of_same b gap old new of same = record {
-  links = same.links ∙ of.links;
-  wants = same.wants ∙ of.wants;
-  weights = same.weights ∙ of.weights;
-}

@@ -20,8 +20,8 @@ const MOST_TOGETHER: i128 = 1 << 126;
 /// sum of squared displacements. Takes no memory, and for each item a pass over all rules.
 ///
 /// The multipliers are those of Karush, Kuhn and Tucker (Boyd and Vandenberghe, "Convex Optimization", section 5.5).
-/// Says no also where a list has the wrong length, a number is above 2^100, the sum of one item's multipliers is
-/// above 2^126, or the gap is not from 0 to the wanted one.
+/// Says no also where a list has the wrong length, a position's or a multiplier's absolute value is above 2^100, the
+/// multipliers of one item are together above 2^126, or the gap is not from 0 to the wanted one.
 pub fn verify(bundle: &Bundle, solution: &Solution) -> bool
     requires { IsBundle bundle.now }
     ensures accepted { IsTrue result ↔ IsAccepted bundle.now solution.now }

@@ -2,9 +2,15 @@ ghost use Rattle.std.specs.Prelude.{◌≡◌, ℕ, ℤ, ◌*ℤ◌, pos, List, 
 ghost use Rattle.separation_solve.specs.declared.bundle.Bundle.{Bundle};
 ghost use Rattle.separation_solve.specs.declared.bundle.Solution.{Solution};
 ghost use Rattle.separation_solve.specs.Bundle.{IsBundle, int_at};
-ghost use Rattle.separation_solve.specs.Gap.{IsGap};
+ghost use Rattle.separation_solve.specs.Gap.{IsGap, IsWidestGap};
 ghost use Rattle.separation_solve.specs.Least.{IsLeast};
 ghost use Rattle.separation_solve.specs.Certified.{IsCertified};
+
+/// Each bundle has one widest gap.
+pub fn one_widest_gap()
+    ensures some { (b : Bundle) → IsBundle b → (gap : ℤ) × IsWidestGap b gap }
+    ensures one { (b : Bundle) (gap other : ℤ) → IsWidestGap b gap → IsWidestGap b other → gap ≡ other }
+{}
 
 /// Multipliers show positions to be least: by weak duality, no other positions have a lower sum.
 pub fn certified_is_least()

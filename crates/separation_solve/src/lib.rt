@@ -23,7 +23,7 @@ mod start;
 pub use bundle::{Bundle, Item, MOST_ITEMS, Rule, Solution};
 pub use certificate::verify;
 pub use gap::widest_gap;
-pub use laws::{certified_is_least, least_positions_exist, one_least};
+pub use laws::{certified_is_least, least_positions_exist, one_least, one_widest_gap};
 pub use solver::solve;
 
 #[cfg(test)]

@@ -2,8 +2,8 @@ ghost use Rattle.std.specs.Prelude.{◌≡◌, pos, ◌≤ℤ◌, IfOk};
 ghost use Rattle.separation_solve.specs.Bundle.{IsBundle, IsItem};
 
 use crate::{
-    Bundle, Item, Rule, Solution, certified_is_least, least_positions_exist, one_least, solve,
-    verify, widest_gap,
+    Bundle, Item, Rule, Solution, certified_is_least, least_positions_exist, one_least,
+    one_widest_gap, solve, verify, widest_gap,
 };
 use std::alloc::{AllocError, Global};
 use std::test::Fail;
@@ -243,6 +243,7 @@ fn solves_a_row(rt: HostRuntime) -> Result<(), Fail> {
 
 #[test]
 fn laws_run() {
+    one_widest_gap();
     certified_is_least();
     one_least();
     least_positions_exist();
