@@ -1,5 +1,5 @@
 -- An accepted solution, by the conditions that are tested one after another.
-use Rattle.std.proofs.Common.{ℕ, ◌<◌, ℤ, pos, ◌≤ℤ◌, List, length, All, subst, arith, false}
+use Rattle.std.proofs.Common.{ℕ, ◌<◌, ℤ, pos, ◌≤ℤ◌, List, length, All, subst, arith}
 use Rattle.std.specs.Prelude.{slice_index_or, EachIndex}
 use Rattle.std.proofs.lemmas.Int.{ints}
 use Rattle.std.proofs.lemmas.List.{get_or_default}
@@ -7,12 +7,9 @@ use Rattle.std.proofs.lemmas.List.Elements.{All-from_get_or}
 use Rattle.separation_solve.specs.declared.bundle.Rule.{Rule}
 use Rattle.separation_solve.specs.declared.bundle.Bundle.{Bundle}
 use Rattle.separation_solve.specs.declared.bundle.Solution.{Solution}
-use Rattle.separation_solve.specs.Bundle.{slack}
+use Rattle.separation_solve.specs.Bundle.{slack, no_rule}
 use Rattle.separation_solve.specs.Certified.{IsAccepted, IsSmall}
 use Rattle.separation_solve.specs.Checked.{HasLengths, HasMultipliers, IsMultiplier, IsAtRest, KeepsLimitsAt, KeepsRuleAt}
-
-pub lengths_of : (b : Bundle) (s : Solution) → IsAccepted b s → HasLengths b s
-lengths_of b s a = record { dens = a.certified.meets.dens; places = a.certified.meets.places; mults = a.certified.mults; lows = a.certified.lows; highs = a.certified.highs }
 
 multipliers_of_list : (ms : List ℤ) → All IsSmall ms → All (λ m. pos 0 ≤ℤ m) ms → All IsMultiplier ms
 multipliers_of_list ms small sign k d l = record { sign = sign k d l; small = omega (arith, ints, small k d l, sign k d l) }
@@ -32,11 +29,6 @@ limits_of b s a i l = record {
   tight = a.certified.tight_limits i l;
 }
 
-pub rules_of : (b : Bundle) (s : Solution) → IsAccepted b s → EachIndex b.rules.items (KeepsRuleAt b s)
-rules_of b s a j l =
-    let none : Rule = record { left = 0; right = 0; spaced = false } in
-    record { met = a.certified.meets.rules j none l; tight = a.certified.tight_rules j l }
-
 pub rest_of : (b : Bundle) (s : Solution) → IsAccepted b s → EachIndex b.items.items (IsAtRest b s)
 rest_of b s a i l = record { small = a.small_sums i l; balanced = a.certified.balanced i l }
 
@@ -45,8 +37,7 @@ small_list ms ok k d l = omega (arith, ints, (ok k d l).sign, (ok k d l).small)
 
 rule_met : (b : Bundle) (s : Solution) → EachIndex b.rules.items (KeepsRuleAt b s) → (j : ℕ) (d : Rule) → j < length b.rules.items → pos 0 ≤ℤ slack s.gap s.den.items s.pos.items (slice_index_or b.rules.items j d)
 rule_met b s rules j d l =
-    let none : Rule = record { left = 0; right = 0; spaced = false } in
-    subst (λ r. pos 0 ≤ℤ slack s.gap s.den.items s.pos.items r) (get_or_default b.rules.items j none d l) (rules j l).met
+    subst (λ r. pos 0 ≤ℤ slack s.gap s.den.items s.pos.items r) (get_or_default b.rules.items j no_rule d l) (rules j l).met
 
 pub accepted : (b : Bundle) (s : Solution) → pos 0 ≤ℤ s.gap → s.gap ≤ℤ b.wanted → HasLengths b s → HasMultipliers s →
     EachIndex b.items.items (KeepsLimitsAt b s) → EachIndex b.rules.items (KeepsRuleAt b s) → EachIndex b.items.items (IsAtRest b s) → IsAccepted b s

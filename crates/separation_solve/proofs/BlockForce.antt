@@ -4,11 +4,10 @@ use Rattle.std.proofs.lemmas.Int.{ints, by_lt_z}
 use Rattle.std.proofs.lemmas.Bool.{cases_Bool, true≢false, false_from_ne_true}
 use Rattle.std.proofs.lemmas.List.Elements.{All-from_get_or}
 use Rattle.separation_solve.specs.declared.network.Network.{Network}
-use Rattle.separation_solve.specs.declared.network.Link.{Link}
 use Rattle.separation_solve.specs.declared.reach.Reach.{Reach}
 use Rattle.separation_solve.specs.Sum.{sum_below}
 use Rattle.separation_solve.specs.Bundle.{int_at}
-use Rattle.separation_solve.specs.Network.{IsSound, force, items_of, link_at, net_flow, place_at}
+use Rattle.separation_solve.specs.Network.{IsSound, force, items_of, link_at, net_flow, place_at, no_link}
 use Rattle.separation_solve.specs.Reach.{IsBlock, IsLead, found_at}
 use Rattle.separation_solve.specs.Block.{ahead_of_want, block_moment, block_weight, is_member, member_offset, member_weight}
 use Rattle.separation_solve.proofs.Ring.{mul_comm, ring, var, num, ◌⊕◌, ◌⊗◌, ◌⊖◌}
@@ -78,11 +77,10 @@ net_zero : (n : Network) (start : ℕ) (r : Reach) → IsSound n → IsBlock n s
 net_zero n start r sound block =
     let links = n.links.items in
     let flow = n.flow.items in
-    let d : Link = record { from = 0; to = 0; gap = pos 0 } in
     net-exchange (λ l. l.to) (λ l. l.from) (suc (items_of n)) (mark r) links flow
-    (All-from_get_or (λ l. l.to < suc (items_of n)) links d (λ j h. omega (arith, (sound.frame.links j h).to)))
-    (All-from_get_or (λ l. l.from < suc (items_of n)) links d (λ j h. omega (arith, (sound.frame.links j h).from)))
-    ∙ sum_pairs-zero (λ l z. z *ℤ (mark r l.to -ℤ mark r l.from)) d links flow (λ j h k. ⊎_elim
+    (All-from_get_or (λ l. l.to < suc (items_of n)) links no_link (λ j h. omega (arith, (sound.frame.links j h).to)))
+    (All-from_get_or (λ l. l.from < suc (items_of n)) links no_link (λ j h. omega (arith, (sound.frame.links j h).from)))
+    ∙ sum_pairs-zero (λ l z. z *ℤ (mark r l.to -ℤ mark r l.from)) no_link links flow (λ j h k. ⊎_elim
     (λ none. ap (λ z. z *ℤ (mark r (link_at links j).to -ℤ mark r (link_at links j).from)) none ∙ omega (arith, ints))
     (λ some. let same = no_crossing n start r sound block j h some in
     ap (λ z. int_at flow j *ℤ (z -ℤ mark r (link_at links j).from)) same ∙ difference (int_at flow j) (mark r (link_at links j).from))

@@ -1,25 +1,20 @@
 -- The latest positions: each bounds all fractions from the right, and the rules that were taken hold.
-use Rattle.std.proofs.Common.{◌≡◌, ◌≢◌, ℕ, ◌+◌, ◌-◌, ◌^◌, ◌<◌, ◌≤◌, ℤ, pos, ◌+ℤ◌, ◌-ℤ◌, ◌*ℤ◌, ◌≤ℤ◌, ◌<ℤ◌, List, [], ◌∷◌, length, get_or, set, replicate, All, ap, sym, subst, refl, ◌∙◌, ⊎_elim, arith, false, length-set, get_or-set_same, get_or-set_other}
-use Rattle.std.specs.Prelude.{slice_index, EachIndex}
+use Rattle.std.proofs.Common.{◌≡◌, ◌≢◌, ℕ, ◌+◌, ◌-◌, ◌^◌, ◌<◌, ◌≤◌, ℤ, pos, ◌+ℤ◌, ◌-ℤ◌, ◌*ℤ◌, ◌≤ℤ◌, ◌<ℤ◌, List, [], ◌∷◌, length, get_or, map, set, replicate, All, ap, sym, subst, refl, ◌∙◌, ⊎_elim, arith, length-set, get_or-set_same, get_or-set_other}
+use Rattle.std.specs.Prelude.{slice_index}
 use Rattle.std.specs.List.Sorted.{IsPermutation, IsNonDecreasingBy}
+use Rattle.std.proofs.Math.ListN.{get_or-map}
 use Rattle.std.proofs.lemmas.Int.{ints}
 use Rattle.std.proofs.lemmas.Bool.{cases_eq, cond_both}
-use Rattle.std.proofs.lemmas.List.{get_or-replicate, length-replicate}
+use Rattle.std.proofs.lemmas.List.{get_or-replicate, length-map, length-replicate}
 use Rattle.std.proofs.lemmas.List.Elements.{All-get_or, All-replicate, All-from_get_or}
 use Rattle.std.proofs.lemmas.List.Sorted.{All-permutation, IsPermutation-sym}
 use Rattle.separation_solve.specs.declared.bundle.Rule.{Rule}
 use Rattle.separation_solve.specs.declared.bundle.Item.{Item}
 use Rattle.separation_solve.specs.declared.bundle.Bundle.{Bundle}
-use Rattle.separation_solve.specs.Bundle.{IsBundle, IsCoordinate, IsRule, Meets, item_at, rule_at, int_at, slack, asked}
+use Rattle.separation_solve.specs.Bundle.{IsBundle, IsCoordinate, IsRule, Meets, item_at, rule_at, int_at, slack, asked, no_item, no_rule}
 use Rattle.separation_solve.specs.Latest.{IsLatest, IsNoneBeyond, HasNoRoom}
 use Rattle.separation_solve.proofs.Ring.{ring, var, num, ◌⊕◌, ◌⊗◌, ◌⊖◌, mul_comm}
 use Rattle.separation_solve.proofs.Order.{mul-mono, cancel_le}
-
-abbrev pub no_rule : Rule
-no_rule = record { left = 0; right = 0; spaced = false }
-
-abbrev pub no_item : Item
-no_item = record { want = pos 0; lo = pos 0; hi = pos 0; weight = 0 }
 
 -- the places hold each of the rules from the j-th on, and no fractions stand right of them
 pub record IsBound (b : Bundle) (gap : ℤ) (rs : List Rule) (j : ℕ) (places : List ℤ) : Type 0 where
@@ -37,19 +32,19 @@ pub record IsByLeft (b : Bundle) (rs : List Rule) : Type 0 where
 rule_in : (b : Bundle) (rs : List Rule) (j : ℕ) → IsBundle b → IsByLeft b rs → j < length rs → IsRule b.items.items (rule_at rs j)
 rule_in b rs j ok by l = All-permutation (IsRule b.items.items) b.rules.items rs by.same ok.rules j no_rule l
 
-pub bound_none : (b : Bundle) (gap : ℤ) (rs : List Rule) (is : List Item) (places : List ℤ) → IsBundle b → is ≡ b.items.items → length places ≡ length is → EachIndex is (λ i. int_at places i ≡ (item_at is i).hi) → IsBound b gap rs (length rs) places
-bound_none b gap rs is places ok same len' each =
-    let P : List Item → Type 0 = λ is. EachIndex is (λ i. int_at places i ≡ (item_at is i).hi) in
-    let at : P b.items.items = subst P same each in
-    let len : length places ≡ length b.items.items = len' ∙ ap length same in
+-- each at its upper limit
+pub bound_none : (b : Bundle) (gap : ℤ) (rs : List Rule) (places : List ℤ) → IsBundle b → places ≡ map (λ (item : Item). item.hi) b.items.items → IsBound b gap rs (length rs) places
+bound_none b gap rs places ok is =
+    let at : (i : ℕ) → int_at places i ≡ (item_at b.items.items i).hi = λ i. ap (λ zs. int_at zs i) is ∙ get_or-map (λ (item : Item). item.hi) b.items.items i no_item in
+    let len : length places ≡ length b.items.items = ap length is ∙ length-map b.items.items (λ (item : Item). item.hi) in
     record {
       len = len;
-      low = λ i l. let item = ok.items i no_item l in omega (arith, ints, at i l, item.want_low, item.want_high);
-      high = λ i l. omega (arith, ints, at i l);
+      low = λ i l. let item = ok.items i no_item l in omega (arith, ints, at i, item.want_low, item.want_high);
+      high = λ i l. omega (arith, ints, at i);
       met = λ k h l. absurd (omega arith);
       beyond = λ den place m i l.
           let within : i < length b.items.items = omega arith in
-          subst (λ z. int_at place i ≤ℤ (z *ℤ pos (slice_index den i))) (sym (at i within)) (m.limits i within).high;
+          subst (λ z. int_at place i ≤ℤ (z *ℤ pos (slice_index den i))) (sym (at i)) (m.limits i within).high;
     }
 
 -- a rule carries a bound of its right item over to its left one
@@ -163,7 +158,7 @@ place_within b gap rs j places i ok bound l =
     record { low = omega (arith, ints, item.lo.low, bound.low i l); high = omega (arith, ints, item.hi.high, bound.high i l) }
 
 -- what a step of the loop knows: it takes the rule before the n-th
-pub record IsStep (b : Bundle) (gap : ℤ) (rs : List Rule) (n : ℕ) (places : List ℤ) : Type 0 where
+pub record IsBoundStep (b : Bundle) (gap : ℤ) (rs : List Rule) (n : ℕ) (places : List ℤ) : Type 0 where
   pub by_left : IsByLeft b rs
   pub before : n - 1 < length rs
   pub bound : IsBound b gap rs (n - 1 + 1) places
@@ -177,9 +172,9 @@ pub record IsStep (b : Bundle) (gap : ℤ) (rs : List Rule) (n : ℕ) (places : 
   pub asked_low : pos 0 ≤ℤ asked gap (rule_at rs (n - 1))
   pub asked_high : asked gap (rule_at rs (n - 1)) ≤ℤ pos 1000000
 
-pub step_at : (b : Bundle) (gap : ℤ) (rs : List Rule) (n : ℕ) (places : List ℤ) → IsBundle b → IsPermutation b.rules.items rs → IsNonDecreasingBy (λ (r : Rule). r.left) rs → 0 < n → n ≤ length rs →
-    pos 0 ≤ℤ gap → gap ≤ℤ pos 1000000 → IsBound b gap rs n places → IsStep b gap rs n places
-step_at b gap rs n places ok same sorted some most low high bound =
+pub bound_step : (b : Bundle) (gap : ℤ) (rs : List Rule) (n : ℕ) (places : List ℤ) → IsBundle b → IsPermutation b.rules.items rs → IsNonDecreasingBy (λ (r : Rule). r.left) rs → 0 < n → n ≤ length rs →
+    pos 0 ≤ℤ gap → gap ≤ℤ pos 1000000 → IsBound b gap rs n places → IsBoundStep b gap rs n places
+bound_step b gap rs n places ok same sorted some most low high bound =
     let j = n - 1 in
     let by : IsByLeft b rs = record { same = same; sorted = sorted } in
     let l : j < length rs = omega (arith, some, most) in

@@ -1,12 +1,11 @@
 -- Multipliers show positions to be least.
-use Rattle.std.proofs.Common.{◌≡◌, ◌≢◌, ℕ, suc, ◌*◌, ◌/◌, ◌<◌, ℤ, pos, ◌+ℤ◌, ◌-ℤ◌, ◌*ℤ◌, ◌≤ℤ◌, List, [], ◌∷◌, length, get_or, replicate, ap, sym, refl, ◌∙◌, ⊎_elim, false, arith}
+use Rattle.std.proofs.Common.{◌≡◌, ◌≢◌, ℕ, suc, ◌*◌, ◌/◌, ◌<◌, ℤ, pos, ◌+ℤ◌, ◌-ℤ◌, ◌*ℤ◌, ◌≤ℤ◌, List, [], ◌∷◌, length, get_or, replicate, ap, sym, refl, ◌∙◌, ⊎_elim, arith}
 use Rattle.std.proofs.lemmas.Int.{ints}
 use Rattle.std.proofs.lemmas.List.Elements.{All-get_or}
-use Rattle.separation_solve.specs.declared.bundle.Rule.{Rule}
 use Rattle.separation_solve.specs.declared.bundle.Bundle.{Bundle}
 use Rattle.separation_solve.specs.declared.bundle.Solution.{Solution}
 use Rattle.separation_solve.specs.Sum.{sum_below, product}
-use Rattle.separation_solve.specs.Bundle.{IsBundle, Meets, item_at, rule_at, int_at, asked}
+use Rattle.separation_solve.specs.Bundle.{IsBundle, Meets, item_at, rule_at, int_at, asked, no_rule}
 use Rattle.separation_solve.specs.Least.{IsLeast, square, squared_displacement, over_product}
 use Rattle.separation_solve.specs.Certified.{IsCertified, from_left, from_right}
 use Rattle.separation_solve.proofs.Ring.{ring, var, num, ◌⊕◌, ◌⊗◌, ◌⊖◌}
@@ -121,12 +120,11 @@ module _ (b : Bundle) (s : Solution) (ok : IsBundle b) (cert : IsCertified b s) 
   rule_works : (j : ℕ) → j < length b.rules.items → pos 0 ≤ℤ (int_at s.mult.items j *ℤ (way (rule_at b.rules.items j).right -ℤ way (rule_at b.rules.items j).left))
   rule_works j l =
       let r = rule_at b.rules.items j in
-      let none : Rule = record { left = 0; right = 0; spaced = false } in
-      let ends = ends_within b j none ok l in
+      let ends = ends_within b j no_rule ok l in
       guarded (int_at s.mult.items j) (way r.right -ℤ way r.left) (All-get_or (λ m. pos 0 ≤ℤ m) s.mult.items j (pos 0) (omega (arith, l, cert.mults)) cert.mult_sign)
       (λ some. let tight = cert.tight_rules j l some in
       let over = scaled_tight (asked s.gap r) (int_at place r.left) (int_at place r.right) (get_or den r.left 0) (get_or den r.right 0) (share den r.left) (share den r.right) D (product-positive den cert.meets.positive) (share_at r.left ends.0) (share_at r.right ends.1) tight.0 in
-      let apart : pos 0 ≤ℤ (step D q X Y r.right -ℤ step D q X Y r.left) = step_rule D q (asked s.gap r) (X r.left) (X r.right) (Y r.left) (Y r.right) (there.rules j none l) over in
+      let apart : pos 0 ≤ℤ (step D q X Y r.right -ℤ step D q X Y r.left) = step_rule D q (asked s.gap r) (X r.left) (X r.right) (Y r.left) (Y r.right) (there.rules j no_rule l) over in
       let one : pos (share den r.left) ≡ pos (share den r.right) = ap (λ d. pos (D / d)) tight.1 in
       let e : way r.right -ℤ way r.left ≡ (step D q X Y r.right -ℤ step D q X Y r.left) *ℤ pos (share den r.right) =
       ap (λ x. way r.right -ℤ (step D q X Y r.left *ℤ x)) one ∙ ring (step D q X Y r.left ∷ step D q X Y r.right ∷ pos (share den r.right) ∷ []) ((var 1 ⊗ var 2) ⊖ (var 0 ⊗ var 2)) ((var 1 ⊖ var 0) ⊗ var 2) refl in
@@ -147,7 +145,7 @@ module _ (b : Bundle) (s : Solution) (ok : IsBundle b) (cert : IsCertified b s) 
         limits,
         sum_below-add n by_rules by_limits,
         net-exchange (λ r. r.right) (λ r. r.left) n way b.rules.items s.mult.items (λ k d l. (ends_within b k d ok l).1) (λ k d l. (ends_within b k d ok l).0),
-        pairs-sign (λ r m. m *ℤ (way r.right -ℤ way r.left)) (record { left = 0; right = 0; spaced = false }) b.rules.items s.mult.items rule_works,
+        pairs-sign (λ r m. m *ℤ (way r.right -ℤ way r.left)) no_rule b.rules.items s.mult.items rule_works,
       )
 
   pub no_lower : (square (pos q) *ℤ squared_displacement b.items.items D X) ≤ℤ (square (pos D) *ℤ squared_displacement b.items.items q Y)

@@ -1,5 +1,5 @@
 -- The conditions of a certificate, from what the code finds.
-use Rattle.std.proofs.Common.{◌≡◌, ◌≢◌, ℕ, ◌+◌, ◌*◌, ◌<◌, ◌≤◌, ◌^◌, false, ℤ, pos, negsuc, ◌+ℤ◌, ◌-ℤ◌, ◌*ℤ◌, ◌≤ℤ◌, ◌<ℤ◌, ◌↔◌, List, length, get_or, drop, All, ap, sym, subst, refl, ◌∙◌, arith, lit<}
+use Rattle.std.proofs.Common.{◌≡◌, ℕ, ◌+◌, ◌*◌, ◌<◌, ◌≤◌, ◌^◌, ℤ, pos, negsuc, ◌+ℤ◌, ◌-ℤ◌, ◌*ℤ◌, ◌≤ℤ◌, ◌<ℤ◌, ◌↔◌, List, length, get_or, drop, All, ap, sym, subst, refl, ◌∙◌, arith, lit<}
 use Rattle.std.specs.Prelude.{slice_index, EachIndex}
 use Rattle.std.specs.Prelude.{FitsSigned, unsigned_abs}
 use Rattle.std.specs.Int.{w128}
@@ -9,27 +9,17 @@ use Rattle.separation_solve.specs.declared.bundle.Item.{Item}
 use Rattle.separation_solve.specs.declared.bundle.Rule.{Rule}
 use Rattle.separation_solve.specs.declared.bundle.Bundle.{Bundle}
 use Rattle.separation_solve.specs.declared.bundle.Solution.{Solution}
-use Rattle.separation_solve.specs.Sum.{sum_at}
-use Rattle.separation_solve.specs.Bundle.{int_at, asked, slack, item_at, rule_at, IsItem, IsBundle, IsCoordinate}
+use Rattle.separation_solve.specs.Sum.{here, sum_at}
+use Rattle.separation_solve.specs.Bundle.{int_at, asked, slack, item_at, rule_at, IsItem, IsBundle, IsCoordinate, no_item, no_rule}
 use Rattle.separation_solve.specs.Apart.{IsOnSheet, room}
 use Rattle.separation_solve.specs.Checked.{KeepsLimits, KeepsLimitsAt, KeepsRule, KeepsRuleAt, IsOnSheetAt, IsMultiplier, IsMet, IsAtRest}
 use Rattle.separation_solve.specs.Certified.{from_left, from_right}
 use Rattle.separation_solve.proofs.Ring.{mul_comm}
 use Rattle.separation_solve.proofs.Order.{mul-mono}
-use Rattle.separation_solve.proofs.Exchange.{here, sum_at-sign}
+use Rattle.separation_solve.proofs.Exchange.{sum_at-sign}
 use Rattle.separation_solve.proofs.Positions.{ends_within}
 use Rattle.std.proofs.lemmas.List.{drop_more, get_or_read}
 use Rattle.std.proofs.lemmas.List.Elements.{All-drop}
-
--- the rule holds exactly where nothing more is asked
-pub kept_at : (gap : ℤ) (den : List ℕ) (place : List ℤ) (rule : Rule) (m : ℤ) → slack gap den place rule ≡ pos 0 → (m ≢ pos 0 → slice_index den rule.left ≡ slice_index den rule.right) → KeepsRule gap den place rule m
-kept_at gap den place rule m e same = record { met = omega (arith, ints, e); tight = λ some. (e, same some) }
-
-pub kept_beyond : (gap : ℤ) (den : List ℕ) (place : List ℤ) (rule : Rule) (m : ℤ) → pos 0 <ℤ slack gap den place rule → m ≡ pos 0 → KeepsRule gap den place rule m
-kept_beyond gap den place rule m h none = record { met = omega (arith, ints, h); tight = λ some. absurd (some none) }
-
-pub none_beyond : (gap : ℤ) (den : List ℕ) (place : List ℤ) (rule : Rule) (m : ℤ) → pos 0 <ℤ slack gap den place rule → KeepsRule gap den place rule m → (m ≢ pos 0 → ⊥)
-none_beyond gap den place rule m h kept some = omega (arith, ints, h, (kept.tight some).0)
 
 pub slack_is : (gap : ℤ) (den : List ℕ) (place : List ℤ) (rule : Rule) (p q a : ℤ) (d e : ℕ) → p ≡ int_at place rule.left → d ≡ slice_index den rule.left → q ≡ int_at place rule.right → e ≡ slice_index den rule.right → a ≡ asked gap rule →
     slack gap den place rule ≡ room p d q e a
@@ -48,10 +38,8 @@ pub rule_places : (b : Bundle) (s : Solution) → IsBundle b → EachIndex b.ite
     IsOnSheetAt s (rule_at rs j).left × IsOnSheetAt s (rule_at rs j).right
 rule_places b s ok kept rs e j l =
     let P : List Rule → Type 0 = λ rs. j < length rs → IsOnSheetAt s (rule_at rs j).left × IsOnSheetAt s (rule_at rs j).right in
-    let none : Rule = record { left = 0; right = 0; spaced = false } in
-    let nothing : Item = record { want = pos 0; lo = pos 0; hi = pos 0; weight = 0 } in
-    let place = λ (i : ℕ) (m : i < length b.items.items). on_sheet (item_at b.items.items i) (slice_index s.den.items i) (int_at s.pos.items i) (int_at s.low.items i) (int_at s.high.items i) (ok.items i nothing m) (kept i m) in
-    let at_bundle : P b.rules.items = λ m. let ends = ends_within b j none ok m in (place (rule_at b.rules.items j).left ends.0, place (rule_at b.rules.items j).right ends.1) in
+    let place = λ (i : ℕ) (m : i < length b.items.items). on_sheet (item_at b.items.items i) (slice_index s.den.items i) (int_at s.pos.items i) (int_at s.low.items i) (int_at s.high.items i) (ok.items i no_item m) (kept i m) in
+    let at_bundle : P b.rules.items = λ m. let ends = ends_within b j no_rule ok m in (place (rule_at b.rules.items j).left ends.0, place (rule_at b.rules.items j).right ends.1) in
     subst P (sym e) at_bundle l
 
 -- the sums over what is left of the rules, one rule on
@@ -148,12 +136,9 @@ displacement_as weight den place want limit x y few small a b limit_is x_is y_is
     to_z-of_z w128 (x *ℤ y) (displacement_fits_as weight den place limit x y few small a b x_is y_is)
     ∙ ap (λ v. v *ℤ y) x_is ∙ ap (λ v. pos (2 * weight) *ℤ v) (y_is ∙ ap (λ v. place -ℤ v) (limit_is ∙ mul_comm want (pos den)))
 
--- a number that is not above a limit of the sheet, over a denominator
-pub want_over : (item : Item) (den : ℕ) (z : ℤ) → IsItem item → 0 < den → z ≡ item.want *ℤ pos den → IsOnSheet den z
-want_over item den z ok positive e = subst (λ v. IsOnSheet den v) (sym e) (limit_on_sheet item.want den (want_on_sheet item ok) positive)
-
-pub bits_same : (a b : ℤ) → FitsSigned w128 a → FitsSigned w128 b → of_z w128 a ≡ of_z w128 b → a ≡ b
-bits_same a b f g e = sym (to_z-of_z w128 a f) ∙ ap (to_z w128) e ∙ to_z-of_z w128 b g
+-- a coordinate over a denominator
+pub want_over : (want : ℤ) (den : ℕ) (z : ℤ) → IsCoordinate want → 0 < den → z ≡ want *ℤ pos den → IsOnSheet den z
+want_over want den z ok positive e = subst (λ v. IsOnSheet den v) (sym e) (limit_on_sheet want den ok positive)
 
 -- what the code's two sums say of an item
 pub rest_from : (b : Bundle) (s : Solution) (i : ℕ) (left right low high displacement rightward leftward : ℤ) →

@@ -8,13 +8,13 @@ use Rattle.separation_solve.specs.declared.network.Network.{Network}
 use Rattle.separation_solve.specs.declared.network.Link.{Link}
 use Rattle.separation_solve.specs.declared.reach.Reach.{Reach}
 use Rattle.separation_solve.specs.Reduced.{IsReduced, IsWithin}
-use Rattle.separation_solve.specs.Network.{IsLink, IsSound, IsSpot, IsTight, items_of, link_at, place_at}
+use Rattle.separation_solve.specs.Network.{IsLink, IsSound, IsSpot, IsTight, items_of, link_at, place_at, no_link, no_place}
 use Rattle.separation_solve.specs.Reach.{IsBlock}
 use Rattle.separation_solve.specs.Block.{IsAim, IsContact, LeadsOut, LeavesRoom, contact_of, is_member, member_offset, offset_of}
 use Rattle.separation_solve.specs.Fraction.{IsLight, IsNotBeyond}
 use Rattle.separation_solve.proofs.Ring.{mul_comm, ring, var, num, ◌⊕◌, ◌⊗◌, ◌⊖◌}
 use Rattle.separation_solve.proofs.Order.{cancel_le, mul-mono, le_both}
-use Rattle.separation_solve.proofs.Contact.{apart, fraction_is, reduced_moved, same_den}
+use Rattle.separation_solve.proofs.LowestTerms.{apart, fraction_is, reduced_moved, same_den}
 use Rattle.separation_solve.proofs.Members.{member_is, member_place}
 use Rattle.separation_solve.proofs.BlockForce.{lead_stays}
 
@@ -105,16 +105,14 @@ pub record IsRead (n : Network) (j : ℕ) (link : Link) : Type 0 where
 
 pub read_link : (n : Network) (j : ℕ) (link : Link) → IsSound n → j < length n.links.items → link ≡ get_or n.links.items j link → IsRead n j link
 read_link n j link sound h e =
-    let d : Link = record { from = 0; to = 0; gap = pos 0 } in
-    let is = get_or_read n.links.items j link h e d in
+    let is = get_or_read n.links.items j link h e no_link in
     record { is = is; ends = subst (IsLink (items_of n)) (sym is) (sound.frame.links j h) }
 
 -- a place that was read
 pub read_place : (n : Network) (i : ℕ) (place : Fraction) → IsSound n → i ≤ items_of n → place ≡ get_or n.places.items i place → (place ≡ place_at n.places.items i) × IsSpot place
 read_place n i place sound h e =
-    let d : Fraction = record { num = pos 0; den = 1 } in
     let within : i < length n.places.items = omega (arith, h, sound.frame.places) in
-    let is = get_or_read n.places.items i place within e d in
+    let is = get_or_read n.places.items i place within e no_place in
     (is, subst IsSpot (sym is) (sound.kept.spots i within))
 
 -- a spot is light
@@ -149,9 +147,6 @@ pub record FirstSoFar (n : Network) (start : ℕ) (r : Reach) (best place : Frac
   pub aim : IsAim n start place
   pub not_beyond : IsNotBeyond place best
   pub room : (j : ℕ) → j < links → LeavesRoom n r place (link_at n.links.items j)
-
-pub first_none : (n : Network) (start : ℕ) (r : Reach) (best : Fraction) → IsAim n start best → FirstSoFar n start r best best 0
-first_none n start r best aim = record { aim = aim; not_beyond = omega (arith, ints); room = λ j h. absurd (omega arith) }
 
 -- a link that does not lead out
 pub first_other : (n : Network) (start : ℕ) (r : Reach) (best place : Fraction) (j : ℕ) → FirstSoFar n start r best place j → ¬ LeadsOut r (link_at n.links.items j) → FirstSoFar n start r best place (j + 1)

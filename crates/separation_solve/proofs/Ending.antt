@@ -9,14 +9,13 @@ use Rattle.separation_solve.specs.declared.bundle.Solution.{Solution}
 use Rattle.separation_solve.specs.declared.fraction.Fraction.{Fraction}
 use Rattle.separation_solve.specs.declared.network.Link.{Link}
 use Rattle.separation_solve.specs.declared.network.Network.{Network}
-use Rattle.separation_solve.specs.Bundle.{IsBundle, asked, int_at, item_at, rule_at}
+use Rattle.separation_solve.specs.Bundle.{IsBundle, asked, int_at, item_at, rule_at, no_item, no_rule}
 use Rattle.separation_solve.specs.Checked.{IsMultiplier, KeepsLimitsAt, KeepsRule, KeepsRuleAt}
 use Rattle.separation_solve.specs.Certified.{IsAccepted, IsBalanced, IsSmall, all_multipliers, from_left, from_right}
 use Rattle.separation_solve.specs.Gap.{IsGap}
 use Rattle.separation_solve.specs.Sum.{sum_at}
-use Rattle.separation_solve.specs.Network.{IsKept, IsLink, IsNetworkOf, IsSound, IsSpot, IsTight, force, items_of, link_at, links_of, most_force, place_at, rule_link, total_size, turned_link}
+use Rattle.separation_solve.specs.Network.{IsKept, IsLink, IsNetworkOf, IsSound, IsSpot, IsTight, force, items_of, link_at, links_of, most_force, place_at, rule_link, total_size, turned_link, no_place}
 use Rattle.separation_solve.proofs.Accepted.{accepted}
-use Rattle.separation_solve.proofs.Bounds.{no_item, no_rule}
 use Rattle.separation_solve.proofs.Frames.{are_links, item_count, length-lower_end, length-rule_part, length-links_of, lower_at_link, lower_part, rule_at_link, rule_count, rule_part, upper_at_link, upper_part}
 use Rattle.separation_solve.proofs.Leads.{total_size_sign}
 use Rattle.separation_solve.proofs.LinkLists.{lower_is, lower_link, numbered, upper_is, upper_link}
@@ -25,9 +24,6 @@ use Rattle.separation_solve.proofs.Order.{mul-nonneg}
 use Rattle.separation_solve.proofs.Ring.{ring, var, num, minus, ◌⊗◌, ◌⊖◌}
 use Rattle.separation_solve.proofs.Shifted.{wall_is}
 use Rattle.separation_solve.proofs.Spots.{spot_at, spot_num}
-
-abbrev pub no_place : Fraction
-no_place = record { num = pos 0; den = 1 }
 
 -- the solution has the places and, in three parts, the flow of a balanced network of the bundle
 pub record IsEnding (b : Bundle) (gap : ℤ) (n : Network) (s : Solution) : Type 0 where

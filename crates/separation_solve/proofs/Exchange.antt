@@ -1,9 +1,9 @@
 -- Sums of the numbers at a place, over all places and after a change.
-use Rattle.std.proofs.Common.{◌≡◌, ℕ, zero, suc, ◌<◌, ◌==◌, cond, ℤ, pos, ◌+ℤ◌, ◌-ℤ◌, ◌*ℤ◌, ◌≤ℤ◌, List, [], ◌∷◌, length, get_or, set, All, if◌then◌else◌, ⊎_elim, arith, refl, ap, sym, ◌∙◌}
+use Rattle.std.proofs.Common.{◌≡◌, ℕ, zero, suc, ◌<◌, cond, ℤ, pos, ◌+ℤ◌, ◌-ℤ◌, ◌*ℤ◌, ◌≤ℤ◌, List, [], ◌∷◌, length, get_or, set, All, ⊎_elim, arith, refl, ap, sym, ◌∙◌}
 use Rattle.std.proofs.lemmas.Int.{ints}
 use Rattle.std.proofs.lemmas.Bool.{cases_eq, eq-eqb, ne_eqb}
 use Rattle.std.proofs.lemmas.List.Elements.{All-head, All-tail}
-use Rattle.separation_solve.specs.Sum.{sum_below, sum_at}
+use Rattle.separation_solve.specs.Sum.{here, sum_below, sum_at}
 use Rattle.separation_solve.proofs.Ring.{mul-add, mul_comm, ring, var, ◌⊗◌, ◌⊖◌}
 use Rattle.separation_solve.proofs.Sums.{sum_below-same, sum_below-add, sum_below-sub, sum_below-zero, sum_below-single}
 
@@ -12,10 +12,6 @@ abbrev pub sum_pairs : {A : Type 0} → (A → ℤ → ℤ) → List A → List 
 sum_pairs f [] zs = pos 0
 sum_pairs f (x ∷ xs) [] = pos 0
 sum_pairs f (x ∷ xs) (z ∷ zs) = f x z +ℤ sum_pairs f xs zs
-
--- the number, if the two places are one
-abbrev pub here : ℕ → ℕ → ℤ → ℤ
-here k i z = if k == i then z else pos 0
 
 pub here_same : (k i : ℕ) (z : ℤ) → k ≡ i → here k i z ≡ z
 here_same k i z e = ap (λ b. cond b z (pos 0)) (eq-eqb k i e)

@@ -8,19 +8,18 @@ use Rattle.std.proofs.lemmas.List.Elements.{All-head, All-tail, All-cons, All-ni
 use Rattle.separation_solve.specs.declared.bundle.Item.{Item}
 use Rattle.separation_solve.specs.declared.bundle.Rule.{Rule}
 use Rattle.separation_solve.specs.declared.bundle.Bundle.{Bundle}
-use Rattle.separation_solve.specs.Sum.{sum_below, product}
-use Rattle.separation_solve.specs.Bundle.{IsBundle, item_at, int_at, asked}
+use Rattle.separation_solve.specs.Sum.{here, sum_below, product}
+use Rattle.separation_solve.specs.Bundle.{IsBundle, item_at, int_at, asked, no_item}
 use Rattle.separation_solve.specs.Gap.{IsGap}
 use Rattle.separation_solve.specs.Least.{IsLeast, square, squared_displacement, over_product}
 use Rattle.separation_solve.proofs.Ring.{ring, var, num, ◌⊕◌, ◌⊗◌, ◌⊖◌, mul_comm}
 use Rattle.separation_solve.proofs.Order.{mul-mono}
 use Rattle.separation_solve.proofs.Sums.{sum_below-same, sum_below-add, sum_below-scale, sum_below-single}
-use Rattle.separation_solve.proofs.Exchange.{here, here_same, here_other}
+use Rattle.separation_solve.proofs.Exchange.{here_same, here_other}
 use Rattle.separation_solve.proofs.Positions.{MeetsOver, common_meets, listed, listed_meets, int_at-listed, ends_within, share, share_is}
 use Rattle.separation_solve.proofs.Projection.{dot}
 use Rattle.separation_solve.proofs.Nearest.{Constraint, IsKept, FitsIn, HasBest, best_of}
 use Rattle.separation_solve.proofs.Widest.{narrower_meets}
-use Rattle.separation_solve.proofs.Bounds.{no_item}
 
 dot_here : (n k : ℕ) (z : ℤ) (X : ℕ → ℤ) → k < n → dot n (λ i. here k i z) X ≡ z *ℤ X k
 dot_here n k z X l =

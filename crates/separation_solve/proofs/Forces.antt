@@ -1,5 +1,5 @@
 -- The force of an item, and networks with no flow.
-use Rattle.std.proofs.Common.{◌≡◌, ℕ, zero, suc, ◌+◌, ◌^◌, ◌<◌, ◌≤◌, ℤ, pos, ◌-ℤ◌, ◌*ℤ◌, ◌≤ℤ◌, FitsSigned, unsigned_abs, Vec, All, length, set, slice_index, arith, refl, ap, sym, subst, ◌∙◌, mul-le-mul, lit<, ⊎_elim, length-set, get_or-set_same, get_or-set_other}
+use Rattle.std.proofs.Common.{◌≡◌, ℕ, zero, suc, ◌+◌, ◌^◌, ◌<◌, ◌≤◌, ℤ, pos, ◌-ℤ◌, ◌*ℤ◌, ◌≤ℤ◌, FitsSigned, unsigned_abs, Vec, All, length, set, slice_index, arith, ap, sym, subst, ◌∙◌, mul-le-mul, lit<, ⊎_elim, length-set, get_or-set_same, get_or-set_other}
 use Rattle.std.proofs.lemmas.Bool.{cases_eq}
 use mir.Syntax.{w128}
 use Rattle.std.specs.declared.alloc.Global.{Global}
@@ -9,7 +9,7 @@ use Rattle.separation_solve.specs.Bundle.{IsCoordinate, int_at}
 use Rattle.separation_solve.specs.declared.fraction.Fraction.{Fraction}
 use Rattle.separation_solve.specs.declared.network.Link.{Link}
 use Rattle.separation_solve.specs.declared.network.Network.{Network}
-use Rattle.separation_solve.specs.Network.{AreKept, IsFrame, IsSound, IsSpot, force, items_of, most_force, place_at, total_size}
+use Rattle.separation_solve.specs.Network.{AreKept, IsFrame, IsSound, IsSpot, ListsTight, force, items_of, most_force, place_at, total_size}
 use Rattle.separation_solve.specs.Sum.{sum_below}
 use Rattle.separation_solve.proofs.Exchange.{sum_at-zero}
 use Rattle.separation_solve.proofs.Order.{mul-mono}
@@ -35,18 +35,6 @@ force_size p want w s c h =
     let le = mul-le-mul (weight_size w h) (displaced_size p want s c) in
     omega (arith, e, le)
 
-pub want_over_fits : (p : Fraction) (want : ℤ) → IsSpot p → IsCoordinate want → FitsSigned w128 (pos p.den *ℤ want)
-want_over_fits p want s c = fits_signed_from_abs w128 (pos p.den *ℤ want) (omega (arith, want_over_size p want s c, lit< {m = 6800000000000000000} {n = 2 ^ 127} tt))
-
-pub displaced_fits : (p : Fraction) (want : ℤ) → IsSpot p → IsCoordinate want → FitsSigned w128 (p.num -ℤ (pos p.den *ℤ want))
-displaced_fits p want s c = fits_signed_from_abs w128 (p.num -ℤ (pos p.den *ℤ want)) (omega (arith, displaced_size p want s c, lit< {m = 13600000000000000000} {n = 2 ^ 127} tt))
-
-pub weight_fits : (w : ℕ) → w ≤ 4 → FitsSigned w128 (pos 2 *ℤ pos w)
-weight_fits w h = fits_signed_from_abs w128 (pos 2 *ℤ pos w) (omega (arith, weight_size w h, lit< {m = 8} {n = 2 ^ 127} tt))
-
-pub force_fits : (p : Fraction) (want : ℤ) (w : ℕ) → IsSpot p → IsCoordinate want → w ≤ 4 → FitsSigned w128 (pos 2 *ℤ pos w *ℤ (p.num -ℤ (pos p.den *ℤ want)))
-force_fits p want w s c h = fits_signed_from_abs w128 (pos 2 *ℤ pos w *ℤ (p.num -ℤ (pos p.den *ℤ want))) (omega (arith, force_size p want w s c h, lit< {m = 108800000000000000000} {n = 2 ^ 127} tt))
-
 -- the parts of an item
 pub weight_at : (n : Network) (i : ℕ) → IsFrame n → i < items_of n → slice_index n.weights.items i ≤ 4
 weight_at n i frame h = All-get_or (λ w. w ≤ 4) n.weights.items i 0 (omega (arith, frame.weights)) frame.light
@@ -70,14 +58,15 @@ total_forces n frame kept is =
     omega (arith, ints, each, sum_below-constant k (pos 108800000000000000000), frame.few, frame.excess)
 
 -- no flow, and all that the forces are as excess
-pub no_flow : (n : Network) → IsFrame n → AreKept n → ((j : ℕ) → j < length n.flow.items → int_at n.flow.items j ≡ pos 0) → ((i : ℕ) → i < length n.excess.items → int_at n.excess.items i ≡ force n i) → IsSound n
-no_flow n frame kept none is =
+pub no_flow : (n : Network) → IsFrame n → AreKept n → ListsTight n.places.items n.links.items n.tight.items → ((j : ℕ) → j < length n.flow.items → int_at n.flow.items j ≡ pos 0) → ((i : ℕ) → i < length n.excess.items → int_at n.excess.items i ≡ force n i) → IsSound n
+no_flow n frame kept tight none is =
     let all : All (λ z. z ≡ pos 0) n.flow.items = All-from_get_or (λ z. z ≡ pos 0) n.flow.items (pos 0) none in
     let size = total_forces n frame kept is in
     let sum = sum_below-zero (length n.flow.items) (int_at n.flow.items) none in
     record {
       frame = frame;
       kept = kept;
+      tight = tight;
       flow = record {
         sign = λ j h. omega (arith, ints, none j h);
         tight = λ j h some. absurd (some (none j h));
@@ -102,15 +91,13 @@ frame_with n flow excess frame long also = record {
   weights = frame.weights;
   excess = also ∙ frame.excess;
   places = frame.places;
-  touching = frame.touching;
+  lists = frame.lists;
   flow = long ∙ frame.flow;
   light = frame.light;
   heavy = frame.heavy;
   wants = frame.wants;
   links = frame.links;
   limited = frame.limited;
-  listed = frame.listed;
-  no_others = frame.no_others;
 }
 
 kept_with : (n : Network) (flow excess : Vec ℤ Global) → AreKept n → AreKept (record n { flow = flow; excess = excess })
@@ -131,19 +118,11 @@ releasing_kept n now k kept r = subst AreKept (sym r.rest) (kept_with n now.flow
 force_same : (n now : Network) (k i : ℕ) → IsReleasing n now k → force now i ≡ force n i
 force_same n now k i r = ap (λ (m : Network). force m i) r.rest
 
-pub released : (n now : Network) (k : ℕ) → IsFrame n → AreKept n → IsReleasing n now k → length now.excess.items ≤ k → IsSound now
-released n now k frame kept r all =
-    no_flow now (releasing_frame n now k frame r) (releasing_kept n now k kept r) r.cleared
+pub released : (n now : Network) (k : ℕ) → IsFrame n → AreKept n → ListsTight n.places.items n.links.items n.tight.items → IsReleasing n now k → length now.excess.items ≤ k → IsSound now
+released n now k frame kept tight r all =
+    no_flow now (releasing_frame n now k frame r) (releasing_kept n now k kept r)
+    (subst (λ (m : Network). ListsTight m.places.items m.links.items m.tight.items) (sym r.rest) tight) r.cleared
     (λ i h. r.done i (omega (arith, h, all)) ∙ sym (force_same n now k i r))
-
-pub releasing_none : (n : Network) (flow : Vec ℤ Global) → length flow.items ≡ length n.flow.items → ((j : ℕ) → j < length flow.items → int_at flow.items j ≡ pos 0) → IsReleasing n (record n { flow = flow }) 0
-releasing_none n flow long none = record {
-  rest = refl;
-  flow_long = long;
-  excess_long = refl;
-  cleared = none;
-  done = λ i h. absurd (omega arith);
-}
 
 pub releasing_more : (n now : Network) (excess : Vec ℤ Global) (k : ℕ) (z : ℤ) → IsReleasing n now k → k < length now.excess.items → excess.items ≡ set now.excess.items k z → z ≡ force now k → IsReleasing n (record now { excess = excess }) (k + 1)
 releasing_more n now excess k z r h is e = record {
@@ -156,9 +135,6 @@ releasing_more n now excess k z r h is e = record {
       (λ (q : i ≡ k → ⊥). ap (λ zs. int_at zs i) is ∙ get_or-set_other now.excess.items k i z (pos 0) q ∙ r.done i (omega arith))
       (cases_eq i k);
 }
-
-pub weight_wide : (w : ℕ) → w ≤ 4 → FitsSigned w128 (pos w)
-weight_wide w h = fits_signed_from_abs w128 (pos w) (omega (arith, h, lit< {m = 8} {n = 2 ^ 127} tt))
 
 pub force_at_fits : (n : Network) (i : ℕ) → IsFrame n → AreKept n → i < items_of n → FitsSigned w128 (force n i)
 force_at_fits n i frame kept h = fits_signed_from_abs w128 (force n i) (omega (arith, force_at_size n i frame kept h, lit< {m = 108800000000000000000} {n = 2 ^ 127} tt))

@@ -1,6 +1,5 @@
 -- The links of a bundle as a network's.
-use Rattle.std.proofs.Common.{◌≡◌, ℕ, ◌+◌, ◌-◌, ◌<◌, ◌≤◌, ℤ, pos, ◌≤ℤ◌, List, ◌++◌, length, get_or, map, All, Vec, ⊎_elim, arith, ap, sym, subst, ◌∙◌, length-append}
-use Rattle.std.specs.declared.alloc.Global.{Global}
+use Rattle.std.proofs.Common.{◌≡◌, ℕ, ◌+◌, ◌-◌, ◌<◌, ◌≤◌, ℤ, pos, ◌≤ℤ◌, List, ◌++◌, length, get_or, map, All, ⊎_elim, arith, ap, sym, subst, ◌∙◌, length-append}
 use Rattle.std.proofs.lemmas.Bool.{cases_lt}
 use Rattle.std.proofs.lemmas.Int.{ints}
 use Rattle.std.proofs.lemmas.List.{get_or-append_right, get_or_append_left, get_or-map, length-map}
@@ -9,14 +8,14 @@ use Rattle.separation_solve.specs.declared.bundle.Item.{Item}
 use Rattle.separation_solve.specs.declared.bundle.Bundle.{Bundle}
 use Rattle.separation_solve.specs.declared.network.Link.{Link}
 use Rattle.separation_solve.specs.declared.network.Network.{Network}
-use Rattle.separation_solve.specs.Bundle.{IsBundle, IsCoordinate, IsItem, item_at, rule_at}
+use Rattle.separation_solve.specs.Bundle.{IsBundle, IsCoordinate, IsItem, item_at, rule_at, no_item, no_rule}
 use Rattle.separation_solve.specs.Gap.{IsGap}
-use Rattle.separation_solve.specs.Network.{AreKept, IsFrame, IsKept, IsLimited, IsLink, IsListed, items_of, link_at, links_of, lower_links, place_at, rule_link, upper_links}
+use Rattle.separation_solve.specs.Network.{AreKept, IsFrame, IsKept, IsLimited, IsLink, items_of, link_at, links_of, lower_links, place_at, rule_link, upper_links, no_link}
 use Rattle.separation_solve.specs.Start.{AreStartPlaces}
-use Rattle.separation_solve.proofs.Bounds.{asked_within, no_item, no_rule}
+use Rattle.separation_solve.proofs.Bounds.{asked_within}
 use Rattle.separation_solve.proofs.Conditions.{want_on_sheet}
 use Rattle.separation_solve.proofs.Mirrored.{coordinate_turned}
-use Rattle.separation_solve.proofs.LinkLists.{get_or-numbered, length-numbered, lower_is, lower_link, no_link, numbered, upper_is, upper_link}
+use Rattle.separation_solve.proofs.LinkLists.{get_or-numbered, length-numbered, lower_is, lower_link, numbered, upper_is, upper_link}
 
 -- the number of items, and of rules
 abbrev pub item_count : Bundle → ℕ
@@ -143,9 +142,7 @@ pub record IsMade (b : Bundle) (gap : ℤ) (n : Network) : Type 0 where
   pub wants : n.wants.items ≡ map (λ (item : Item). item.want) b.items.items
   pub weights : n.weights.items ≡ map (λ (item : Item). item.weight) b.items.items
   pub places : AreStartPlaces b gap n.places.items
-  pub nodes : length n.touching.items ≡ item_count b + 1
-  pub listed : (j : ℕ) → j < length n.links.items → IsListed n.links.items n.touching.items j
-  pub no_others : All (λ (v : Vec ℕ Global). All (λ j. j < length n.links.items) v.items) n.touching.items
+  pub lists : length n.tight.items ≡ item_count b + 1
   pub flow : length n.flow.items ≡ length n.links.items
   pub excess : length n.excess.items ≡ item_count b
 
@@ -165,7 +162,7 @@ made_frame b gap n bundle is made =
       weights = omega (arith, items, ap length made.weights ∙ length-map b.items.items (λ (item : Item). item.weight));
       excess = omega (arith, items, made.excess);
       places = omega (arith, items, made.places.count);
-      touching = omega (arith, items, made.nodes);
+      lists = omega (arith, items, made.lists);
       flow = made.flow;
       light = of_items b (λ (item : Item). item.weight) (λ w. w ≤ 4) n.weights.items bundle made.weights (λ item h. h.weight_high);
       heavy = of_items b (λ (item : Item). item.weight) (λ w. 1 ≤ w) n.weights.items bundle made.weights (λ item h. h.weight_low);
@@ -175,8 +172,6 @@ made_frame b gap n bundle is made =
           (All-get_or (IsLink (item_count b)) (links_of b gap) j no_link (omega (arith, ap length made.links, h)) links));
       limited = λ i h. subst (λ k. IsLimited k n.links.items i) (sym items)
           (subst (λ l. IsLimited (item_count b) l i) (sym made.links) (are_limited b gap i (omega (arith, items, h))));
-      listed = made.listed;
-      no_others = made.no_others;
     }
 
 pub made_kept : (b : Bundle) (gap : ℤ) (n : Network) → IsMade b gap n → AreKept n
@@ -188,12 +183,3 @@ made_kept b gap n made =
       wall_den = ap (λ k. (place_at n.places.items k).den) items ∙ made.places.wall_den;
       kept = λ j h. subst (λ l. IsKept n.places.items (link_at l j)) (sym made.links) (made.places.kept j (omega (arith, ap length made.links, h)));
     }
-
--- both ends of each link are nodes
-pub ends_below : (b : Bundle) (gap : ℤ) (links : List Link) (nodes : ℕ) → IsBundle b → IsGap b gap → links ≡ links_of b gap → nodes ≡ item_count b + 1 →
-    All (λ (l : Link). l.from < nodes) links × All (λ (l : Link). l.to < nodes) links
-ends_below b gap links nodes bundle is e many =
-    let all = subst (All (IsLink (item_count b))) (sym e) (are_links b gap bundle is) in (
-      All-weaker (IsLink (item_count b)) (λ (l : Link). l.from < nodes) (λ l h. omega (arith, h.from, many)) links all,
-      All-weaker (IsLink (item_count b)) (λ (l : Link). l.to < nodes) (λ l h. omega (arith, h.to, many)) links all,
-    )

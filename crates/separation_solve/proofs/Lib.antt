@@ -4,10 +4,10 @@ mod Exchange
 mod Order
 mod Descent
 mod Fractions
-mod Contact
-pub mod Duality
-pub mod Positions
-pub mod Certificates
+mod LowestTerms
+mod Duality
+mod Positions
+mod Certificates
 mod Members
 mod Moving
 mod BlockForce
@@ -18,31 +18,31 @@ mod Spots
 mod Leads
 mod Reaches
 mod Extending
-mod Starting
+mod Searching
 mod Sending
 mod Pushing
 mod Shifted
-pub mod Apart
-pub mod Conditions
-pub mod Accepted
-pub mod Bounds
-pub mod Widest
+mod Apart
+mod Conditions
+mod Accepted
+mod Bounds
+mod Widest
 mod Sorting
-pub mod WidestExists
-pub mod Middle
+mod WidestExists
+mod Middle
 mod LinkLists
 mod Listing
 mod Forces
 mod Turning
 mod Mirrored
 mod Balancing
-mod Begin
+mod Pressing
 mod Upright
 mod Frames
-pub mod Pairs
-pub mod Projection
-pub mod Nearest
-pub mod Existence
+mod Pairs
+mod Projection
+mod Nearest
+mod Existence
 mod PartSums
 mod Ending
-mod Starts
+mod StartPlaces

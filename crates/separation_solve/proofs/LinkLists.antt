@@ -1,5 +1,5 @@
 -- The links of a bundle, one after another.
-use Rattle.std.proofs.Common.{◌≡◌, ℕ, zero, suc, ◌+◌, ◌<◌, ℤ, pos, neg_ℤ, List, [], ◌∷◌, ◌++◌, length, get_or, take, arith, refl, ap, sym, ◌∙◌, append_assoc}
+use Rattle.std.proofs.Common.{◌≡◌, ℕ, zero, suc, ◌+◌, ◌<◌, ℤ, neg_ℤ, List, [], ◌∷◌, ◌++◌, length, get_or, take, arith, refl, ap, sym, ◌∙◌, append_assoc}
 use Rattle.std.proofs.lemmas.List.{take_more, length-take-le}
 use Rattle.separation_solve.specs.declared.bundle.Item.{Item}
 use Rattle.separation_solve.specs.declared.network.Link.{Link}
@@ -34,8 +34,6 @@ numbered-more f xs i d h =
     ∙ ap (λ k. numbered f 0 (take i xs) ++ f k (get_or xs i d) ∷ []) e
 
 -- what stands past the last link
-abbrev pub no_link : Link
-no_link = record { from = 0; to = 0; gap = pos 0 }
 
 -- an item's lower limit
 abbrev pub lower_link : ℕ → ℕ → Item → Link

@@ -27,9 +27,6 @@ pub record MeanSoFar (n : Network) (r : Reach) (items weight : ℕ) (moment : �
   pub low : (neg_ℤ (pos 6000000000) *ℤ pos weight) ≤ℤ moment
   pub high : moment ≤ℤ (pos 6000000000 *ℤ pos weight)
 
-pub mean_none : (n : Network) (r : Reach) → MeanSoFar n r 0 0 (pos 0)
-mean_none n r = record { weighs = refl; wants = refl; light = omega arith; low = omega (arith, ints); high = omega (arith, ints) }
-
 -- a share of at most 4 of at most six million units
 share_bound : (share : ℕ) (z : ℤ) → negsuc 5999999999 ≤ℤ z → z ≤ℤ pos 6000000000 →
     ((neg_ℤ (pos 6000000000) *ℤ pos share) ≤ℤ (pos share *ℤ z)) × ((pos share *ℤ z) ≤ℤ (pos 6000000000 *ℤ pos share))

@@ -5,13 +5,12 @@ use Rattle.std.proofs.lemmas.Int.{ints}
 use Rattle.separation_solve.specs.declared.bundle.Item.{Item}
 use Rattle.separation_solve.specs.declared.bundle.Bundle.{Bundle}
 use Rattle.separation_solve.specs.Sum.{sum_below, product}
-use Rattle.separation_solve.specs.Bundle.{IsBundle, item_at, int_at, asked}
+use Rattle.separation_solve.specs.Bundle.{IsBundle, item_at, int_at, asked, no_item}
 use Rattle.separation_solve.specs.Least.{IsLeast, square, squared_displacement, over_product}
 use Rattle.separation_solve.proofs.Ring.{ring, var, num, ◌⊕◌, ◌⊗◌, ◌⊖◌, mul_comm}
 use Rattle.separation_solve.proofs.Order.{mul-nonneg, mul-mono, cancel, cancel_le, square-nonneg, square_zero, mul_positive}
 use Rattle.separation_solve.proofs.Sums.{sum_below-same, sum_below-add, sum_below-scale, part_of_sum}
 use Rattle.separation_solve.proofs.Positions.{MeetsOver, over_product_meets, listed, listed_meets, int_at-listed, share, share_is, share_positive}
-use Rattle.separation_solve.proofs.Bounds.{no_item}
 
 -- against a point that is given by a function
 pub least_over : (b : Bundle) (gap : ℤ) (den : List ℕ) (place : List ℤ) → IsBundle b → IsLeast b gap den place → (q : ℕ) (Y : ℕ → ℤ) → MeetsOver b gap q Y →

@@ -1,30 +1,28 @@
 -- A network whose left and right have changed sides.
 use Rattle.std.proofs.Common.{◌≡◌, ℕ, ◌+◌, ◌<◌, Bool, true, false, not, ℤ, pos, neg_ℤ, ◌-ℤ◌, ◌*ℤ◌, ◌≤ℤ◌, unsigned_abs, Vec, All, Contains, List, [], ◌∷◌, map, length, get_or, slice_index, if◌then◌else◌, arith, refl, ap, sym, subst, ◌∙◌}
 use Rattle.std.specs.declared.alloc.Global.{Global}
+use Rattle.std.proofs.Math.IntN.{neg_ℤ-neg_ℤ}
 use Rattle.std.proofs.Math.ListN.{get_or-map}
 use Rattle.std.proofs.lemmas.Int.{ints}
 use Rattle.std.proofs.lemmas.List.{length-map}
-use Rattle.std.proofs.lemmas.List.Elements.{All-get_or, All-from_get_or}
+use Rattle.std.proofs.lemmas.List.Elements.{All-get_or, All-from_get_or, All-weaker}
 use Rattle.separation_solve.specs.Bundle.{IsCoordinate, int_at}
 use Rattle.separation_solve.specs.declared.fraction.Fraction.{Fraction}
 use Rattle.separation_solve.specs.declared.network.Link.{Link}
 use Rattle.separation_solve.specs.declared.network.Network.{Network}
-use Rattle.separation_solve.specs.Network.{AreKept, IsFlow, IsFrame, IsKept, IsLink, IsSound, IsSpot, IsTight, force, items_of, link_at, most_force, net_flow, place_at, total_size, turned_link, turned_place}
+use Rattle.separation_solve.specs.Network.{AreKept, IsFlow, IsFrame, IsKept, IsLink, IsSound, IsSpot, IsTight, IsTightAt, ListsTight, force, items_of, link_at, most_force, net_flow, place_at, total_size, turned_link, turned_place, no_link, no_place}
 use Rattle.separation_solve.specs.Sum.{sum_below}
-use Rattle.separation_solve.proofs.Contact.{reduced_mirrored}
+use Rattle.separation_solve.proofs.LowestTerms.{reduced_mirrored}
 use Rattle.separation_solve.proofs.Ring.{ring, var, num, minus, ◌⊗◌, ◌⊖◌}
 use Rattle.separation_solve.proofs.Sums.{sum_below-same}
 use Rattle.separation_solve.proofs.PartSums.{sum_at-map}
 
-pub neg-neg : (z : ℤ) → neg_ℤ (neg_ℤ z) ≡ z
-neg-neg z = omega (arith, ints)
-
 -- the parts of a turned network
 pub link_at-turned : (links : List Link) (j : ℕ) → link_at (map turned_link links) j ≡ turned_link (link_at links j)
-link_at-turned links j = get_or-map turned_link links j (record { from = 0; to = 0; gap = pos 0 })
+link_at-turned links j = get_or-map turned_link links j no_link
 
 pub place_at-turned : (places : List Fraction) (i : ℕ) → place_at (map turned_place places) i ≡ turned_place (place_at places i)
-place_at-turned places i = get_or-map turned_place places i (record { num = pos 0; den = 1 })
+place_at-turned places i = get_or-map turned_place places i no_place
 
 pub int_at-negated : (zs : List ℤ) (i : ℕ) → int_at (map neg_ℤ zs) i ≡ neg_ℤ (int_at zs i)
 int_at-negated zs i = get_or-map neg_ℤ zs i (pos 0)
@@ -79,6 +77,17 @@ tight_turned places link h =
       apart = rw (e, f) (let same : link.gap *ℤ pos a.den ≡ link.gap *ℤ pos b.den = ap (λ d. link.gap *ℤ pos d) h.den in omega (arith, ints, h.apart, same));
     }
 
+-- a list that is turned twice
+map_twice : {A : Type 0} (f : A → A) → ((x : A) → f (f x) ≡ x) → (xs : List A) → map f (map f xs) ≡ xs
+map_twice f back [] = refl
+map_twice f back (x ∷ xs) = ap (λ y. y ∷ map f (map f xs)) (back x) ∙ ap (λ ys. x ∷ ys) (map_twice f back xs)
+
+pub turned_place_twice : (p : Fraction) → turned_place (turned_place p) ≡ p
+turned_place_twice p = ap (λ z. let q : Fraction = record { num = z; den = p.den } in q) (neg_ℤ-neg_ℤ p.num)
+
+tight_back : (places : List Fraction) (link : Link) → IsTight (map turned_place places) (turned_link link) → IsTight places link
+tight_back places link h = subst (λ ps. IsTight ps link) (map_twice turned_place turned_place_twice places) (tight_turned (map turned_place places) (turned_link link) h)
+
 -- the force the other way
 force_turned : (w : ℕ) (place : ℤ) (den : ℕ) (want : ℤ) → pos 2 *ℤ pos w *ℤ (neg_ℤ place -ℤ (pos den *ℤ neg_ℤ want)) ≡ neg_ℤ (pos 2 *ℤ pos w *ℤ (place -ℤ (pos den *ℤ want)))
 force_turned w place den want =
@@ -104,7 +113,7 @@ turned_frame n links wants places excess mirrored frame t =
       weights = frame.weights ∙ sym items;
       excess = ap length t.excess_are ∙ length-map n.excess.items neg_ℤ ∙ frame.excess ∙ sym items;
       places = ap length t.places_are ∙ length-map n.places.items turned_place ∙ frame.places ∙ ap (λ k. k + 1) (sym items);
-      touching = frame.touching ∙ ap (λ k. k + 1) (sym items);
+      lists = frame.lists ∙ ap (λ k. k + 1) (sym items);
       flow = frame.flow ∙ sym many;
       light = frame.light;
       heavy = frame.heavy;
@@ -124,13 +133,6 @@ turned_frame n links wants places excess mirrored frame t =
             lower_from = from l.upper ∙ l.upper_to ∙ sym items;
             lower_to = to l.upper ∙ l.upper_from;
           };
-      listed = λ j h.
-          let l = frame.listed j (omega (arith, h, many)) in
-          record {
-            at_from = λ d. subst (λ i. Contains (get_or n.touching.items i d).items j) (sym (from j)) (l.at_to d);
-            at_to = λ d. subst (λ i. Contains (get_or n.touching.items i d).items j) (sym (to j)) (l.at_from d);
-          };
-      no_others = subst (λ k. All (λ (v : Vec ℕ Global). All (λ j. j < k) v.items) n.touching.items) (sym many) frame.no_others;
     }
 
 turned_kept : (n : Network) (links : Vec Link Global) (wants : Vec ℤ Global) (places : Vec Fraction Global) (excess : Vec ℤ Global) (mirrored : Bool) → AreKept n → AreTurned n links wants places excess →
@@ -148,6 +150,33 @@ turned_kept n links wants places excess mirrored kept t =
       kept = λ j h.
           let l : link_at links.items j ≡ turned_link (link_at n.links.items j) = ap (λ ls. link_at ls j) t.links_are ∙ link_at-turned n.links.items j in
           subst (λ ps. IsKept ps (link_at links.items j)) (sym t.places_are) (subst (IsKept (map turned_place n.places.items)) (sym l) (kept_turned n.places.items (link_at n.links.items j) (kept.kept j (omega (arith, h, many)))));
+    }
+
+-- the same links are tight
+turned_tight : (n : Network) (links : Vec Link Global) (wants : Vec ℤ Global) (places : Vec Fraction Global) (excess : Vec ℤ Global) → ListsTight n.places.items n.links.items n.tight.items → AreTurned n links wants places excess →
+    ListsTight places.items links.items n.tight.items
+turned_tight n links wants places excess tight t =
+    let many : length links.items ≡ length n.links.items = ap length t.links_are ∙ length-map n.links.items turned_link in
+    let at : (j : ℕ) → link_at links.items j ≡ turned_link (link_at n.links.items j) = λ j. ap (λ ls. link_at ls j) t.links_are ∙ link_at-turned n.links.items j in
+    let from : (j : ℕ) → (link_at links.items j).from ≡ (link_at n.links.items j).to = λ j. ap (λ (l : Link). l.from) (at j) in
+    let to : (j : ℕ) → (link_at links.items j).to ≡ (link_at n.links.items j).from = λ j. ap (λ (l : Link). l.to) (at j) in
+    let there : (j : ℕ) → IsTightAt n.places.items n.links.items j → IsTightAt places.items links.items j = λ j h. record {
+      link = omega (arith, h.link, many);
+      tight = subst (λ ps. IsTight ps (link_at links.items j)) (sym t.places_are) (subst (IsTight (map turned_place n.places.items)) (sym (at j)) (tight_turned n.places.items (link_at n.links.items j) h.tight));
+    } in
+    let back : (j : ℕ) → IsTightAt places.items links.items j → IsTightAt n.places.items n.links.items j = λ j h. record {
+      link = omega (arith, h.link, many);
+      tight = tight_back n.places.items (link_at n.links.items j) (subst (IsTight (map turned_place n.places.items)) (at j) (subst (λ ps. IsTight ps (link_at links.items j)) t.places_are h.tight));
+    } in
+    record {
+      listed = λ j h.
+          let l = tight.listed j (back j h) in
+          record {
+            at_from = λ d. subst (λ i. Contains (get_or n.tight.items i d).items j) (sym (from j)) (l.at_to d);
+            at_to = λ d. subst (λ i. Contains (get_or n.tight.items i d).items j) (sym (to j)) (l.at_from d);
+          };
+      no_others = All-weaker (λ (v : Vec ℕ Global). All (IsTightAt n.places.items n.links.items) v.items) (λ (v : Vec ℕ Global). All (IsTightAt places.items links.items) v.items)
+          (λ v h. All-weaker (IsTightAt n.places.items n.links.items) (IsTightAt places.items links.items) there v.items h) n.tight.items tight.no_others;
     }
 
 turned_flow : (n : Network) (links : Vec Link Global) (wants : Vec ℤ Global) (places : Vec Fraction Global) (excess : Vec ℤ Global) (mirrored : Bool) → IsFrame n → IsFlow n → AreTurned n links wants places excess →
@@ -185,13 +214,9 @@ pub turned_sound : (n : Network) (links : Vec Link Global) (wants : Vec ℤ Glob
 turned_sound n links wants places excess mirrored sound t = record {
   frame = turned_frame n links wants places excess mirrored sound.frame t;
   kept = turned_kept n links wants places excess mirrored sound.kept t;
+  tight = turned_tight n links wants places excess sound.tight t;
   flow = turned_flow n links wants places excess mirrored sound.frame sound.flow t;
 }
-
--- a list that is turned twice
-map_twice : {A : Type 0} (f : A → A) → ((x : A) → f (f x) ≡ x) → (xs : List A) → map f (map f xs) ≡ xs
-map_twice f back [] = refl
-map_twice f back (x ∷ xs) = ap (λ y. y ∷ map f (map f xs)) (back x) ∙ ap (λ ys. x ∷ ys) (map_twice f back xs)
 
 -- with left and right on their own sides it is as before
 pub upright-turned : {A : Type 0} (f : A → A) → ((x : A) → f (f x) ≡ x) → (b : Bool) (xs ys : List A) → ys ≡ map f xs → (if not b then map f ys else ys) ≡ (if b then map f xs else xs)
@@ -200,6 +225,3 @@ upright-turned f back false xs ys e = ap (map f) e ∙ map_twice f back xs
 
 pub turned_link_twice : (l : Link) → turned_link (turned_link l) ≡ l
 turned_link_twice l = refl
-
-pub turned_place_twice : (p : Fraction) → turned_place (turned_place p) ≡ p
-turned_place_twice p = ap (λ z. let q : Fraction = record { num = z; den = p.den } in q) (neg-neg p.num)

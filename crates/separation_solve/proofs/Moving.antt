@@ -1,12 +1,12 @@
 -- Members of a block that are put to their new places one by one.
-use Rattle.std.proofs.Common.{◌≡◌, ℕ, ◌+◌, ◌<◌, false, ℤ, pos, ◌+ℤ◌, ◌*ℤ◌, List, length, set, Some, None, is_some, ⊎_elim, arith, refl, ap, sym, subst, ◌∙◌}
+use Rattle.std.proofs.Common.{◌≡◌, ℕ, ◌+◌, ◌<◌, false, ℤ, pos, ◌+ℤ◌, ◌*ℤ◌, List, length, set, Some, None, is_some, ⊎_elim, arith, ap, sym, subst, ◌∙◌}
 use Rattle.std.proofs.lemmas.Bool.{cases_eq, true≢false}
 use Rattle.std.proofs.lemmas.List.{get_or-set_same, get_or-set_other}
 use Rattle.std.proofs.Math.ListN.{length-set}
 use Rattle.separation_solve.specs.declared.fraction.Fraction.{Fraction}
 use Rattle.separation_solve.specs.declared.network.Network.{Network}
 use Rattle.separation_solve.specs.declared.reach.Reach.{Reach}
-use Rattle.separation_solve.specs.Network.{place_at}
+use Rattle.separation_solve.specs.Network.{place_at, no_place}
 use Rattle.separation_solve.specs.Block.{ChangesPlaces, PlacesBlock, is_member, member_offset, offset_of}
 use Rattle.separation_solve.proofs.Members.{member_is}
 
@@ -15,21 +15,12 @@ pub record SoFarPlaced (old : Network) (r : Reach) (place : Fraction) (items : �
   pub placed : PlacesBlock old.places.items items r place new.places.items
   pub rest : ChangesPlaces old new
 
-pub placed_none : (old : List Fraction) (r : Reach) (place : Fraction) → PlacesBlock old 0 r place old
-placed_none old r place = record {
-  count = refl;
-  members = λ i h m. absurd (omega arith);
-  others = λ i h m. absurd (omega arith);
-  beyond = λ i h. refl;
-}
-
 -- a member is put to its place
 pub placed_member : (old new : List Fraction) (items : ℕ) (r : Reach) (place p : Fraction) (off : ℤ) → PlacesBlock old items r place new → items < length new →
     offset_of r items ≡ Some off → p.num ≡ place.num +ℤ (off *ℤ pos place.den) → p.den ≡ place.den → PlacesBlock old (items + 1) r place (set new items p)
 placed_member old new items r place p off so h found top bottom =
-    let d : Fraction = record { num = pos 0; den = 1 } in
-    let here : place_at (set new items p) items ≡ p = get_or-set_same new items p d h in
-    let there : (i : ℕ) → (i ≡ items → ⊥) → place_at (set new items p) i ≡ place_at new i = λ i o. get_or-set_other new items i p d o in
+    let here : place_at (set new items p) items ≡ p = get_or-set_same new items p no_place h in
+    let there : (i : ℕ) → (i ≡ items → ⊥) → place_at (set new items p) i ≡ place_at new i = λ i o. get_or-set_other new items i p no_place o in
     let is = member_is r items off found in
     record {
       count = length-set new items p ∙ so.count;

@@ -1,5 +1,5 @@
 -- The order of whole numbers, and products.
-use Rattle.std.proofs.Common.{◌≡◌, ℕ, zero, suc, ◌*◌, ◌<◌, ◌⊎◌, ℤ, pos, negsuc, ◌-ℤ◌, ◌*ℤ◌, ◌≤ℤ◌, ◌<ℤ◌, refl, inl, inr, arith, [], ◌∷◌}
+use Rattle.std.proofs.Common.{◌≡◌, ℕ, zero, suc, ◌*◌, ◌<◌, ◌⊎◌, ℤ, pos, negsuc, ◌-ℤ◌, ◌*ℤ◌, ◌≤ℤ◌, refl, inl, inr, arith, [], ◌∷◌}
 use Rattle.std.proofs.Math.Nat.{mul-le-mul_left}
 use Rattle.std.proofs.lemmas.Int.{ints}
 use Rattle.separation_solve.specs.Least.{square}
@@ -8,9 +8,6 @@ use Rattle.separation_solve.proofs.Ring.{ring, var, ◌⊗◌, ◌⊖◌}
 pub nonneg_is : (a : ℤ) → pos 0 ≤ℤ a → (n : ℕ) × (a ≡ pos n)
 nonneg_is (pos n) h = (n, refl)
 nonneg_is (negsuc n) h = absurd (omega (arith, ints))
-
-pub le_or_lt : (a b : ℤ) → (a ≤ℤ b) ⊎ (b <ℤ a)
-le_or_lt a b = elim (b -ℤ a) as (λ d. b -ℤ a ≡ d → (a ≤ℤ b) ⊎ (b <ℤ a)) [ pos n ↦ λ e. inl (omega (arith, ints, e)) | negsuc n ↦ λ e. inr (omega (arith, ints, e)) ] refl
 
 pub le_both : (a b : ℤ) → a ≤ℤ b → b ≤ℤ a → a ≡ b
 le_both a b h k = omega (arith, ints)

@@ -9,8 +9,8 @@ use Rattle.separation_solve.specs.declared.reach.Reach.{Reach}
 use Rattle.separation_solve.specs.Network.{IsSound, items_of, total_size}
 use Rattle.separation_solve.specs.Push.{IsSent, KeepsRest}
 use Rattle.separation_solve.specs.Reach.{IsReach, start_of, step_at}
-use Rattle.separation_solve.specs.Sum.{sum_below}
-use Rattle.separation_solve.proofs.Exchange.{here, here_same, here_other}
+use Rattle.separation_solve.specs.Sum.{here, sum_below}
+use Rattle.separation_solve.proofs.Exchange.{here_same, here_other}
 use Rattle.separation_solve.proofs.Order.{mul-mono}
 use Rattle.separation_solve.proofs.Ring.{ring, var, ◌⊕◌, ◌⊗◌}
 use Rattle.separation_solve.proofs.Sums.{sum_below-at}
@@ -18,13 +18,13 @@ use Rattle.separation_solve.proofs.Sums.{sum_below-at}
 -- the network, but for its flow
 pub rest_is : (n now : Network) → KeepsRest n now → now ≡ record n { flow = now.flow }
 rest_is n now rest =
-    let e0 : (let a : Network = record { links = now.links; touching = now.touching; wants = now.wants; weights = now.weights; places = now.places; mirrored = now.mirrored; excess = now.excess; flow = now.flow } in a) ≡ record { links = n.links; touching = now.touching; wants = now.wants; weights = now.weights; places = now.places; mirrored = now.mirrored; excess = now.excess; flow = now.flow } = ap (λ x. record { links = x; touching = now.touching; wants = now.wants; weights = now.weights; places = now.places; mirrored = now.mirrored; excess = now.excess; flow = now.flow }) rest.links in
-    let e1 : (let a : Network = record { links = n.links; touching = now.touching; wants = now.wants; weights = now.weights; places = now.places; mirrored = now.mirrored; excess = now.excess; flow = now.flow } in a) ≡ record { links = n.links; touching = n.touching; wants = now.wants; weights = now.weights; places = now.places; mirrored = now.mirrored; excess = now.excess; flow = now.flow } = ap (λ x. record { links = n.links; touching = x; wants = now.wants; weights = now.weights; places = now.places; mirrored = now.mirrored; excess = now.excess; flow = now.flow }) rest.touching in
-    let e2 : (let a : Network = record { links = n.links; touching = n.touching; wants = now.wants; weights = now.weights; places = now.places; mirrored = now.mirrored; excess = now.excess; flow = now.flow } in a) ≡ record { links = n.links; touching = n.touching; wants = n.wants; weights = now.weights; places = now.places; mirrored = now.mirrored; excess = now.excess; flow = now.flow } = ap (λ x. record { links = n.links; touching = n.touching; wants = x; weights = now.weights; places = now.places; mirrored = now.mirrored; excess = now.excess; flow = now.flow }) rest.wants in
-    let e3 : (let a : Network = record { links = n.links; touching = n.touching; wants = n.wants; weights = now.weights; places = now.places; mirrored = now.mirrored; excess = now.excess; flow = now.flow } in a) ≡ record { links = n.links; touching = n.touching; wants = n.wants; weights = n.weights; places = now.places; mirrored = now.mirrored; excess = now.excess; flow = now.flow } = ap (λ x. record { links = n.links; touching = n.touching; wants = n.wants; weights = x; places = now.places; mirrored = now.mirrored; excess = now.excess; flow = now.flow }) rest.weights in
-    let e4 : (let a : Network = record { links = n.links; touching = n.touching; wants = n.wants; weights = n.weights; places = now.places; mirrored = now.mirrored; excess = now.excess; flow = now.flow } in a) ≡ record { links = n.links; touching = n.touching; wants = n.wants; weights = n.weights; places = n.places; mirrored = now.mirrored; excess = now.excess; flow = now.flow } = ap (λ x. record { links = n.links; touching = n.touching; wants = n.wants; weights = n.weights; places = x; mirrored = now.mirrored; excess = now.excess; flow = now.flow }) rest.places in
-    let e5 : (let a : Network = record { links = n.links; touching = n.touching; wants = n.wants; weights = n.weights; places = n.places; mirrored = now.mirrored; excess = now.excess; flow = now.flow } in a) ≡ record { links = n.links; touching = n.touching; wants = n.wants; weights = n.weights; places = n.places; mirrored = n.mirrored; excess = now.excess; flow = now.flow } = ap (λ x. record { links = n.links; touching = n.touching; wants = n.wants; weights = n.weights; places = n.places; mirrored = x; excess = now.excess; flow = now.flow }) rest.mirrored in
-    let e6 : (let a : Network = record { links = n.links; touching = n.touching; wants = n.wants; weights = n.weights; places = n.places; mirrored = n.mirrored; excess = now.excess; flow = now.flow } in a) ≡ record { links = n.links; touching = n.touching; wants = n.wants; weights = n.weights; places = n.places; mirrored = n.mirrored; excess = n.excess; flow = now.flow } = ap (λ x. record { links = n.links; touching = n.touching; wants = n.wants; weights = n.weights; places = n.places; mirrored = n.mirrored; excess = x; flow = now.flow }) rest.excess in
+    let e0 : (let a : Network = record { links = now.links; tight = now.tight; wants = now.wants; weights = now.weights; places = now.places; mirrored = now.mirrored; excess = now.excess; flow = now.flow } in a) ≡ record { links = n.links; tight = now.tight; wants = now.wants; weights = now.weights; places = now.places; mirrored = now.mirrored; excess = now.excess; flow = now.flow } = ap (λ x. record { links = x; tight = now.tight; wants = now.wants; weights = now.weights; places = now.places; mirrored = now.mirrored; excess = now.excess; flow = now.flow }) rest.links in
+    let e1 : (let a : Network = record { links = n.links; tight = now.tight; wants = now.wants; weights = now.weights; places = now.places; mirrored = now.mirrored; excess = now.excess; flow = now.flow } in a) ≡ record { links = n.links; tight = n.tight; wants = now.wants; weights = now.weights; places = now.places; mirrored = now.mirrored; excess = now.excess; flow = now.flow } = ap (λ x. record { links = n.links; tight = x; wants = now.wants; weights = now.weights; places = now.places; mirrored = now.mirrored; excess = now.excess; flow = now.flow }) rest.tight in
+    let e2 : (let a : Network = record { links = n.links; tight = n.tight; wants = now.wants; weights = now.weights; places = now.places; mirrored = now.mirrored; excess = now.excess; flow = now.flow } in a) ≡ record { links = n.links; tight = n.tight; wants = n.wants; weights = now.weights; places = now.places; mirrored = now.mirrored; excess = now.excess; flow = now.flow } = ap (λ x. record { links = n.links; tight = n.tight; wants = x; weights = now.weights; places = now.places; mirrored = now.mirrored; excess = now.excess; flow = now.flow }) rest.wants in
+    let e3 : (let a : Network = record { links = n.links; tight = n.tight; wants = n.wants; weights = now.weights; places = now.places; mirrored = now.mirrored; excess = now.excess; flow = now.flow } in a) ≡ record { links = n.links; tight = n.tight; wants = n.wants; weights = n.weights; places = now.places; mirrored = now.mirrored; excess = now.excess; flow = now.flow } = ap (λ x. record { links = n.links; tight = n.tight; wants = n.wants; weights = x; places = now.places; mirrored = now.mirrored; excess = now.excess; flow = now.flow }) rest.weights in
+    let e4 : (let a : Network = record { links = n.links; tight = n.tight; wants = n.wants; weights = n.weights; places = now.places; mirrored = now.mirrored; excess = now.excess; flow = now.flow } in a) ≡ record { links = n.links; tight = n.tight; wants = n.wants; weights = n.weights; places = n.places; mirrored = now.mirrored; excess = now.excess; flow = now.flow } = ap (λ x. record { links = n.links; tight = n.tight; wants = n.wants; weights = n.weights; places = x; mirrored = now.mirrored; excess = now.excess; flow = now.flow }) rest.places in
+    let e5 : (let a : Network = record { links = n.links; tight = n.tight; wants = n.wants; weights = n.weights; places = n.places; mirrored = now.mirrored; excess = now.excess; flow = now.flow } in a) ≡ record { links = n.links; tight = n.tight; wants = n.wants; weights = n.weights; places = n.places; mirrored = n.mirrored; excess = now.excess; flow = now.flow } = ap (λ x. record { links = n.links; tight = n.tight; wants = n.wants; weights = n.weights; places = n.places; mirrored = x; excess = now.excess; flow = now.flow }) rest.mirrored in
+    let e6 : (let a : Network = record { links = n.links; tight = n.tight; wants = n.wants; weights = n.weights; places = n.places; mirrored = n.mirrored; excess = now.excess; flow = now.flow } in a) ≡ record { links = n.links; tight = n.tight; wants = n.wants; weights = n.weights; places = n.places; mirrored = n.mirrored; excess = n.excess; flow = now.flow } = ap (λ x. record { links = n.links; tight = n.tight; wants = n.wants; weights = n.weights; places = n.places; mirrored = n.mirrored; excess = x; flow = now.flow }) rest.excess in
     e0 ∙ e1 ∙ e2 ∙ e3 ∙ e4 ∙ e5 ∙ e6
 
 -- the sum of sizes, after one number changed
@@ -102,15 +102,13 @@ pushed n flow excess r target a sound reach h some sent settled =
         weights = frame.weights;
         excess = settled.long ∙ frame.excess;
         places = frame.places;
-        touching = frame.touching;
+        lists = frame.lists;
         flow = sent.links ∙ frame.flow;
         light = frame.light;
         heavy = frame.heavy;
         wants = frame.wants;
         links = frame.links;
         limited = frame.limited;
-        listed = frame.listed;
-        no_others = frame.no_others;
       };
       kept = record {
         spots = sound.kept.spots;
@@ -118,6 +116,7 @@ pushed n flow excess r target a sound reach h some sent settled =
         wall_den = sound.kept.wall_den;
         kept = sound.kept.kept;
       };
+      tight = sound.tight;
       flow = record {
         sign = sent.sign;
         tight = sent.tight;

@@ -5,12 +5,12 @@ use Rattle.std.proofs.Math.Seq.{get_or-append_seam}
 use Rattle.std.proofs.lemmas.Bool.{cases_lt, cases_eq}
 use Rattle.std.proofs.lemmas.List.Sums.{sum_by-set}
 use Rattle.std.proofs.lemmas.Option.{none-some}
+use Rattle.std.proofs.lemmas.List.{get_or_read}
 use Rattle.separation_solve.specs.declared.network.Network.{Network}
 use Rattle.separation_solve.specs.declared.reach.Reach.{Reach}
 use Rattle.separation_solve.specs.declared.reach.Step.{Step}
 use Rattle.separation_solve.specs.Reach.{IsAfter, IsComeBy, IsReach, IsStep, found_at, not_found, step_at}
 use Rattle.separation_solve.proofs.Optional.{match_option, none_is}
-use Rattle.separation_solve.proofs.Spots.{read_at}
 
 -- an earlier step stays
 pub step_at-append : (steps : List Step) (step : Step) (k : ℕ) → k < length steps → step_at (steps ++ step ∷ []) k ≡ step_at steps k
@@ -97,4 +97,4 @@ not_found_is o p b e t same = sym same ∙ none_is o (e ∙ ap not t)
 
 -- the step that was read
 pub step_read : (r : Reach) (k : ℕ) (s : Step) → k < length r.steps.items → s ≡ get_or r.steps.items k s → s ≡ step_at r.steps.items k
-step_read r k s h e = read_at r.steps.items k s _ h e
+step_read r k s h e = get_or_read r.steps.items k s h e _

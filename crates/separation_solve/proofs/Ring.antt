@@ -3,6 +3,7 @@ use Rattle.std.proofs.Common.{◌≡◌, ℕ, ◌*◌, ℤ, pos, negsuc, ◌+ℤ
 use Rattle.std.proofs.lemmas.Int.{ints}
 use Rattle.std.proofs.lemmas.Bool.{eqb-true, and_parts, cases_Bool, false≢true}
 use borrow.Author.Differences.{up, down, sum_is_lem, product_is}
+pub use Rattle.std.proofs.Math.IntN.{*ℤ_comm as mul_comm}
 
 pub mul-add : (a b c : ℤ) → a *ℤ (b +ℤ c) ≡ (a *ℤ b) +ℤ (a *ℤ c)
 mul-add a b c = let e = sum_is_lem b c in
@@ -24,9 +25,6 @@ mul_assoc a b c =
       ap (λ x. up a * x) bc.1,
       ap (λ x. down a * x) bc.1,
     )
-
-pub mul_comm : (a b : ℤ) → a *ℤ b ≡ b *ℤ a
-mul_comm a b = omega (arith, ints)
 
 pub add-mul : (a b c : ℤ) → (a +ℤ b) *ℤ c ≡ (a *ℤ c) +ℤ (b *ℤ c)
 add-mul a b c = mul_comm (a +ℤ b) c ∙ mul-add c a b ∙ ap (λ x. x +ℤ (c *ℤ b)) (mul_comm c a) ∙ ap (λ x. (a *ℤ c) +ℤ x) (mul_comm c b)

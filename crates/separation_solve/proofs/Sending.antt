@@ -9,11 +9,11 @@ use Rattle.separation_solve.specs.declared.network.Link.{Link}
 use Rattle.separation_solve.specs.declared.network.Network.{Network}
 use Rattle.separation_solve.specs.declared.reach.Reach.{Reach}
 use Rattle.separation_solve.specs.declared.reach.Via.{Via}
-use Rattle.separation_solve.specs.Network.{IsSound, IsTight, link_at, net_flow, total_flow}
+use Rattle.separation_solve.specs.Network.{IsSound, IsTight, link_at, net_flow, total_flow, no_link}
 use Rattle.separation_solve.specs.Push.{IsSent, KeepsRest}
 use Rattle.separation_solve.specs.Reach.{IsAfter, IsLead, IsReach, found_at, step_at}
-use Rattle.separation_solve.specs.Sum.{sum_below}
-use Rattle.separation_solve.proofs.Exchange.{here, here_same, here_other, sum_at-set}
+use Rattle.separation_solve.specs.Sum.{here, sum_below}
+use Rattle.separation_solve.proofs.Exchange.{here_same, here_other, sum_at-set}
 use Rattle.separation_solve.proofs.Leads.{excess_size, total_size_sign}
 use Rattle.separation_solve.proofs.Order.{mul-mono}
 use Rattle.separation_solve.proofs.Ring.{ring, var, num, ◌⊕◌, ◌⊗◌}
@@ -69,12 +69,11 @@ pub net_flow-set : (links : List Link) (flow : List ℤ) (j : ℕ) (d : ℤ) (i 
     net_flow links (set flow j (int_at flow j +ℤ d)) i ≡ (net_flow links flow i +ℤ here (link_at links j).to i d) -ℤ here (link_at links j).from i d
 net_flow-set links flow j d i h e =
     let z = int_at flow j in
-    let past : Link = record { from = 0; to = 0; gap = pos 0 } in
     omega (
       arith,
       ints,
-      sum_at-set (λ (l : Link). l.to) i links flow j (z +ℤ d) past h e,
-      sum_at-set (λ (l : Link). l.from) i links flow j (z +ℤ d) past h e,
+      sum_at-set (λ (l : Link). l.to) i links flow j (z +ℤ d) no_link h e,
+      sum_at-set (λ (l : Link). l.from) i links flow j (z +ℤ d) no_link h e,
       here-add (link_at links j).to i z d,
       here-add (link_at links j).from i z d,
     )
@@ -220,7 +219,7 @@ sending_none n r target a sound some room = record {
   before = omega arith;
   room = room;
   kept = λ m l. same_kept (step_at r.steps.items m).via n;
-  rest = record { links = refl; touching = refl; wants = refl; weights = refl; places = refl; mirrored = refl; excess = refl };
+  rest = record { links = refl; tight = refl; wants = refl; weights = refl; places = refl; mirrored = refl; excess = refl };
 }
 
 -- what is sent is not too large

@@ -12,13 +12,13 @@ use Rattle.separation_solve.specs.Bundle.{int_at}
 use Rattle.separation_solve.specs.Least.{square}
 use Rattle.separation_solve.specs.Reduced.{IsReduced}
 use Rattle.separation_solve.specs.Fraction.{IsNotBeyond, most_weight}
-use Rattle.separation_solve.specs.Network.{AreKept, IsFrame, IsKept, IsSound, IsSpot, items_of, link_at, place_at}
+use Rattle.separation_solve.specs.Network.{AreKept, IsFrame, IsKept, IsSound, IsSpot, items_of, link_at, place_at, no_place}
 use Rattle.separation_solve.specs.Reach.{IsBlock}
 use Rattle.separation_solve.specs.Block.{ChangesPlaces, IsAim, LeavesRoom, PlacesBlock, block_moment, block_weight, factorial, is_member, member_offset, objective, squared}
 use Rattle.separation_solve.proofs.Ring.{ring, var, num, minus, ◌⊕◌, ◌⊗◌, ◌⊖◌}
 use Rattle.separation_solve.proofs.Order.{cancel_le, mul-mono, mul_positive, mul-nonneg, square-nonneg}
 use Rattle.separation_solve.proofs.Sums.{sum_below-sign}
-use Rattle.separation_solve.proofs.Contact.{fraction_is, reduced_moved}
+use Rattle.separation_solve.proofs.LowestTerms.{fraction_is, reduced_moved}
 use Rattle.separation_solve.proofs.Descent.{descent}
 use Rattle.separation_solve.proofs.Members.{member_place, weight_sign}
 use Rattle.separation_solve.proofs.BlockForce.{block_short, no_wall_member}
@@ -125,7 +125,7 @@ moved_high next gap off other low room =
       ring (pos other ∷ []) (var 0 ⊗ num (negsuc 1999999999)) (minus (num (pos 2000000000) ⊗ var 0)) refl,
     )
 
-pub wall_is : (n : Network) → IsSound n → place_at n.places.items (items_of n) ≡ record { num = pos 0; den = 1 }
+pub wall_is : (n : Network) → IsSound n → place_at n.places.items (items_of n) ≡ no_place
 wall_is n sound = λ i. record { num = sound.kept.wall_num i; den = sound.kept.wall_den i }
 
 -- a moved node stands on the sheet
@@ -144,7 +144,7 @@ moved_spot n start r best place new move i h moved =
     let inside : is_member r link.from ≡ true = ap (is_member r) limit.upper_from ∙ moved.member in
     let outside : is_member r link.to ≡ false = ap (is_member r) limit.upper_to ∙ no_wall_member n start r move.block in
     let room = move.room limit.upper limit.upper_within (inside, outside) in
-    let wall : place_at n.places.items link.to ≡ record { num = pos 0; den = 1 } = ap (place_at n.places.items) limit.upper_to ∙ wall_is n sound in
+    let wall : place_at n.places.items link.to ≡ no_place = ap (place_at n.places.items) limit.upper_to ∙ wall_is n sound in
     let motive = λ (p : Fraction). (place.num *ℤ pos p.den) ≤ℤ ((p.num -ℤ ((link.gap +ℤ member_offset r link.from) *ℤ pos p.den)) *ℤ pos place.den) in
     let to_wall = subst motive wall room in
     let by_item = subst (λ k. (place.num *ℤ pos 1) ≤ℤ ((pos 0 -ℤ ((link.gap +ℤ member_offset r k) *ℤ pos 1)) *ℤ pos place.den)) limit.upper_from to_wall in
@@ -324,15 +324,13 @@ moved_with n start r best place places move =
         weights = frame.weights;
         excess = frame.excess;
         places = move.placed.count ∙ frame.places;
-        touching = frame.touching;
+        lists = frame.lists;
         flow = frame.flow;
         light = frame.light;
         heavy = frame.heavy;
         wants = frame.wants;
         links = frame.links;
         limited = frame.limited;
-        listed = frame.listed;
-        no_others = frame.no_others;
       };
       kept = record {
         spots = new_spots n start r best place places.items move;
@@ -346,7 +344,7 @@ moved_with n start r best place places move =
 same_network : (n m : Network) → ChangesPlaces n m → m ≡ with_places n m.places
 same_network n m changes = λ i. record {
   links = changes.links i;
-  touching = changes.touching i;
+  tight = changes.tight i;
   wants = changes.wants i;
   weights = changes.weights i;
   mirrored = changes.mirrored i;

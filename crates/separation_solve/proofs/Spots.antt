@@ -1,17 +1,12 @@
 -- The size of places, and when a link is tight.
-use Rattle.std.proofs.Common.{◌≡◌, ℕ, ◌^◌, ◌<◌, ◌≤◌, ℤ, pos, ◌-ℤ◌, ◌*ℤ◌, unsigned_abs, FitsSigned, IsTrue, ◌↔◌, nat_eq, List, length, get_or, arith, ap, sym, ◌∙◌, to_z, of_z, w64, to_z-of_z, lit<, eqb-true, eq-eqb}
+use Rattle.std.proofs.Common.{◌≡◌, ℕ, ◌^◌, ◌≤◌, ℤ, pos, ◌-ℤ◌, ◌*ℤ◌, unsigned_abs, FitsSigned, IsTrue, ◌↔◌, nat_eq, List, arith, ap, sym, ◌∙◌, to_z, of_z, w64, to_z-of_z, lit<, eqb-true, eq-eqb}
 use mir.Syntax.{w128, Width}
 use Rattle.std.proofs.lemmas.Int.{ints, fits_signed_mul, fits_signed_from_abs}
-use Rattle.std.proofs.lemmas.List.{get_or_default}
 use Rattle.separation_solve.specs.Bundle.{IsCoordinate}
 use Rattle.separation_solve.specs.declared.fraction.Fraction.{Fraction}
 use Rattle.separation_solve.specs.declared.network.Link.{Link}
 use Rattle.separation_solve.specs.declared.network.Network.{Network}
 use Rattle.separation_solve.specs.Network.{IsFrame, IsSpot, IsTight, AreKept, items_of, place_at}
-
--- what is read at an index is what stands there, past-the-end values aside
-pub read_at : {X : Type 0} (xs : List X) (i : ℕ) (x d : X) → i < length xs → x ≡ get_or xs i x → x ≡ get_or xs i d
-read_at xs i x d h e = e ∙ get_or_default xs i x d h
 
 -- the numerator of a place fits by far
 pub spot_num : (p : Fraction) → IsSpot p → unsigned_abs p.num ≤ 6800000000000000000
@@ -21,8 +16,8 @@ pub coordinate_size : (z : ℤ) → IsCoordinate z → unsigned_abs z ≤ 200000
 coordinate_size z c = omega (arith, ints, c.low, c.high)
 
 -- two numbers that fit are equal where their bits are
-pub same_bits : (w : Width) (a b : ℤ) → FitsSigned w a → FitsSigned w b → IsTrue (nat_eq (of_z w a) (of_z w b)) → a ≡ b
-same_bits w a b fa fb t = sym (to_z-of_z fa) ∙ ap (to_z w) (eqb-true (of_z w a) (of_z w b) t) ∙ to_z-of_z fb
+pub same_bits : (w : Width) (a b : ℤ) → FitsSigned w a → FitsSigned w b → of_z w a ≡ of_z w b → a ≡ b
+same_bits w a b fa fb e = sym (to_z-of_z fa) ∙ ap (to_z w) e ∙ to_z-of_z fb
 
 pub bits_same : (w : Width) (a b : ℤ) → a ≡ b → IsTrue (nat_eq (of_z w a) (of_z w b))
 bits_same w a b e = eq-eqb (of_z w a) (of_z w b) (ap (of_z w) e)
@@ -51,7 +46,7 @@ tight_test places link a b is_a is_b s t c same =
     let b_den : b.den ≡ (place_at places link.to).den = ap (λ p. p.den) is_b in (
       λ test. record {
         den = sym a_den ∙ same ∙ b_den;
-        apart = rw (← a_num, ← b_num, ← a_den) (same_bits w128 (b.num -ℤ a.num) (link.gap *ℤ pos a.den) fits gap test);
+        apart = rw (← a_num, ← b_num, ← a_den) (same_bits w128 (b.num -ℤ a.num) (link.gap *ℤ pos a.den) fits gap (eqb-true _ _ test));
       },
       λ tight. bits_same w128 (b.num -ℤ a.num) (link.gap *ℤ pos a.den) (rw (a_num, b_num, a_den) tight.apart),
     )

@@ -1,5 +1,5 @@
 -- A change of each element in turn.
-use Rattle.std.proofs.Common.{All, ℤ, pos, neg_ℤ, ◌-ℤ◌, FitsSigned, to_z, of_z, to_z-of_z, ◌≡◌, ℕ, ◌+◌, ◌<◌, ◌≤◌, List, map, length, get_or, set, arith, refl, ap, sym, subst, ◌∙◌, ⊎_elim, length-set, get_or-set_same, get_or-set_other}
+use Rattle.std.proofs.Common.{All, ℤ, pos, neg_ℤ, ◌-ℤ◌, FitsSigned, to_z, of_z, to_z-of_z, ◌≡◌, ℕ, ◌+◌, ◌<◌, ◌≤◌, List, map, length, get_or, set, arith, ap, sym, subst, ◌∙◌, ⊎_elim, length-set, get_or-set_same, get_or-set_other}
 use mir.Syntax.{Width}
 use Rattle.std.proofs.lemmas.Bool.{cases_eq}
 use Rattle.std.proofs.lemmas.Int.{ints}
@@ -11,13 +11,6 @@ pub record IsTurned {A : Type 0} (f : A → A) (old new : List A) (k : ℕ) : Ty
   pub long : length new ≡ length old
   pub turned : (i : ℕ) (d : A) → i < k → i < length old → get_or new i d ≡ f (get_or old i d)
   pub rest : (i : ℕ) (d : A) → k ≤ i → get_or new i d ≡ get_or old i d
-
-pub turned_none : {A : Type 0} (f : A → A) (old : List A) → IsTurned f old old 0
-turned_none f old = record {
-  long = refl;
-  turned = λ i d h. absurd (omega arith);
-  rest = λ i d h. refl;
-}
 
 pub turned_more : {A : Type 0} (f : A → A) (old new : List A) (k : ℕ) (y e : A) → IsTurned f old new k → k < length new → y ≡ f (get_or new k e) → IsTurned f old (set new k y) (k + 1)
 turned_more f old new k y e was h is = record {

@@ -4,13 +4,12 @@ use Rattle.std.specs.Prelude.{slice_index, slice_index_or}
 use Rattle.std.proofs.lemmas.Int.{ints}
 use Rattle.separation_solve.specs.declared.bundle.Rule.{Rule}
 use Rattle.separation_solve.specs.declared.bundle.Bundle.{Bundle}
-use Rattle.separation_solve.specs.Bundle.{IsBundle, Meets, item_at, slack, asked}
+use Rattle.separation_solve.specs.Bundle.{IsBundle, Meets, item_at, slack, asked, no_item}
 use Rattle.separation_solve.specs.Gap.{HasRoom, IsWidestGap}
 use Rattle.separation_solve.specs.Latest.{HasNoRoom}
 use Rattle.separation_solve.proofs.Ring.{ring, var, ◌⊗◌, ◌⊖◌}
 use Rattle.separation_solve.proofs.Order.{mul-nonneg}
 use Rattle.separation_solve.proofs.Positions.{MeetsOver, listed, listed_meets}
-use Rattle.separation_solve.proofs.Bounds.{no_item}
 
 narrower_slack : (wider gap : ℤ) (den : List ℕ) (place : List ℤ) (rule : Rule) → gap ≤ℤ wider → pos 0 ≤ℤ slack wider den place rule → pos 0 ≤ℤ slack gap den place rule
 narrower_slack wider gap den place rule h k =

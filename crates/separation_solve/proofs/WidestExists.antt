@@ -1,47 +1,45 @@
--- Each bundle has a widest gap: some positions meet it with a gap or none do, and there are finitely many gaps.
-use Rattle.std.proofs.Common.{◌≡◌, ◌⊎◌, inl, inr, ℕ, zero, suc, ◌+◌, ◌-◌, ◌<◌, ◌≤◌, ℤ, pos, ◌-ℤ◌, ◌≤ℤ◌, List, length, set, subst, refl, ⊎_elim, arith}
-use Rattle.std.proofs.lemmas.Int.{ints}
-use Rattle.std.proofs.lemmas.List.FromFn.{length-map-range_with_len}
+-- Each bundle has a widest gap: for each gap some positions meet it or none do, and there are finitely many.
+use Rattle.std.proofs.Common.{◌≡◌, ◌⊎◌, inl, inr, ℕ, zero, suc, ◌+◌, ◌-◌, ◌<◌, ◌≤◌, ℤ, pos, ◌-ℤ◌, ◌≤ℤ◌, List, length, map, set, subst, refl, ⊎_elim, arith}
+use Rattle.std.proofs.lemmas.Int.{by_lt_z, ints}
+use Rattle.separation_solve.specs.declared.bundle.Item.{Item}
 use Rattle.separation_solve.specs.declared.bundle.Rule.{Rule}
 use Rattle.separation_solve.specs.declared.bundle.Bundle.{Bundle}
 use Rattle.separation_solve.specs.Bundle.{IsBundle, item_at, rule_at, int_at, asked}
 use Rattle.separation_solve.specs.Gap.{HasRoom, IsWidestGap}
 use Rattle.separation_solve.specs.Latest.{HasNoRoom}
-use Rattle.separation_solve.proofs.Order.{le_or_lt, le_both, nonneg_is}
-use Rattle.separation_solve.proofs.Positions.{listed, int_at-listed}
+use Rattle.separation_solve.proofs.Order.{le_both, nonneg_is}
 use Rattle.separation_solve.proofs.Sorting.{ordered}
 use Rattle.separation_solve.proofs.Bounds.{IsBound, IsByLeft, bound_none, bound_kept, bound_moved, bound_all, no_room}
 use Rattle.separation_solve.proofs.Widest.{IsBetween, between_none, between_met, between_unmet, between_all}
 
--- no fractions meet the bundle, or no fractions that do stand right of places that hold the rules from the j-th on
+-- either no fractions meet the bundle, or there are places that hold the rules from the j-th on, and none stand right of them
 abbrev IsTaken : Bundle → ℤ → List Rule → ℕ → Type 0
 IsTaken b gap rs j = HasNoRoom b gap ⊎ ((places : List ℤ) × IsBound b gap rs j places)
 
+-- one rule more
 take_rule : (b : Bundle) (gap : ℤ) (rs : List Rule) (j : ℕ) → IsBundle b → IsByLeft b rs → j < length rs → IsTaken b gap rs (j + 1) → IsTaken b gap rs j
 take_rule b gap rs j ok by l =
     let left = (rule_at rs j).left in
     ⊎_elim inl (λ last.
     let places = last.0 in
     let most = int_at places (rule_at rs j).right -ℤ asked gap (rule_at rs j) in
-    ⊎_elim
-    (λ low. ⊎_elim
-    (λ held. inr (places, bound_kept b gap rs j places last.1 held))
-    (λ ahead. inr (set places left most, bound_moved b gap rs j places most ok by l last.1 refl low ahead))
-    (le_or_lt (int_at places left) most))
+    by_lt_z {P = IsTaken b gap rs j} most (item_at b.items.items left).lo
     (λ below. inl (no_room b gap rs j places ok by l last.1 below))
-    (le_or_lt (item_at b.items.items left).lo most))
+    (λ low. by_lt_z {P = IsTaken b gap rs j} most (int_at places left)
+    (λ ahead. inr (set places left most, bound_moved b gap rs j places most ok by l last.1 refl low ahead))
+    (λ held. inr (places, bound_kept b gap rs j places last.1 held))))
 
+-- the last k rules
 take_rules : (b : Bundle) (gap : ℤ) (rs : List Rule) (k : ℕ) → IsBundle b → IsByLeft b rs → k ≤ length rs → IsTaken b gap rs (length rs - k)
 take_rules b gap rs zero ok by l =
-    let n = length b.items.items in
-    let places = listed n (λ i. (item_at b.items.items i).hi) in
-    let bound = bound_none b gap rs b.items.items places ok refl (length-map-range_with_len (λ i. (item_at b.items.items i).hi) 0 n) (λ i l. int_at-listed n (λ i. (item_at b.items.items i).hi) i l) in
-    inr (places, subst (λ j. IsBound b gap rs j places) (omega arith) bound)
+    let places = map (λ (item : Item). item.hi) b.items.items in
+    inr (places, subst (λ j. IsBound b gap rs j places) (omega arith) (bound_none b gap rs places ok refl))
 take_rules b gap rs (suc k) ok by l =
     let j = length rs - suc k in
     let next : length rs - k ≡ j + 1 = omega (arith, l) in
     take_rule b gap rs j ok by (omega (arith, l)) (subst (IsTaken b gap rs) next (take_rules b gap rs k ok by (omega (arith, l))))
 
+-- whether some positions meet the bundle with the gap
 room_or_none : (b : Bundle) (gap : ℤ) → IsBundle b → HasRoom b gap ⊎ HasNoRoom b gap
 room_or_none b gap ok =
     let order = ordered (λ (r : Rule). r.left) b.rules.items in
@@ -51,7 +49,7 @@ room_or_none b gap ok =
     (λ last. inl (record { places = last.0; meets = (bound_all b gap rs last.0 ok by (subst (λ j. IsBound b gap rs j last.0) (omega arith) last.1)).meets }))
     (take_rules b gap rs (length rs) ok by (omega arith))
 
--- from above, one gap after another
+-- the widest gap of those that are left, sought downwards one at a time
 widest_below : (b : Bundle) (k : ℕ) → IsBundle b → IsBetween b (pos 0) (pos (suc k)) → (gap : ℤ) × IsWidestGap b gap
 widest_below b zero ok h = (pos 0, between_all b (pos 0) (pos 1) h (omega (arith, ints)))
 widest_below b (suc k) ok h =
@@ -67,7 +65,7 @@ widest_exists b ok =
     widest_below b wanted.0 ok (between_none b (pos 0) (pos (suc wanted.0)) ok refl (omega (arith, ints, wanted.1)))
 
 not_wider : (b : Bundle) (gap other : ℤ) → IsWidestGap b gap → IsWidestGap b other → other ≤ℤ gap
-not_wider b gap other h k = ⊎_elim (λ le. le) (λ wider. absurd (h.widest other _ k.room.places wider k.high k.room.meets)) (le_or_lt other gap)
+not_wider b gap other h k = by_lt_z {P = other ≤ℤ gap} gap other (λ wider. absurd (h.widest other _ k.room.places wider k.high k.room.meets)) (λ le. le)
 
 pub one_widest : (b : Bundle) (gap other : ℤ) → IsWidestGap b gap → IsWidestGap b other → gap ≡ other
 one_widest b gap other h k = le_both gap other (not_wider b other gap k h) (not_wider b gap other h k)

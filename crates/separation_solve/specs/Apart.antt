@@ -7,7 +7,7 @@ pub record IsOnSheet (den : ℕ) (place : ℤ) : Type 0 where
   pub low : (negsuc 1999999999 *ℤ pos den) ≤ℤ place
   pub high : place ≤ℤ (pos 2000000000 *ℤ pos den)
 
--- by how much the fraction q / e stands further behind p / d than asked, over the product of their denominators
+-- by how much the fraction q / e stands further to the right of p / d than asked, over the product of their denominators
 abbrev pub room : ℤ → ℕ → ℤ → ℕ → ℤ → ℤ
 room p d q e asked = (q *ℤ pos d) -ℤ (p *ℤ pos e) -ℤ (asked *ℤ pos d *ℤ pos e)
 

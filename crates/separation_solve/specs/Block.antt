@@ -12,7 +12,7 @@ use Rattle.separation_solve.specs.Fraction.{IsNotBeyond, most_weight}
 use Rattle.separation_solve.specs.Network.{items_of, place_at}
 use Rattle.separation_solve.specs.Reach.{found_at, step_at}
 
--- each node that was reached has its step
+-- the index of each node's step is one of the steps
 abbrev pub IsFound : Reach → Type 0
 IsFound r = (i k : ℕ) → found_at r.found.items i ≡ Some k → k < length r.steps.items
 
@@ -20,7 +20,7 @@ IsFound r = (i k : ℕ) → found_at r.found.items i ≡ Some k → k < length r
 abbrev pub offset_of : Reach → ℕ → Option ℤ
 offset_of r node = option_map (λ step. (step_at r.steps.items step).offset) (found_at r.found.items node)
 
--- whether it was
+-- whether the node was reached
 abbrev pub is_member : Reach → ℕ → Bool
 is_member r node = is_some (offset_of r node)
 
@@ -81,7 +81,7 @@ pub record PlacesBlock (old : List Fraction) (items : ℕ) (r : Reach) (place : 
 -- nothing but places has changed
 pub record ChangesPlaces (old new : Network) : Type 0 where
   pub links : new.links ≡ old.links
-  pub touching : new.touching ≡ old.touching
+  pub tight : new.tight ≡ old.tight
   pub wants : new.wants ≡ old.wants
   pub weights : new.weights ≡ old.weights
   pub mirrored : new.mirrored ≡ old.mirrored

@@ -1,17 +1,26 @@
 -- What a bundle is, and what positions have to meet.
-use Rattle.std.specs.Prelude.{◌≡◌, ℕ, false, ◌<◌, ◌≤◌, ℤ, pos, negsuc, ◌-ℤ◌, ◌*ℤ◌, ◌≤ℤ◌, List, length, All, EachIndex, slice_index, slice_index_or, if◌then◌else◌}
+use Rattle.std.specs.Prelude.{◌≡◌, ℕ, false, ◌<◌, ◌≤◌, ℤ, pos, negsuc, ◌*ℤ◌, ◌≤ℤ◌, List, length, All, EachIndex, slice_index, slice_index_or, if◌then◌else◌}
 use Rattle.separation_solve.specs.declared.bundle.Item.{Item}
 use Rattle.separation_solve.specs.declared.bundle.Rule.{Rule}
 use Rattle.separation_solve.specs.declared.bundle.Bundle.{Bundle}
 use Rattle.separation_solve.specs.declared.bundle.TheConstants.{MOST_ITEMS}
+use Rattle.separation_solve.specs.Apart.{room}
 
--- the item at the place; past the end, one that stands at 0
+-- what is read past the last item: one that stands at 0
+abbrev pub no_item : Item
+no_item = record { want = pos 0; lo = pos 0; hi = pos 0; weight = 0 }
+
+-- the item at the place
 abbrev pub item_at : List Item → ℕ → Item
-item_at items i = slice_index_or items i (record { want = pos 0; lo = pos 0; hi = pos 0; weight = 0 })
+item_at items i = slice_index_or items i no_item
 
--- the rule at the place; past the end, one of the first item with itself
+-- what is read past the last rule: one of the first item with itself
+abbrev pub no_rule : Rule
+no_rule = record { left = 0; right = 0; spaced = false }
+
+-- the rule at the place
 abbrev pub rule_at : List Rule → ℕ → Rule
-rule_at rules j = slice_index_or rules j (record { left = 0; right = 0; spaced = false })
+rule_at rules j = slice_index_or rules j no_rule
 
 -- the number at the place; past the end, 0
 abbrev pub int_at : List ℤ → ℕ → ℤ
@@ -22,7 +31,7 @@ pub record IsCoordinate (z : ℤ) : Type 0 where
   pub low : negsuc 1999999999 ≤ℤ z
   pub high : z ≤ℤ pos 2000000000
 
--- an item with limits on the sheet, which wants to stand within them
+-- an item with limits on the sheet, which wants to stand within them, and a weight from 1 to 4
 pub record IsItem (item : Item) : Type 0 where
   pub lo : IsCoordinate item.lo
   pub hi : IsCoordinate item.hi
@@ -31,7 +40,7 @@ pub record IsItem (item : Item) : Type 0 where
   pub weight_low : 1 ≤ item.weight
   pub weight_high : item.weight ≤ 4
 
--- a rule that goes on to a later item, which wants to stand at the left one's want or behind it
+-- a rule that goes on to a later item, which wants to stand at the left one's want or to the right of it
 pub record IsRule (items : List Item) (rule : Rule) : Type 0 where
   pub forward : rule.left < rule.right
   pub within : rule.right < length items
@@ -56,10 +65,7 @@ pub record IsWithinLimits (item : Item) (den : ℕ) (place : ℤ) : Type 0 where
 
 -- by how much the rule's items stand further apart than it asks, over the product of their denominators
 abbrev pub slack : ℤ → List ℕ → List ℤ → Rule → ℤ
-slack gap den place rule =
-    let l = slice_index den rule.left in
-    let r = slice_index den rule.right in
-    (int_at place rule.right *ℤ pos l) -ℤ (int_at place rule.left *ℤ pos r) -ℤ (asked gap rule *ℤ pos l *ℤ pos r)
+slack gap den place rule = room (int_at place rule.left) (slice_index den rule.left) (int_at place rule.right) (slice_index den rule.right) (asked gap rule)
 
 -- the fractions are positions of the items that meet all limits and, with the gap, all rules
 pub record Meets (b : Bundle) (gap : ℤ) (den : List ℕ) (place : List ℤ) : Type 0 where

@@ -1,4 +1,5 @@
 pub mod Sum
+pub mod Apart
 pub mod Bundle
 pub mod Gap
 pub mod Latest
@@ -6,7 +7,6 @@ pub mod Least
 pub mod Certified
 pub mod Reduced
 pub mod Fraction
-pub mod Apart
 pub mod Checked
 pub mod Network
 pub mod Block

@@ -13,13 +13,21 @@ use Rattle.separation_solve.specs.Bundle.{IsCoordinate, asked, int_at}
 use Rattle.separation_solve.specs.Reduced.{IsReduced, IsWithin}
 use Rattle.separation_solve.specs.Fraction.{most_weight}
 
--- the place of the node; past the last one, 0
-abbrev pub place_at : List Fraction → ℕ → Fraction
-place_at places i = slice_index_or places i (record { num = pos 0; den = 1 })
+-- what is read past the last place: 0
+abbrev pub no_place : Fraction
+no_place = record { num = pos 0; den = 1 }
 
--- the link at the index; past the end, one of the first node with itself
+-- the place of the node
+abbrev pub place_at : List Fraction → ℕ → Fraction
+place_at places i = slice_index_or places i no_place
+
+-- what is read past the last link: one of the first node with itself
+abbrev pub no_link : Link
+no_link = record { from = 0; to = 0; gap = pos 0 }
+
+-- the link at the index
 abbrev pub link_at : List Link → ℕ → Link
-link_at links j = slice_index_or links j (record { from = 0; to = 0; gap = pos 0 })
+link_at links j = slice_index_or links j no_link
 
 -- the number of items
 abbrev pub items_of : Network → ℕ
@@ -66,10 +74,26 @@ pub record IsLink (items : ℕ) (link : Link) : Type 0 where
   pub apart : link.from ≢ link.to
   pub gap : IsCoordinate link.gap
 
--- the index stands at both nodes of its link
-pub record IsListed (links : List Link) (touching : List (Vec ℕ Global)) (j : ℕ) : Type 0 where
-  pub at_from : (d : Vec ℕ Global) → Contains (slice_index_or touching (link_at links j).from d).items j
-  pub at_to : (d : Vec ℕ Global) → Contains (slice_index_or touching (link_at links j).to d).items j
+-- the link joins two of so many nodes, with a gap of the sheet's size at most
+pub record JoinsNodes (nodes : ℕ) (link : Link) : Type 0 where
+  pub from : link.from < nodes
+  pub to : link.to < nodes
+  pub gap : IsCoordinate link.gap
+
+-- the index stands in the lists of both nodes of its link
+pub record IsListed (links : List Link) (lists : List (Vec ℕ Global)) (j : ℕ) : Type 0 where
+  pub at_from : (d : Vec ℕ Global) → Contains (slice_index_or lists (link_at links j).from d).items j
+  pub at_to : (d : Vec ℕ Global) → Contains (slice_index_or lists (link_at links j).to d).items j
+
+-- the index is that of a tight link
+pub record IsTightAt (places : List Fraction) (links : List Link) (j : ℕ) : Type 0 where
+  pub link : j < length links
+  pub tight : IsTight places (link_at links j)
+
+-- the tight links stand in the lists of both their nodes, and no others stand there
+pub record ListsTight (places : List Fraction) (links : List Link) (lists : List (Vec ℕ Global)) : Type 0 where
+  pub listed : (j : ℕ) → IsTightAt places links j → IsListed links lists j
+  pub no_others : All (λ (v : Vec ℕ Global). All (IsTightAt places links) v.items) lists
 
 -- the item has an upper limit, a link to the wall, and a lower one, from the wall
 pub record IsLimited (items : ℕ) (links : List Link) (i : ℕ) : Type 0 where
@@ -88,15 +112,13 @@ pub record IsFrame (n : Network) : Type 0 where
   pub weights : length n.weights.items ≡ items_of n
   pub excess : length n.excess.items ≡ items_of n
   pub places : length n.places.items ≡ items_of n + 1
-  pub touching : length n.touching.items ≡ items_of n + 1
+  pub lists : length n.tight.items ≡ items_of n + 1
   pub flow : length n.flow.items ≡ length n.links.items
   pub light : All (λ w. w ≤ 4) n.weights.items
   pub heavy : All (λ w. 1 ≤ w) n.weights.items
   pub wants : All IsCoordinate n.wants.items
   pub links : EachIndex n.links.items (λ j. IsLink (items_of n) (link_at n.links.items j))
   pub limited : EachIndex n.wants.items (IsLimited (items_of n) n.links.items)
-  pub listed : EachIndex n.links.items (IsListed n.links.items n.touching.items)
-  pub no_others : All (λ (v : Vec ℕ Global). All (λ j. j < length n.links.items) v.items) n.touching.items
 
 -- a fraction of the sheet in lowest terms, with a denominator that is not too large
 pub record IsSpot (place : Fraction) : Type 0 where
@@ -124,6 +146,7 @@ pub record IsFlow (n : Network) : Type 0 where
 pub record IsSound (n : Network) : Type 0 where
   pub frame : IsFrame n
   pub kept : AreKept n
+  pub tight : ListsTight n.places.items n.links.items n.tight.items
   pub flow : IsFlow n
 
 -- the link as it is when left and right change sides
@@ -145,6 +168,13 @@ upright_wants n = if n.mirrored then map neg_ℤ n.wants.items else n.wants.item
 -- the places with left and right on their own sides
 abbrev pub upright_places : Network → List Fraction
 upright_places n = if n.mirrored then map turned_place n.places.items else n.places.items
+
+-- nothing of the bundle has changed, nor which side is left
+pub record KeepsBundle (old new : Network) : Type 0 where
+  pub links : new.links ≡ old.links
+  pub wants : new.wants ≡ old.wants
+  pub weights : new.weights ≡ old.weights
+  pub mirrored : new.mirrored ≡ old.mirrored
 
 -- both are of the same items, rules and limits
 pub record IsSameBundle (old new : Network) : Type 0 where

@@ -112,7 +112,7 @@ pub record IsWay (n : Network) (start : ℕ) (r : Reach) (k : ℕ) : Type 0 wher
   pub target : k < length r.steps.items
   pub takes : TakesFlow n (step_at r.steps.items k).node
 
--- what a search from the start comes to
-abbrev pub IsOutcome : Network → ℕ → Outcome → Type 0
-IsOutcome n start (Target r target) = IsWay n start r target
-IsOutcome n start (Block r) = IsBlock n start r
+-- what a search comes to
+abbrev pub IsOutcome : Network → Outcome → Type 0
+IsOutcome n (Target r target) = IsWay n (start_of r) r target
+IsOutcome n (Block r) = IsBlock n (start_of r) r

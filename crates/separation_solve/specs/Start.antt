@@ -15,8 +15,8 @@ pub record AreStartPlaces (b : Bundle) (gap : ℤ) (places : List Fraction) : Ty
   pub kept : EachIndex (links_of b gap) (λ j. IsKept places (link_at (links_of b gap) j))
 
 -- the right item's place is at least as far on as the rule asks
-abbrev pub KeepsRule : ℤ → List ℤ → Rule → Type 0
-KeepsRule gap places rule = (int_at places rule.left +ℤ asked gap rule) ≤ℤ int_at places rule.right
+abbrev pub IsRuleKept : ℤ → List ℤ → Rule → Type 0
+IsRuleKept gap places rule = (int_at places rule.left +ℤ asked gap rule) ≤ℤ int_at places rule.right
 
 -- each of the second numbers is at most the first one at its index
 abbrev pub AreAtMost : List ℤ → List ℤ → Type 0

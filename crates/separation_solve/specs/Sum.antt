@@ -11,8 +11,12 @@ abbrev pub product : List ℕ → ℕ
 product [] = 1
 product (n ∷ ns) = n * product ns
 
+-- the number if the two places are one, else 0
+abbrev pub here : ℕ → ℕ → ℤ → ℤ
+here k i z = if k == i then z else pos 0
+
 -- the sum of the numbers beside those elements that have their end at the place
 abbrev pub sum_at : {A : Type 0} → (A → ℕ) → ℕ → List A → List ℤ → ℤ
 sum_at end i [] zs = pos 0
 sum_at end i (x ∷ xs) [] = pos 0
-sum_at end i (x ∷ xs) (z ∷ zs) = (if end x == i then z else pos 0) +ℤ sum_at end i xs zs
+sum_at end i (x ∷ xs) (z ∷ zs) = here (end x) i z +ℤ sum_at end i xs zs

@@ -1,4 +1,4 @@
-ghost use Rattle.std.specs.Prelude.{◌≡◌, ℕ, ◌<◌, pos, ◌≤ℤ◌, ◌<ℤ◌, IfOk, All, MatchOption, length};
+ghost use Rattle.std.specs.Prelude.{◌≡◌, ◌<◌, pos, ◌≤ℤ◌, ◌<ℤ◌, IfOk, All, MatchOption, length};
 ghost use Rattle.separation_solve.specs.Bundle.{int_at};
 
 use crate::network::Network;
@@ -7,7 +7,7 @@ use std::alloc::{AllocError, Global};
 
 impl Network {
     ghost use Rattle.separation_solve.specs.Network.{IsSameBundle, IsSound, items_of, upright_places, total_size};
-    ghost use Rattle.separation_solve.specs.Reach.{IsBlock};
+    ghost use Rattle.separation_solve.specs.Reach.{IsBlock, start_of};
 
     /// Pushes flow until each item is balanced, or a block is found that wants to go right and is free to.
     pub fn balance(&mut self, alloc: Global) -> Result<Option<Reach>, AllocError>
@@ -16,7 +16,7 @@ impl Network {
         ensures same { IsSameBundle self.old self.new }
         ensures places { upright_places self.new ≡ upright_places self.old }
         ensures found { IfOk result (λ found. MatchOption found (All (λ z. z ≡ pos 0) self.new.excess.items)
-            (λ block. (start : ℕ) × IsBlock self.new start block)) }
+            (λ block. IsBlock self.new (start_of block) block)) }
     {
         while let Some(start) = self.next_start() {
             match search(alloc, self, start)? {
@@ -37,16 +37,16 @@ impl Network {
         ensures start { MatchOption result (All (λ z. z ≡ pos 0) self.new.excess.items)
             (λ start. (start < items_of self.new) × (int_at self.new.excess.items start <ℤ pos 0)) }
     {
-        let start = self.hindmost();
+        let start = self.first_deficit();
         if start.is_some() {
             return start;
         }
         self.mirror();
-        self.hindmost()
+        self.first_deficit()
     }
 
-    /// The first item that wants to go right, in the order in which rules go forward.
-    fn hindmost(&self) -> Option<usize>
+    /// The first item with a deficit, which wants to go right, in the order in which rules go forward.
+    fn first_deficit(&self) -> Option<usize>
         ensures { MatchOption result (All (λ z. pos 0 ≤ℤ z) self.now.excess.items)
             (λ start. (start < length self.now.excess.items) × (int_at self.now.excess.items start <ℤ pos 0)) }
     {

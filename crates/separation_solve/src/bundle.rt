@@ -35,7 +35,7 @@ impl Rule {
 }
 
 /// Items that rules join, and the gap that they want, in thousandths.
-#[derive(Debug, Drop)]
+#[derive(Debug, PartialEq, Eq, Drop)]
 pub struct Bundle {
     pub items: Vec<Item>,
     pub rules: Vec<Rule>,
@@ -44,9 +44,10 @@ pub struct Bundle {
 
 /// Positions of a bundle's items for a gap, with the multipliers of its rules and limits.
 ///
-/// The item at a place stands at `pos / den` thousandths. `low` and `high` are the multipliers of its limits.
+/// The item at a place stands at `pos / den` thousandths. `mult` has the multipliers of the rules, in their order, and
+/// `low` and `high` those of the items' limits.
 /// A multiplier of a limit is a numerator over the item's `den`, one of a rule over the `den` of both its items.
-#[derive(Debug, Drop)]
+#[derive(Debug, PartialEq, Eq, Drop)]
 pub struct Solution {
     pub gap: i64,
     pub den: Vec<u64>,

@@ -1,17 +1,18 @@
-ghost use Rattle.std.specs.Prelude.{◌≡◌, ℕ, ◌^◌, ◌+◌, ◌<◌, ℤ, pos, ◌+ℤ◌, ◌-ℤ◌, ◌*ℤ◌, ◌≤ℤ◌, ◌<ℤ◌, IsTrue, ◌↔◌, All, EachIndex, MatchOption, length, slice_index, ◌==◌, if◌then◌else◌};
+ghost use Rattle.std.specs.Prelude.{◌≡◌, ◌^◌, ◌+◌, ◌<◌, ℤ, pos, ◌+ℤ◌, ◌-ℤ◌, ◌≤ℤ◌, ◌<ℤ◌, IsTrue, ◌↔◌, All, EachIndex, MatchOption, length, slice_index};
 ghost use Rattle.std.specs.Ordering.{MatchOrdering};
-ghost use Rattle.separation_solve.specs.Apart.{IsOnSheet};
-ghost use Rattle.separation_solve.specs.Bundle.{IsBundle, IsCoordinate, IsItem, int_at, slack};
+ghost use Rattle.separation_solve.specs.Bundle.{IsBundle, IsItem, int_at, slack};
 ghost use Rattle.separation_solve.specs.Certified.{IsAccepted, from_left, from_right};
 ghost use Rattle.separation_solve.specs.Checked.{HasLengths, HasMultipliers, IsAtRest, IsMet, IsMultiplier, IsOnSheetAt, IsPush, KeepsLimits, KeepsLimitsAt, KeepsRule, KeepsRuleAt};
 ghost use Rattle.separation_solve.specs.Least.{IsLeast};
+ghost use Rattle.separation_solve.specs.Sum.{here};
 
 use crate::bundle::{Bundle, Item, Rule, Solution};
+use crate::displacement::{numerator_over, weighted_displacement};
 use crate::place::Place;
 use std::cmp::Ordering;
 
 /// The most that a number of a solution may be.
-const MOST: i128 = 1 << 100;
+const MOST_NUMBER: i128 = 1 << 100;
 
 /// The most that the multipliers of one item may be together.
 const MOST_TOGETHER: i128 = 1 << 126;
@@ -20,12 +21,13 @@ const MOST_TOGETHER: i128 = 1 << 126;
 /// sum of squared displacements. Takes no memory, and for each item a pass over all rules.
 ///
 /// The multipliers are those of Karush, Kuhn and Tucker (Boyd and Vandenberghe, "Convex Optimization", section 5.5).
-/// Says no also where a list has the wrong length, a position's or a multiplier's absolute value is above 2^100, the
-/// multipliers of one item are together above 2^126, or the gap is not from 0 to the wanted one.
+/// Says no also where a list has the wrong length, a denominator is 0, a position's or a multiplier's absolute value is
+/// above 2^100, the multipliers of one item are together above 2^126, or the gap is not from 0 to the wanted one.
 pub fn verify(bundle: &Bundle, solution: &Solution) -> bool
     requires { IsBundle bundle.now }
     ensures accepted { IsTrue result ↔ IsAccepted bundle.now solution.now }
-    ensures least { IsTrue result → IsLeast bundle.now solution.now.gap solution.now.den.items solution.now.pos.items }
+    ensures least { IsTrue result →
+        IsLeast bundle.now solution.now.gap solution.now.den.items solution.now.pos.items }
 {
     if solution.gap < 0 {
         return false;
@@ -64,16 +66,7 @@ fn has_lengths(bundle: &Bundle, solution: &Solution) -> bool
 fn are_multipliers(multipliers: &[i128]) -> bool
     ensures { IsTrue result ↔ All IsMultiplier multipliers.now }
 {
-    multipliers.iter().all(|m| 0 <= *m && *m <= MOST)
-}
-
-/// The numerator of a limit over a denominator.
-fn limit_over(limit: i64, den: u64) -> i128
-    requires limit { IsCoordinate limit }
-    requires den { 0 < den }
-    ensures { result ≡ limit *ℤ pos den }
-{
-    i128::from(limit) * i128::from(den)
+    multipliers.iter().all(|m| 0 <= *m && *m <= MOST_NUMBER)
 }
 
 /// Whether the one is at most the other, and equal to it where the multiplier is not 0.
@@ -91,13 +84,9 @@ fn is_met(least: i128, most: i128, multiplier: i128) -> bool
 fn has_multipliers(solution: &Solution) -> bool
     ensures { IsTrue result ↔ HasMultipliers solution.now }
 {
-    if !are_multipliers(&solution.mult) {
-        return false;
-    }
-    if !are_multipliers(&solution.low) {
-        return false;
-    }
-    are_multipliers(&solution.high)
+    are_multipliers(&solution.mult)
+        && are_multipliers(&solution.low)
+        && are_multipliers(&solution.high)
 }
 
 impl Item {
@@ -107,8 +96,8 @@ impl Item {
         requires den { 0 < den }
         ensures { IsTrue result ↔ KeepsLimits self.now den place low high }
     {
-        is_met(limit_over(self.lo, den), place, low)
-            && is_met(place, limit_over(self.hi, den), high)
+        is_met(numerator_over(self.lo, den), place, low)
+            && is_met(place, numerator_over(self.hi, den), high)
     }
 }
 
@@ -202,9 +191,9 @@ fn keeps_rules(bundle: &Bundle, solution: &Solution) -> bool
 }
 
 /// The multiplier of a rule that has an end at the item; else 0.
-fn if_at(end: u32, item: usize, multiplier: i128) -> i128
+fn multiplier_at(end: u32, item: usize, multiplier: i128) -> i128
     requires { IsMultiplier multiplier }
-    ensures value { result ≡ (if end == item then multiplier else pos 0) }
+    ensures value { result ≡ here end item multiplier }
     ensures multiplier { IsMultiplier result }
 {
     if end as usize == item { multiplier } else { 0 }
@@ -230,8 +219,8 @@ fn push_of(rules: &[Rule], multipliers: &[i128], item: usize) -> Option<Push>
         from_right: 0,
     };
     for (j, rule) in rules.iter().enumerate() {
-        push.from_left += if_at(rule.right, item, multipliers[j]);
-        push.from_right += if_at(rule.left, item, multipliers[j]);
+        push.from_left += multiplier_at(rule.right, item, multipliers[j]);
+        push.from_right += multiplier_at(rule.left, item, multipliers[j]);
         if push.from_left + push.from_right > MOST_TOGETHER {
             return None;
         }
@@ -249,18 +238,6 @@ fn balances(displacement: i128, rightward: i128, leftward: i128) -> bool
     rightward + leftward <= MOST_TOGETHER && displacement == rightward - leftward
 }
 
-impl Item {
-    /// Twice its weighted displacement at the fraction, over the denominator.
-    fn displacement(&self, den: u64, place: i128) -> i128
-        requires item { IsItem self.now }
-        requires place { IsOnSheet den place }
-        ensures { result ≡ pos 2 *ℤ pos self.now.weight *ℤ (place -ℤ (pos den *ℤ self.now.want)) }
-    {
-        let away = place - limit_over(self.want, den);
-        2 * i128::from(self.weight) * away
-    }
-}
-
 /// Whether the multipliers of the item at the place balance its displacement, and are not too large together.
 fn is_item_at_rest(bundle: &Bundle, solution: &Solution, item: usize) -> bool
     requires bundle { IsBundle bundle.now }
@@ -272,7 +249,8 @@ fn is_item_at_rest(bundle: &Bundle, solution: &Solution, item: usize) -> bool
     requires item { item < length bundle.now.items.items }
     ensures { IsTrue result ↔ IsAtRest bundle.now solution.now item }
 {
-    let displacement = bundle.items[item].displacement(solution.den[item], solution.pos[item]);
+    let Item { want, weight, .. } = bundle.items[item];
+    let displacement = weighted_displacement(weight, want, solution.pos[item], solution.den[item]);
     match push_of(&bundle.rules, &solution.mult, item) {
         Some(push) => balances(
             displacement,

@@ -82,7 +82,7 @@ impl Fraction {
     }
 
     /// The lesser of both.
-    pub fn least(self, other: Fraction) -> Fraction
+    pub fn min(self, other: Fraction) -> Fraction
         requires light { IsLight self }
         requires other_light { IsLight other }
         ensures { ((result ≡ self) × IsNotBeyond self other) ⊎ ((result ≡ other) × IsNotBeyond other self) }

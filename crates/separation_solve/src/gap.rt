@@ -10,7 +10,7 @@ use crate::latest::{latest, rules_by_left};
 use std::alloc::{AllocError, Global};
 
 /// Whether some positions meet the bundle with the gap. The rules are handed in by their left items.
-fn is_met(alloc: Global, bundle: &Bundle, by_left: &[Rule], gap: i64) -> Result<bool, AllocError>
+fn has_room(alloc: Global, bundle: &Bundle, by_left: &[Rule], gap: i64) -> Result<bool, AllocError>
     requires bundle { IsBundle bundle.now }
     requires same { IsPermutation bundle.now.rules.items by_left.now }
     requires sorted { IsNonDecreasingBy (λ rule. rule.left) by_left.now }
@@ -47,7 +47,7 @@ pub fn widest_gap(alloc: Global, bundle: &Bundle) -> Result<i64, AllocError>
     let mut unmet = bundle.wanted + 1;
     while met + 1 < unmet {
         let middle = halfway(met, unmet);
-        if is_met(alloc, bundle, &by_left, middle)? {
+        if has_room(alloc, bundle, &by_left, middle)? {
             met = middle;
         } else {
             unmet = middle;

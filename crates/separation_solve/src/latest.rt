@@ -1,6 +1,6 @@
-ghost use Rattle.std.specs.Prelude.{◌≡◌, ℤ, pos, ◌≤ℤ◌, IfOk, MatchOption, All, EachIndex, length};
+ghost use Rattle.std.specs.Prelude.{◌≡◌, pos, ◌≤ℤ◌, IfOk, MatchOption, map};
 ghost use Rattle.std.specs.List.Sorted.{IsNonDecreasingBy, IsPermutation};
-ghost use Rattle.separation_solve.specs.Bundle.{IsBundle, IsItem, int_at, item_at};
+ghost use Rattle.separation_solve.specs.Bundle.{IsBundle};
 ghost use Rattle.separation_solve.specs.Latest.{HasNoRoom, IsLatest};
 
 use crate::bundle::{Bundle, Item, Rule};
@@ -16,17 +16,10 @@ pub(crate) fn rules_by_left(alloc: Global, rules: &[Rule]) -> Result<Vec<Rule>, 
     Ok(sorted)
 }
 
-/// The upper limit of each item.
 fn upper_limits(alloc: Global, items: &[Item]) -> Result<Vec<i64>, AllocError>
-    requires { All IsItem items.now }
-    ensures len { IfOk result (λ limits. length limits.items ≡ length items.now) }
-    ensures each { IfOk result (λ limits. EachIndex items.now (λ i. int_at limits.items i ≡ (item_at items.now i).hi)) }
+    ensures { IfOk result (λ limits. limits.items ≡ map (λ item. item.hi) items.now) }
 {
-    let mut limits = Vec::with_capacity(alloc, items.len())?;
-    for item in items {
-        limits.push(item.hi)?;
-    }
-    Ok(limits)
+    items.iter().map(|item| item.hi).collect(alloc)
 }
 
 /// The whole positions that meet the bundle with the gap, each as far right as any that do; `None` where none do.

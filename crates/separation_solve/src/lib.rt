@@ -1,4 +1,4 @@
-//! Separation constraints on one axis, by least weighted squares, with multipliers that show it.
+//! Separation constraints on one axis: positions with least weighted squares, and multipliers that show them to be least.
 //!
 //! Positions are exact fractions of a thousandth of a GML unit.
 #![tactic(auto)]
@@ -6,6 +6,7 @@
 mod balance;
 mod bundle;
 mod certificate;
+mod displacement;
 mod fraction;
 mod gap;
 mod latest;
@@ -19,6 +20,7 @@ mod release;
 mod shift;
 mod solver;
 mod start;
+mod tight;
 
 pub use bundle::{Bundle, Item, MOST_ITEMS, Rule, Solution};
 pub use certificate::verify;

@@ -1,7 +1,7 @@
-ghost use Rattle.std.specs.Prelude.{◌≡◌, ◌↔◌, ℕ, ◌+◌, ◌<◌, ◌≤◌, ℤ, pos, neg_ℤ, ◌≤ℤ◌, IsTrue, IfOk, List, length, map, not, EachIndex, All, OnOk, ◌++◌};
+ghost use Rattle.std.specs.Prelude.{◌≡◌, IfOk, length, map, All, OnOk, ◌++◌};
 ghost use Rattle.separation_solve.specs.Bundle.{IsBundle, IsItem};
 ghost use Rattle.separation_solve.specs.Gap.{IsGap};
-ghost use Rattle.separation_solve.specs.Network.{IsNetworkOf, IsListed, IsTight, IsLink, links_of, link_at, lower_links, upper_links, rule_link};
+ghost use Rattle.separation_solve.specs.Network.{IsNetworkOf, links_of, lower_links, upper_links, rule_link};
 
 use crate::bundle::{Bundle, Item, Rule};
 use crate::fraction::Fraction;
@@ -23,8 +23,8 @@ pub struct Link {
 #[derive(Drop)]
 pub struct Network {
     pub links: Vec<Link>,
-    /// The links at each node.
-    pub touching: Vec<Vec<usize>>,
+    /// The tight links at each node.
+    pub tight: Vec<Vec<usize>>,
     pub wants: Vec<i64>,
     pub weights: Vec<u32>,
     /// Whether left and right have changed sides.
@@ -32,7 +32,7 @@ pub struct Network {
     pub places: Vec<Fraction>,
     /// Each link's multiplier.
     pub flow: Vec<i128>,
-    /// By how much each item's weighted displacement is more than what the flow pushes it by.
+    /// By how much twice each item's weighted displacement, over its denominator, is more than the flow pushes it by.
     pub excess: Vec<i128>,
 }
 
@@ -50,12 +50,12 @@ impl Network {
     {
         let places = start_places(alloc, bundle, gap)?;
         let links = links_of(alloc, bundle, gap)?;
-        let touching = touching_links(alloc, places.len(), &links)?;
+        let tight = empty_lists(alloc, places.len())?;
         let flow = vec![in alloc; 0; links.len()]?;
         let excess = vec![in alloc; 0; bundle.items.len()]?;
         let mut network = Network {
             links,
-            touching,
+            tight,
             wants: wants_of(alloc, &bundle.items)?,
             weights: weights_of(alloc, &bundle.items)?,
             mirrored: false,
@@ -63,6 +63,7 @@ impl Network {
             flow,
             excess,
         };
+        network.relist()?;
         network.release();
         Ok(network)
     }
@@ -72,17 +73,6 @@ impl Network {
         ensures { result ≡ items_of self.now }
     {
         self.wants.len()
-    }
-
-    /// Whether the link's nodes stand exactly its gap apart.
-    pub fn is_tight(&self, link: Link) -> bool
-        requires sound { IsSound self.now }
-        requires link { IsLink (items_of self.now) link }
-        ensures { IsTrue result ↔ IsTight self.now.places.items link }
-    {
-        let from = self.places[link.from];
-        let to = self.places[link.to];
-        from.den == to.den && to.num - from.num == i128::from(link.gap) * i128::from(from.den)
     }
 }
 
@@ -153,25 +143,12 @@ fn push_upper_limits(links: &mut Vec<Link>, items: &[Item]) -> Result<(), AllocE
     Ok(())
 }
 
-/// For each node the links that begin or end there.
-fn touching_links(
-    alloc: Global,
-    nodes: usize,
-    links: &[Link],
-) -> Result<Vec<Vec<usize>>, AllocError>
-    requires from { All (λ link. link.from < nodes) links.now }
-    requires to { All (λ link. link.to < nodes) links.now }
-    ensures nodes { IfOk result (λ v. length v.items ≡ nodes) }
-    ensures listed { IfOk result (λ v. EachIndex links.now (IsListed links.now v.items)) }
-    ensures no_others { IfOk result (λ v. All (λ w. All (λ j. j < length links.now) w.items) v.items) }
+fn empty_lists(alloc: Global, count: usize) -> Result<Vec<Vec<usize>>, AllocError>
+    ensures { IfOk result (λ v. length v.items ≡ count) }
 {
-    let mut touching = Vec::new(alloc);
-    for _ in 0..nodes {
-        touching.push(Vec::new(alloc))?;
+    let mut lists = Vec::new(alloc);
+    for _ in 0..count {
+        lists.push(Vec::new(alloc))?;
     }
-    for (index, link) in links.iter().enumerate() {
-        touching[link.from].push(index)?;
-        touching[link.to].push(index)?;
-    }
-    Ok(touching)
+    Ok(lists)
 }

@@ -1,4 +1,4 @@
-ghost use Rattle.std.specs.Prelude.{◌≡◌, ℕ, ◌+◌, ◌*◌, ◌<◌, ◌≤◌, ℤ, pos, negsuc, ◌+ℤ◌, ◌-ℤ◌, ◌*ℤ◌, ◌≤ℤ◌, ◌<ℤ◌};
+ghost use Rattle.std.specs.Prelude.{◌≡◌, ◌≤◌, ℤ, pos, ◌≤ℤ◌, ◌<ℤ◌};
 ghost use Rattle.std.specs.Ordering.{MatchOrdering};
 ghost use Rattle.separation_solve.specs.Apart.{IsOnSheet, IsSplit, room};
 
@@ -26,7 +26,7 @@ impl Place {
         (from_start / den, from_start % den)
     }
 
-    /// How far the other place stands behind this one, against the whole gap that is asked for.
+    /// How far the other place stands to the right of this one, against the whole gap that is asked for.
     ///
     /// The cross products may not fit, so whole parts are compared first, and then the rests.
     pub(crate) fn compare_gap(self, other: Place, asked: i64) -> Ordering

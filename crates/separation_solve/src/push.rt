@@ -5,7 +5,7 @@ use crate::network::Network;
 use crate::reach::Reach;
 
 impl Network {
-    ghost use Rattle.separation_solve.specs.Network.{IsSound, total_size};
+    ghost use Rattle.separation_solve.specs.Network.{IsSound, KeepsBundle, total_size};
     ghost use Rattle.separation_solve.specs.Push.{IsSent, KeepsRest, TakesAmount};
 
     /// Sends as much flow as can go from the start to the step's node, which takes it.
@@ -14,12 +14,8 @@ impl Network {
         requires way { IsWay self.old (start_of reach.now) reach.now target }
         ensures sound { IsSound self.new }
         ensures less { total_size self.new.excess.items <ℤ total_size self.old.excess.items }
-        ensures links { self.new.links ≡ self.old.links }
-        ensures touching { self.new.touching ≡ self.old.touching }
-        ensures wants { self.new.wants ≡ self.old.wants }
-        ensures weights { self.new.weights ≡ self.old.weights }
+        ensures bundle { KeepsBundle self.old self.new }
         ensures places { self.new.places ≡ self.old.places }
-        ensures mirrored { self.new.mirrored ≡ self.old.mirrored }
     {
         let amount = self.sendable(reach, target);
         self.send(reach, target, amount);

@@ -1,6 +1,6 @@
-ghost use Rattle.std.specs.Prelude.{◌≡◌, ◌↔◌, ℕ, ◌<◌, ◌≤◌, pos, ◌<ℤ◌, IsTrue, IfOk, OnOk, MatchOption, IsSome, Some, length};
+ghost use Rattle.std.specs.Prelude.{◌↔◌, ℕ, ◌<◌, ◌≤◌, pos, ◌<ℤ◌, IsTrue, IfOk, OnOk, MatchOption, IsSome, Some, length};
 ghost use Rattle.separation_solve.specs.Bundle.{int_at};
-ghost use Rattle.separation_solve.specs.Network.{IsSound, items_of};
+ghost use Rattle.separation_solve.specs.Network.{IsSound, IsTightAt, items_of};
 ghost use Rattle.separation_solve.specs.Reach.{AddsLeads, IsFollowing, IsLedTo, IsNoLead, IsOutcome, IsReach, IsStep, KeepsSteps, TakesFlow, found_at, start_of, step_at};
 
 use crate::network::Network;
@@ -47,7 +47,7 @@ pub fn search(alloc: Global, network: &Network, start: usize) -> Result<Outcome,
     requires sound { IsSound network.now }
     requires item { start < items_of network.now }
     requires short { int_at network.now.excess.items start <ℤ pos 0 }
-    ensures { IfOk result (IsOutcome network.now start) }
+    ensures { IfOk result (IsOutcome network.now) }
 {
     let mut reach = Reach::new(alloc, network, start)?;
     let mut next = 0;
@@ -93,7 +93,7 @@ impl Reach {
         ensures adds { OnOk result (AddsLeads network.now (step_at self.old.steps.items parent).node self.new) }
     {
         let step = self.steps[parent];
-        for link in &network.touching[step.node] {
+        for link in &network.tight[step.node] {
             if let Some(next) = network.lead(*link, parent, step) {
                 self.add(next)?;
             }
@@ -109,8 +109,9 @@ impl Reach {
         ensures added { OnOk result (IsSome (found_at self.new.found.items step.node)) }
     {
         if self.found[step.node].is_none() {
-            self.found[step.node] = Some(self.steps.len());
+            let index = self.steps.len();
             self.steps.push(step)?;
+            self.found[step.node] = Some(index);
         }
         Ok(())
     }
@@ -126,10 +127,10 @@ impl Network {
         node == self.wall() || self.excess[node] > 0
     }
 
-    /// The step over the link, from the step at the index `parent`, if flow can go that way.
+    /// The step over the tight link, from the step at the index `parent`, if flow can go that way.
     fn lead(&self, index: usize, parent: usize, step: Step) -> Option<Step>
         requires sound { IsSound self.now }
-        requires link { index < length self.now.links.items }
+        requires link { IsTightAt self.now.places.items self.now.links.items index }
         requires step { (start : ℕ) × IsStep self.now start step }
         ensures { MatchOption result (IsNoLead self.now index step.node) (IsLedTo self.now index parent step) }
     {
@@ -138,7 +139,7 @@ impl Network {
             parent,
             link: index,
         });
-        if link.from == step.node && self.is_tight(link) {
+        if link.from == step.node {
             Some(Step {
                 node: link.to,
                 via,

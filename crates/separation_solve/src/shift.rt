@@ -1,14 +1,14 @@
-ghost use Rattle.std.specs.Prelude.{◌≡◌, ℕ, ◌≤◌, ◌<◌, ◌≤ℤ◌, ◌<ℤ◌, ◌+ℤ◌, ◌-ℤ◌, ◌*ℤ◌, EachIndex, MatchOption, pos, negsuc, length, unsigned_abs};
+ghost use Rattle.std.specs.Prelude.{◌≡◌, ◌≤◌, ◌<◌, ◌≤ℤ◌, ◌+ℤ◌, ◌-ℤ◌, ◌*ℤ◌, EachIndex, MatchOption, OnOk, pos, negsuc, length, unsigned_abs};
 ghost use Rattle.separation_solve.specs.Fraction.{IsLight, IsNotBeyond};
-ghost use Rattle.separation_solve.specs.Reduced.{IsReduced, IsWithin};
 ghost use Rattle.separation_solve.specs.Bundle.{IsCoordinate};
-ghost use Rattle.separation_solve.specs.Network.{IsSound, items_of, link_at};
-ghost use Rattle.separation_solve.specs.Reach.{IsBlock, IsReach};
+ghost use Rattle.separation_solve.specs.Network.{IsSound, KeepsBundle, items_of, link_at};
+ghost use Rattle.separation_solve.specs.Reach.{IsBlock, IsReach, start_of};
 ghost use Rattle.separation_solve.specs.Block.{ChangesPlaces, IsAim, IsContact, IsFound, LeadsOut, LeavesRoom, PlacesBlock, block_moment, block_weight, objective, offset_of};
 
 use crate::fraction::Fraction;
 use crate::network::Network;
 use crate::reach::Reach;
+use std::alloc::AllocError;
 
 /// The way from the offset to the want, so many times as the weight says.
 fn moment_of(weight: u32, want: i64, offset: i64) -> i128
@@ -35,30 +35,26 @@ impl Reach {
 
 impl Network {
     /// Moves the nodes that were reached to the right, all as far: to their best place, or to the first contact.
-    pub fn shift(&mut self, block: &Reach)
-        ghost start: { ℕ }
+    pub fn shift(&mut self, block: &Reach) -> Result<(), AllocError>
         requires sound { IsSound self.old }
-        requires block { IsBlock self.old start block.now }
-        ensures sound { IsSound self.new }
-        ensures falls { unsigned_abs (objective self.new) < unsigned_abs (objective self.old) }
-        ensures links { self.new.links ≡ self.old.links }
-        ensures touching { self.new.touching ≡ self.old.touching }
-        ensures wants { self.new.wants ≡ self.old.wants }
-        ensures weights { self.new.weights ≡ self.old.weights }
-        ensures mirrored { self.new.mirrored ≡ self.old.mirrored }
+        requires block { IsBlock self.old (start_of block.now) block.now }
+        ensures sound { OnOk result (IsSound self.new) }
+        ensures falls { OnOk result (unsigned_abs (objective self.new) < unsigned_abs (objective self.old)) }
+        ensures bundle { KeepsBundle self.old self.new }
     {
         let best = self.best_place(block);
         let place = self.first_contact(block, best);
         self.move_block(block, place);
+        self.relist()?;
         self.release();
+        Ok(())
     }
 
     /// Where the start would stand if only the nodes that were reached counted: their weighted mean.
     fn best_place(&self, block: &Reach) -> Fraction
-        ghost start: { ℕ }
         requires sound { IsSound self.now }
-        requires block { IsBlock self.now start block.now }
-        ensures aim { IsAim self.now start result }
+        requires block { IsBlock self.now (start_of block.now) block.now }
+        ensures aim { IsAim self.now (start_of block.now) result }
         ensures mean { ((block_weight self.now block.now (items_of self.now) *ℤ result.num)
             +ℤ (pos result.den *ℤ block_moment self.now block.now (items_of self.now))) ≡ pos 0 }
     {
@@ -75,18 +71,17 @@ impl Network {
 
     /// The first place of the start, up to the best one, at which a link to a node outside is tight.
     fn first_contact(&self, block: &Reach, best: Fraction) -> Fraction
-        ghost start: { ℕ }
         requires sound { IsSound self.now }
-        requires block { IsBlock self.now start block.now }
-        requires best { IsAim self.now start best }
-        ensures aim { IsAim self.now start result }
+        requires block { IsBlock self.now (start_of block.now) block.now }
+        requires best { IsAim self.now (start_of block.now) best }
+        ensures aim { IsAim self.now (start_of block.now) result }
         ensures not_beyond { IsNotBeyond result best }
         ensures room { EachIndex self.now.links.items (λ j. LeavesRoom self.now block.now result (link_at self.now.links.items j)) }
     {
         let mut place = best;
         for index in 0..self.links.len() {
             if let Some(contact) = self.contact(block, index) {
-                place = contact.least(place);
+                place = contact.min(place);
             }
         }
         place
@@ -94,12 +89,11 @@ impl Network {
 
     /// Where the start would stand if the link were tight, for one that leads from a node that was reached to one that was not.
     fn contact(&self, block: &Reach, index: usize) -> Option<Fraction>
-        ghost start: { ℕ }
         requires sound { IsSound self.now }
-        requires block { IsBlock self.now start block.now }
+        requires block { IsBlock self.now (start_of block.now) block.now }
         requires link { index < length self.now.links.items }
         ensures { MatchOption result (¬ LeadsOut block.now (link_at self.now.links.items index))
-            (λ contact. IsContact self.now start block.now (link_at self.now.links.items index) contact) }
+            (λ contact. IsContact self.now (start_of block.now) block.now (link_at self.now.links.items index) contact) }
     {
         let link = self.links[index];
         let offset = block.offset(link.from)?;
@@ -111,9 +105,8 @@ impl Network {
 
     /// Moves the nodes that were reached along with the start, which comes to this place.
     fn move_block(&mut self, block: &Reach, place: Fraction)
-        ghost start: { ℕ }
         requires sound { IsSound self.old }
-        requires reach { IsReach self.old start block.now }
+        requires reach { IsReach self.old (start_of block.now) block.now }
         requires light { IsLight place }
         ensures placed { PlacesBlock self.old.places.items (items_of self.old) block.now place self.new.places.items }
         ensures rest { ChangesPlaces self.old self.new }

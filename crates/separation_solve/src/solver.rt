@@ -24,7 +24,7 @@ pub fn solve(alloc: Global, bundle: &Bundle, gap: i64) -> Result<Solution, Alloc
 {
     let mut network = Network::new(alloc, bundle, gap)?;
     while let Some(block) = network.balance(alloc)? {
-        network.shift(&block);
+        network.shift(&block)?;
     }
     network.into_solution(alloc, bundle, gap)
 }
@@ -69,8 +69,8 @@ impl Network {
         let (low, high) = limits.split_at(bundle.items.len());
         Ok(Solution {
             gap,
-            den: dens_of(alloc, places)?,
-            pos: nums_of(alloc, places)?,
+            den: denominators_of(alloc, places)?,
+            pos: numerators_of(alloc, places)?,
             mult: mult.to_vec(alloc)?,
             low: low.to_vec(alloc)?,
             high: high.to_vec(alloc)?,
@@ -78,13 +78,13 @@ impl Network {
     }
 }
 
-fn dens_of(alloc: Global, places: &[Fraction]) -> Result<Vec<u64>, AllocError>
+fn denominators_of(alloc: Global, places: &[Fraction]) -> Result<Vec<u64>, AllocError>
     ensures { IfOk result (λ v. v.items ≡ map (λ place. place.den) places.now) }
 {
     places.iter().map(|place| place.den).collect(alloc)
 }
 
-fn nums_of(alloc: Global, places: &[Fraction]) -> Result<Vec<i128>, AllocError>
+fn numerators_of(alloc: Global, places: &[Fraction]) -> Result<Vec<i128>, AllocError>
     ensures { IfOk result (λ v. v.items ≡ map (λ place. place.num) places.now) }
 {
     places.iter().map(|place| place.num).collect(alloc)

@@ -4,7 +4,7 @@ ghost use Rattle.std.specs.List.Sorted.{IsNonDecreasingBy};
 ghost use Rattle.separation_solve.specs.Bundle.{IsBundle, IsCoordinate, int_at};
 ghost use Rattle.separation_solve.specs.Gap.{IsGap};
 ghost use Rattle.separation_solve.specs.Fraction.{whole};
-ghost use Rattle.separation_solve.specs.Start.{AreAtMost, AreStartPlaces, IsForward, KeepsRule};
+ghost use Rattle.separation_solve.specs.Start.{AreAtMost, AreStartPlaces, IsForward, IsRuleKept};
 
 use crate::bundle::{Bundle, MOST_ITEMS, Rule};
 use crate::fraction::Fraction;
@@ -14,7 +14,7 @@ use std::alloc::{AllocError, Global};
 
 /// Whole places that meet the bundle with the gap, and last the wall's.
 ///
-/// Each item stands at its want, or as little behind it as the rules let it, but never right of its latest place.
+/// Each item stands at its want, or as little to the right of it as the rules let it, but never right of its latest place.
 pub fn start_places(alloc: Global, bundle: &Bundle, gap: i64) -> Result<Vec<Fraction>, AllocError>
     requires bundle { IsBundle bundle.now }
     requires gap { IsGap bundle.now gap }
@@ -39,7 +39,7 @@ fn press_on(places: &mut [i64], by_left: &[Rule], gap: i64)
     requires few { length places.old ≤ MOST_ITEMS }
     requires on_sheet { EachIndex places.old (λ i. IsCoordinate (int_at places.old i)) }
     ensures on { AreAtMost places.new places.old }
-    ensures keeps { All (KeepsRule gap places.new) by_left.now }
+    ensures keeps { All (IsRuleKept gap places.new) by_left.now }
 {
     for index in 0..by_left.len() {
         let rule = by_left[index];
@@ -51,7 +51,7 @@ fn press_on(places: &mut [i64], by_left: &[Rule], gap: i64)
     }
 }
 
-/// Draws each item back to its latest place, if it stands behind it.
+/// Draws each item back to its latest place, if it stands to the right of it.
 fn draw_back(places: &mut [i64], latest: &[i64])
     requires { length places.old ≡ length latest.now }
     ensures { EachIndex latest.now (λ i. int_at places.new i ≡ int_min (int_at latest.now i) (int_at places.old i)) }

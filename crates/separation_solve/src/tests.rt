@@ -63,7 +63,7 @@ fn row(alloc: Global, item: Item, wanted: i64) -> Result<Bundle, AllocError>
     })
 }
 
-fn item(want: i16, below: u16, above: u16, weight: bool) -> Item
+fn item(want: i16, below: u16, above: u16, heavy: bool) -> Item
     ensures item { IsItem result }
     ensures want { result.want ≡ want }
 {
@@ -72,7 +72,7 @@ fn item(want: i16, below: u16, above: u16, weight: bool) -> Item
         want,
         lo: want - i64::from(below),
         hi: want + i64::from(above),
-        weight: if weight { 3 } else { 1 },
+        weight: if heavy { 3 } else { 1 },
     }
 }
 
@@ -148,81 +148,50 @@ fn verifies_multipliers(rt: HostRuntime) -> Result<(), Fail> {
     Ok(())
 }
 
-/// The least positions for the widest gap.
-fn solved(alloc: Global, bundle: &Bundle) -> Result<Solution, AllocError>
+/// Whether the least positions for the widest gap are these, and verified.
+fn is_solved(alloc: Global, bundle: &Bundle, expected: &Solution) -> Result<bool, AllocError>
     requires { IsBundle bundle.now }
 {
     let gap = widest_gap(alloc, bundle)?;
-    solve(alloc, bundle, gap)
+    let solution = solve(alloc, bundle, gap)?;
+    Ok(solution == *expected && verify(bundle, &solution))
 }
 
 #[test]
-fn solves(rt: HostRuntime) -> Result<(), Fail> {
+fn solves_at_limits(rt: HostRuntime) -> Result<(), Fail> {
     let alloc = rt.alloc();
     let within = item(0, 5000, 0, false);
+    let bundle = pair(alloc, within, within, true, 8000)?;
+    let want = solution(alloc, 5000, 1, [-5000, 0], 10000, [0, 0], [0, 10000])?;
+    assert!(rt; is_solved(alloc, &bundle, &want)?);
     let edge = item(-24000, 40000, 0, false);
-    let left = item(0, 30000, 0, false);
-    let right = item(0, 0, 30000, false);
-    let heavy = item(0, 30000, 30000, true);
+    let bundle = pair(alloc, edge, edge, true, 4000)?;
+    let want = solution(alloc, 4000, 1, [-28000, -24000], 8000, [0, 0], [0, 8000])?;
+    assert!(rt; is_solved(alloc, &bundle, &want)?);
     let light = item(0, 30000, 30000, false);
     let fixed = item(700, 0, 0, false);
-    for (first, second, spaced, wanted, den, places, mult, low, high) in [
-        (
-            within,
-            within,
-            true,
-            8000,
-            1,
-            [-5000, 0],
-            10000,
-            [0, 0],
-            [0, 10000],
-        ),
-        (
-            edge,
-            edge,
-            true,
-            4000,
-            1,
-            [-28000, -24000],
-            8000,
-            [0, 0],
-            [0, 8000],
-        ),
-        (left, right, true, 1, 2, [-1, 1], 2, [0, 0], [0, 0]),
-        (
-            heavy,
-            light,
-            true,
-            4000,
-            1,
-            [-1000, 3000],
-            6000,
-            [0, 0],
-            [0, 0],
-        ),
-        (
-            light,
-            fixed,
-            true,
-            1000,
-            1,
-            [-300, 700],
-            600,
-            [0, 0],
-            [0, 600],
-        ),
-        (light, fixed, false, 1000, 1, [0, 700], 0, [0, 0], [0, 0]),
-    ] {
-        let bundle = pair(alloc, first, second, spaced, wanted)?;
-        let solution = solved(alloc, &bundle)?;
-        assert_eq!(rt; solution.den.as_slice(), [den, den].as_slice());
-        assert_eq!(rt; solution.pos.as_slice(), places.as_slice());
-        assert_eq!(rt; solution.mult.as_slice(), [mult].as_slice());
-        assert_eq!(rt; solution.low.as_slice(), low.as_slice());
-        assert_eq!(rt; solution.high.as_slice(), high.as_slice());
-        assert!(rt; verify(&bundle, &solution));
-    }
+    let bundle = pair(alloc, light, fixed, true, 1000)?;
+    let want = solution(alloc, 1000, 1, [-300, 700], 600, [0, 0], [0, 600])?;
+    assert!(rt; is_solved(alloc, &bundle, &want)?);
+    Ok(())
+}
+
+#[test]
+fn solves_between_limits(rt: HostRuntime) -> Result<(), Fail> {
+    let alloc = rt.alloc();
+    let left = item(0, 30000, 0, false);
+    let right = item(0, 0, 30000, false);
+    let bundle = pair(alloc, left, right, true, 1)?;
+    let want = solution(alloc, 1, 2, [-1, 1], 2, [0, 0], [0, 0])?;
+    assert!(rt; is_solved(alloc, &bundle, &want)?);
+    let heavy = item(0, 30000, 30000, true);
+    let light = item(0, 30000, 30000, false);
+    let bundle = pair(alloc, heavy, light, true, 4000)?;
+    let want = solution(alloc, 4000, 1, [-1000, 3000], 6000, [0, 0], [0, 0])?;
+    assert!(rt; is_solved(alloc, &bundle, &want)?);
+    let bundle = pair(alloc, light, item(700, 0, 0, false), false, 1000)?;
+    let want = solution(alloc, 1000, 1, [0, 700], 0, [0, 0], [0, 0])?;
+    assert!(rt; is_solved(alloc, &bundle, &want)?);
     Ok(())
 }
 
@@ -230,14 +199,15 @@ fn solves(rt: HostRuntime) -> Result<(), Fail> {
 fn solves_a_row(rt: HostRuntime) -> Result<(), Fail> {
     let alloc = rt.alloc();
     let bundle = row(alloc, item(0, 5000, 0, false), 4000)?;
-    let solution = solved(alloc, &bundle)?;
-    assert_eq!(rt; solution.gap, 2500);
-    assert_eq!(rt; solution.den.as_slice(), [1, 1, 1].as_slice());
-    assert_eq!(rt; solution.pos.as_slice(), [-5000, -2500, 0].as_slice());
-    assert_eq!(rt; solution.mult.as_slice(), [10000, 15000].as_slice());
-    assert_eq!(rt; solution.low.as_slice(), [0, 0, 0].as_slice());
-    assert_eq!(rt; solution.high.as_slice(), [0, 0, 15000].as_slice());
-    assert!(rt; verify(&bundle, &solution));
+    let want = Solution {
+        gap: 2500,
+        den: vec![in alloc; 1, 1, 1]?,
+        pos: vec![in alloc; -5000, -2500, 0]?,
+        mult: vec![in alloc; 10000, 15000]?,
+        low: vec![in alloc; 0, 0, 0]?,
+        high: vec![in alloc; 0, 0, 15000]?,
+    };
+    assert!(rt; is_solved(alloc, &bundle, &want)?);
     Ok(())
 }
 

@@ -2,7 +2,7 @@ use Rattle.std.proofs.Common.{◌≡◌, ◌-ℤ◌, arith, ap, sym, ◌∙◌, 
 use Rattle.std.specs.Int.{w128}
 use Rattle.std.proofs.lemmas.Int.{ints}
 use Rattle.std.proofs.lemmas.Bool.{eqb-true, eq-eqb}
-use Rattle.separation_solve.proofs.Conditions.{bits_same}
+use Rattle.separation_solve.proofs.Spots.{same_bits}
 use Rattle.separation_solve.proofs.certificate.balances.Goals as goal
 
 pub returns-then-rightward-leftward-le-MOST_TOGETHER : goal.returns-then-rightward-leftward-le-MOST_TOGETHER
@@ -13,6 +13,6 @@ returns-then-rightward-leftward-le-MOST_TOGETHER c =
     let apart = to_z w128 (of_z w128 r) -ℤ to_z w128 (of_z w128 l) in
     let apart_is : apart ≡ r -ℤ l = omega (arith, ints) in
     let fits : FitsSigned w128 (r -ℤ l) = omega (arith, ints) in (
-      λ t. (omega (arith, ints), bits_same d (r -ℤ l) c.ranges.displacement fits (eqb-true (of_z w128 d) (of_z w128 apart) t ∙ ap (of_z w128) apart_is)),
+      λ t. (omega (arith, ints), same_bits w128 d (r -ℤ l) c.ranges.displacement fits (eqb-true (of_z w128 d) (of_z w128 apart) t ∙ ap (of_z w128) apart_is)),
       λ h. eq-eqb (of_z w128 d) (of_z w128 apart) (ap (of_z w128) (h.1 ∙ sym apart_is)),
     )

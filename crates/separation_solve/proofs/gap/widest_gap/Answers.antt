@@ -17,7 +17,7 @@ loop-met-preserved-then-branch c =
     let half = c.halfway-middle.ensures in
     let middle = to_z w64 (of_z w64 c.halfway-middle.result) in
     between_met b _ _ middle inv (omega (arith, ints, half.low, half.high, inv.low, inv.high, c.requires.wanted_high)) (omega (arith, ints, half.low, half.high, inv.low, inv.high, c.requires.wanted_high))
-    (when_true (HasRoom b middle) (HasNoRoom b middle) c.if-branch.true c.in_ok-is_met.ensures)
+    (when_true (HasRoom b middle) (HasNoRoom b middle) c.if-branch.true c.in_ok-has_room.ensures)
 
 pub loop-met-preserved : goal.loop-met-preserved
 loop-met-preserved c =
@@ -26,7 +26,7 @@ loop-met-preserved c =
     let half = c.halfway-middle.ensures in
     let middle = to_z w64 (of_z w64 c.halfway-middle.result) in
     between_unmet b _ _ middle inv (omega (arith, ints, half.low, half.high, inv.low, inv.high, c.requires.wanted_high)) (omega (arith, ints, half.low, half.high, inv.low, inv.high, c.requires.wanted_high))
-    (when_false (HasRoom b middle) (HasNoRoom b middle) c.if-branch.false c.in_ok-is_met.ensures)
+    (when_false (HasRoom b middle) (HasNoRoom b middle) c.if-branch.false c.in_ok-has_room.ensures)
 
 pub returns : goal.returns
 returns c = let inv = c.loop-met.invariant in between_all c.args.bundle.now _ _ inv (omega (arith, ints, c.loop-met-test.false, inv.low, inv.apart, inv.high, c.requires.wanted_high))

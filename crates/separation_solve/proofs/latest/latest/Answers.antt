@@ -1,29 +1,29 @@
-use Rattle.std.proofs.Common.{pos, ◌≡◌, ◌-◌, ◌-ℤ◌, arith, ap, subst, to_z, of_z}
+use Rattle.std.proofs.Common.{pos, ◌≡◌, ◌-◌, ◌-ℤ◌, ◌∙◌, arith, ap, map, subst, to_z, of_z}
 use Rattle.std.specs.Int.{w64}
 use Rattle.std.proofs.lemmas.Int.{ints, to_z-of_z}
 use Rattle.std.proofs.lemmas.List.{get_or_read}
-use Rattle.separation_solve.specs.Bundle.{asked, rule_at, int_at, item_at}
+use Rattle.separation_solve.specs.Bundle.{asked, rule_at, int_at, item_at, no_item}
 use Rattle.separation_solve.specs.declared.bundle.Item.{Item}
 use Rattle.separation_solve.specs.Latest.{IsLatest, HasNoRoom}
-use Rattle.separation_solve.proofs.Bounds.{IsBound, IsByLeft, step_at, bound_none, no_room, bound_kept, bound_moved, bound_all, no_item}
+use Rattle.separation_solve.proofs.Bounds.{IsBound, IsByLeft, bound_step, bound_none, no_room, bound_kept, bound_moved, bound_all}
 use Rattle.separation_solve.proofs.latest.latest.Goals as goal
 
 pub loop-j-init : goal.loop-j-init
-loop-j-init c = bound_none c.args.bundle.now (to_z w64 (of_z w64 c.args.gap)) c.args.by_left.now c.deref.result.now c.in_ok-places.places.items c.requires.bundle c.deref.ensures.value c.in_ok-places.ensures.len c.in_ok-places.ensures.each
+loop-j-init c = bound_none c.args.bundle.now (to_z w64 (of_z w64 c.args.gap)) c.args.by_left.now c.in_ok-places.places.items c.requires.bundle (c.in_ok-places.ensures ∙ ap (map (λ (item : Item). item.hi)) c.deref.ensures.value)
 
 pub overflow_cast-left : goal.overflow_cast-left
 overflow_cast-left c =
-    let is = step_at c.args.bundle.now (to_z w64 (of_z w64 c.args.gap)) c.args.by_left.now c.loop-j.j c.loop-j.places.items c.requires.bundle c.requires.same c.requires.sorted (omega arith) (omega arith) (omega (arith, ints)) (omega (arith, ints)) c.loop-j.invariant in
+    let is = bound_step c.args.bundle.now (to_z w64 (of_z w64 c.args.gap)) c.args.by_left.now c.loop-j.j c.loop-j.places.items c.requires.bundle c.requires.same c.requires.sorted (omega arith) (omega arith) (omega (arith, ints)) (omega (arith, ints)) c.loop-j.invariant in
     record { fits = omega (arith, is.item, c.requires.bundle.few) }
 
 pub overflow_cast-rule : goal.overflow_cast-rule
 overflow_cast-rule c =
-    let is = step_at c.args.bundle.now (to_z w64 (of_z w64 c.args.gap)) c.args.by_left.now c.loop-j.j c.loop-j.places.items c.requires.bundle c.requires.same c.requires.sorted (omega arith) (omega arith) (omega (arith, ints)) (omega (arith, ints)) c.loop-j.invariant in
+    let is = bound_step c.args.bundle.now (to_z w64 (of_z w64 c.args.gap)) c.args.by_left.now c.loop-j.j c.loop-j.places.items c.requires.bundle c.requires.same c.requires.sorted (omega arith) (omega arith) (omega (arith, ints)) (omega (arith, ints)) c.loop-j.invariant in
     record { fits = is.fits }
 
 pub index-requires : goal.index-requires
 index-requires c =
-    let is = step_at c.args.bundle.now (to_z w64 (of_z w64 c.args.gap)) c.args.by_left.now c.loop-j.j c.loop-j.places.items c.requires.bundle c.requires.same c.requires.sorted (omega arith) (omega arith) (omega (arith, ints)) (omega (arith, ints)) c.loop-j.invariant in
+    let is = bound_step c.args.bundle.now (to_z w64 (of_z w64 c.args.gap)) c.args.by_left.now c.loop-j.j c.loop-j.places.items c.requires.bundle c.requires.same c.requires.sorted (omega arith) (omega arith) (omega (arith, ints)) (omega (arith, ints)) c.loop-j.invariant in
     omega (arith, is.right, c.loop-j.places.ok)
 
 pub overflow_sub-bound : goal.overflow_sub-bound
@@ -33,13 +33,13 @@ overflow_sub-bound c =
     let g = to_z w64 (of_z w64 c.args.gap) in
     let j = c.loop-j.j - 1 in
     let places = c.loop-j.places.items in
-    let is = step_at b g rs c.loop-j.j places c.requires.bundle c.requires.same c.requires.sorted (omega arith) (omega arith) (omega (arith, ints)) (omega (arith, ints)) c.loop-j.invariant in
+    let is = bound_step b g rs c.loop-j.j places c.requires.bundle c.requires.same c.requires.sorted (omega arith) (omega arith) (omega (arith, ints)) (omega (arith, ints)) c.loop-j.invariant in
     let read = get_or_read places (rule_at rs j).right c.index.result.now is.right c.index.ensures (pos 0) in
     omega (arith, ints, read, c.asked.ensures, is.place.low, is.place.high, is.asked_low, is.asked_high)
 
 pub index-requires-in-loop-j : goal.index-requires-in-loop-j
 index-requires-in-loop-j c =
-    let is = step_at c.args.bundle.now (to_z w64 (of_z w64 c.args.gap)) c.args.by_left.now c.loop-j.j c.loop-j.places.items c.requires.bundle c.requires.same c.requires.sorted (omega arith) (omega arith) (omega (arith, ints)) (omega (arith, ints)) c.loop-j.invariant in
+    let is = bound_step c.args.bundle.now (to_z w64 (of_z w64 c.args.gap)) c.args.by_left.now c.loop-j.j c.loop-j.places.items c.requires.bundle c.requires.same c.requires.sorted (omega arith) (omega arith) (omega (arith, ints)) (omega (arith, ints)) c.loop-j.invariant in
     omega (arith, is.item, c.args.bundle.now.items.ok)
 
 pub returns-then-bound-index : goal.returns-then-bound-index
@@ -49,7 +49,7 @@ returns-then-bound-index c =
     let g = to_z w64 (of_z w64 c.args.gap) in
     let j = c.loop-j.j - 1 in
     let places = c.loop-j.places.items in
-    let is = step_at b g rs c.loop-j.j places c.requires.bundle c.requires.same c.requires.sorted (omega arith) (omega arith) (omega (arith, ints)) (omega (arith, ints)) c.loop-j.invariant in
+    let is = bound_step b g rs c.loop-j.j places c.requires.bundle c.requires.same c.requires.sorted (omega arith) (omega arith) (omega (arith, ints)) (omega (arith, ints)) c.loop-j.invariant in
     let read = get_or_read places (rule_at rs j).right c.index.result.now is.right c.index.ensures (pos 0) in
     let z_is : to_z w64 (of_z w64 (to_z w64 (of_z w64 c.index.result.now) -ℤ to_z w64 (of_z w64 c.asked.result))) ≡ int_at places (rule_at rs j).right -ℤ asked g (rule_at rs j) =
     omega (arith, ints, read, c.asked.ensures, is.place.low, is.place.high, is.asked_low, is.asked_high) in
@@ -59,12 +59,12 @@ returns-then-bound-index c =
 
 pub index-requires-in-loop-j-2 : goal.index-requires-in-loop-j-2
 index-requires-in-loop-j-2 c =
-    let is = step_at c.args.bundle.now (to_z w64 (of_z w64 c.args.gap)) c.args.by_left.now c.loop-j.j c.loop-j.places.items c.requires.bundle c.requires.same c.requires.sorted (omega arith) (omega arith) (omega (arith, ints)) (omega (arith, ints)) c.loop-j.invariant in
+    let is = bound_step c.args.bundle.now (to_z w64 (of_z w64 c.args.gap)) c.args.by_left.now c.loop-j.j c.loop-j.places.items c.requires.bundle c.requires.same c.requires.sorted (omega arith) (omega arith) (omega (arith, ints)) (omega (arith, ints)) c.loop-j.invariant in
     omega (arith, is.left, c.loop-j.places.ok)
 
 pub index_mut-requires : goal.index_mut-requires
 index_mut-requires c =
-    let is = step_at c.args.bundle.now (to_z w64 (of_z w64 c.args.gap)) c.args.by_left.now c.loop-j.j c.loop-j.places.items c.requires.bundle c.requires.same c.requires.sorted (omega arith) (omega arith) (omega (arith, ints)) (omega (arith, ints)) c.loop-j.invariant in
+    let is = bound_step c.args.bundle.now (to_z w64 (of_z w64 c.args.gap)) c.args.by_left.now c.loop-j.j c.loop-j.places.items c.requires.bundle c.requires.same c.requires.sorted (omega arith) (omega arith) (omega (arith, ints)) (omega (arith, ints)) c.loop-j.invariant in
     omega (arith, is.left, c.loop-j.places.ok)
 
 pub loop-j-preserved-then-bound-index-2 : goal.loop-j-preserved-then-bound-index-2
@@ -74,7 +74,7 @@ loop-j-preserved-then-bound-index-2 c =
     let g = to_z w64 (of_z w64 c.args.gap) in
     let j = c.loop-j.j - 1 in
     let places = c.loop-j.places.items in
-    let is = step_at b g rs c.loop-j.j places c.requires.bundle c.requires.same c.requires.sorted (omega arith) (omega arith) (omega (arith, ints)) (omega (arith, ints)) c.loop-j.invariant in
+    let is = bound_step b g rs c.loop-j.j places c.requires.bundle c.requires.same c.requires.sorted (omega arith) (omega arith) (omega (arith, ints)) (omega (arith, ints)) c.loop-j.invariant in
     let read = get_or_read places (rule_at rs j).right c.index.result.now is.right c.index.ensures (pos 0) in
     let z_is : to_z w64 (of_z w64 (to_z w64 (of_z w64 c.index.result.now) -ℤ to_z w64 (of_z w64 c.asked.result))) ≡ int_at places (rule_at rs j).right -ℤ asked g (rule_at rs j) =
     omega (arith, ints, read, c.asked.ensures, is.place.low, is.place.high, is.asked_low, is.asked_high) in
@@ -90,7 +90,7 @@ loop-j-preserved c =
     let g = to_z w64 (of_z w64 c.args.gap) in
     let j = c.loop-j.j - 1 in
     let places = c.loop-j.places.items in
-    let is = step_at b g rs c.loop-j.j places c.requires.bundle c.requires.same c.requires.sorted (omega arith) (omega arith) (omega (arith, ints)) (omega (arith, ints)) c.loop-j.invariant in
+    let is = bound_step b g rs c.loop-j.j places c.requires.bundle c.requires.same c.requires.sorted (omega arith) (omega arith) (omega (arith, ints)) (omega (arith, ints)) c.loop-j.invariant in
     let read = get_or_read places (rule_at rs j).right c.index.result.now is.right c.index.ensures (pos 0) in
     let z_is : to_z w64 (of_z w64 (to_z w64 (of_z w64 c.index.result.now) -ℤ to_z w64 (of_z w64 c.asked.result))) ≡ int_at places (rule_at rs j).right -ℤ asked g (rule_at rs j) =
     omega (arith, ints, read, c.asked.ensures, is.place.low, is.place.high, is.asked_low, is.asked_high) in

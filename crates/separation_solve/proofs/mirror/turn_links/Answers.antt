@@ -1,7 +1,7 @@
-use Rattle.std.proofs.Common.{pos, arith}
-use Rattle.separation_solve.specs.Network.{turned_link}
+use Rattle.std.proofs.Common.{arith}
+use Rattle.separation_solve.specs.Network.{turned_link, no_link}
 use Rattle.separation_solve.proofs.Turning.{turned_all}
 use Rattle.separation_solve.proofs.mirror.turn_links.Goals as goal
 
 pub returns : goal.returns
-returns c = turned_all turned_link _ _ c.loop-index.index (record { from = 0; to = 0; gap = pos 0 }) c.loop-index.invariant (omega (arith, c.loop-index-test.false, c.loop-index.invariant.long))
+returns c = turned_all turned_link _ _ c.loop-index.index no_link c.loop-index.invariant (omega (arith, c.loop-index-test.false, c.loop-index.invariant.long))

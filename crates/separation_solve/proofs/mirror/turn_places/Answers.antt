@@ -2,7 +2,7 @@ use Rattle.std.proofs.Common.{◌<◌, ◌^◌, pos, ◌-ℤ◌, FitsSigned, len
 use mir.Syntax.{w128}
 use Rattle.std.proofs.lemmas.Int.{ints, fits_signed_from_abs}
 use Rattle.separation_solve.specs.declared.fraction.Fraction.{Fraction}
-use Rattle.separation_solve.specs.Network.{IsSpot, turned_place}
+use Rattle.separation_solve.specs.Network.{IsSpot, turned_place, no_place}
 use Rattle.separation_solve.proofs.Spots.{num_fits, spot_num}
 use Rattle.separation_solve.proofs.Turning.{negated, turned_all, turned_more, unturned}
 use Rattle.separation_solve.proofs.mirror.turn_places.Goals as goal
@@ -17,4 +17,4 @@ loop-index-preserved c =
     turned_more turned_place _ c.loop-index.places c.loop-index.index _ d c.loop-index.invariant inside (ap (λ z. let q : Fraction = record { num = z; den = p.den } in q) (negated w128 p.num (num_fits p spot) other))
 
 pub returns : goal.returns
-returns c = turned_all turned_place _ _ c.loop-index.index (record { num = pos 0; den = 1 }) c.loop-index.invariant (omega (arith, c.loop-index-test.false, c.loop-index.invariant.long))
+returns c = turned_all turned_place _ _ c.loop-index.index no_place c.loop-index.invariant (omega (arith, c.loop-index-test.false, c.loop-index.invariant.long))

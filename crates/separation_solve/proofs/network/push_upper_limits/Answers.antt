@@ -1,8 +1,8 @@
 use Rattle.std.proofs.Common.{◌≡◌, length, get_or, take, to_z, of_z, w64, pos, neg_ℤ, ◌-ℤ◌, arith, refl}
 use Rattle.std.proofs.lemmas.Int.{ints}
 use Rattle.std.proofs.lemmas.Slice.{pushed}
+use Rattle.separation_solve.specs.Bundle.{no_item}
 use Rattle.separation_solve.specs.Network.{upper_links}
-use Rattle.separation_solve.proofs.Bounds.{no_item}
 use Rattle.separation_solve.proofs.LinkLists.{upper-more, link_more}
 use Rattle.separation_solve.proofs.Mirrored.{coordinate_turned}
 use Rattle.separation_solve.proofs.Spots.{cast_is, gap_narrow}

@@ -1,6 +1,6 @@
 use Rattle.std.proofs.Common.{◌<◌, ◌≤◌, length, arith, sym, ap, ◌∙◌, subst, true≢false}
 use Rattle.separation_solve.specs.Network.{items_of}
-use Rattle.separation_solve.specs.Reach.{IsReach, TakesFlow, step_at}
+use Rattle.separation_solve.specs.Reach.{IsReach, TakesFlow, start_of, step_at}
 use Rattle.separation_solve.proofs.Extending.{block_of, closed_more, takes_more}
 use Rattle.separation_solve.proofs.Reaches.{step_read}
 use Rattle.separation_solve.proofs.reach.search.Goals as goal
@@ -35,4 +35,4 @@ returns c =
     let r = c.loop-next.reach in
     let was = c.loop-next.invariant in
     let done : length r.steps.items ≤ c.loop-next.next = omega (arith, c.len.ensures, c.loop-next-test.false) in
-    block_of n c.args.start r was.reach (λ k h. was.none_takes k (omega arith)) (λ k h. was.closed k (omega arith))
+    block_of n (start_of r) r (subst (λ m. IsReach n m r) (sym was.reach.first) was.reach) (λ k h. was.none_takes k (omega arith)) (λ k h. was.closed k (omega arith))

@@ -11,7 +11,7 @@ use Rattle.separation_solve.proofs.solver.solve.Goals as goal
 pub loop-network-smaller : goal.loop-network-smaller
 loop-network-smaller c =
     let same = same_objective c.loop-network.network c.balance.new.self c.in_ok-block.ensures.same c.in_ok-block.ensures.places in
-    subst (λ z. unsigned_abs (objective c.shift.new.self) < unsigned_abs z) same c.shift.ensures.falls
+    subst (λ z. unsigned_abs (objective c.shift.new.self) < unsigned_abs z) same c.in_ok-shift.ensures.falls
 
 pub returns-clause-least : goal.returns-clause-least
 returns-clause-least c =

@@ -1,11 +1,7 @@
 use Rattle.std.proofs.Common.{unsigned_abs}
 use Rattle.separation_solve.specs.Block.{objective}
 use Rattle.separation_solve.specs.Network.{IsNetworkOf, IsSound}
-use Rattle.separation_solve.specs.Reach.{start_of}
 use Rattle.separation_solve.proofs.solver.solve.Given as goal
-
-abbrev pub ghost-shift : goal.ghost-shift
-ghost-shift a = start_of a.block.now
 
 abbrev pub invariant-loop-network : goal.invariant-loop-network
 invariant-loop-network l = record {

@@ -1,4 +1,4 @@
-use Rattle.separation_solve.proofs.Begin.{DrawnBack}
+use Rattle.separation_solve.proofs.Pressing.{DrawnBack}
 use Rattle.separation_solve.proofs.start.draw_back.Given as goal
 
 abbrev pub invariant-loop-index : goal.invariant-loop-index

@@ -2,7 +2,7 @@ use Rattle.std.proofs.Common.{◌≡◌, ◌+◌, ℤ, ◌+ℤ◌, List, set, Fi
 use Rattle.std.proofs.lemmas.Int.{ints, to_z-of_z}
 use mir.Syntax.{w64}
 use Rattle.separation_solve.specs.Bundle.{asked, int_at, rule_at}
-use Rattle.separation_solve.proofs.Begin.{IsPressed, least_of, pressed_kept, pressed_on, rule_keeps}
+use Rattle.separation_solve.proofs.Pressing.{IsPressed, least_of, pressed_kept, pressed_on, rule_keeps}
 use Rattle.separation_solve.proofs.Bounds.{asked_within}
 use Rattle.separation_solve.proofs.start.press_on.Goals as goal
 use Rattle.separation_solve.proofs.start.press_on.Goals.{then-places-right, else-places-right}

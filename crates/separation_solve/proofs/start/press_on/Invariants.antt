@@ -1,4 +1,4 @@
-use Rattle.separation_solve.proofs.Begin.{IsPressed}
+use Rattle.separation_solve.proofs.Pressing.{IsPressed}
 use Rattle.separation_solve.proofs.start.press_on.Given as goal
 
 abbrev pub invariant-loop-index : goal.invariant-loop-index

@@ -3,7 +3,7 @@ use Rattle.std.proofs.lemmas.Int.{to_z-of_z}
 use mir.Syntax.{w64}
 use Rattle.std.specs.Int.{int_min}
 use Rattle.std.specs.List.Sorted.{IsPermutation}
-use Rattle.separation_solve.specs.Start.{AreStartPlaces, IsForward, KeepsRule}
+use Rattle.separation_solve.specs.Start.{AreStartPlaces, IsForward, IsRuleKept}
 use Rattle.std.proofs.lemmas.Result.{IfOk-weaker}
 use Rattle.std.proofs.lemmas.Option.{MatchOption-at_none, MatchOption-at_some}
 use Rattle.std.proofs.lemmas.List.{length-map}
@@ -13,7 +13,7 @@ use Rattle.separation_solve.specs.declared.bundle.Item.{Item}
 use Rattle.separation_solve.specs.Bundle.{IsRule, int_at}
 use Rattle.separation_solve.specs.Latest.{HasNoRoom, IsLatest}
 use Rattle.separation_solve.proofs.Widest.{narrower_meets}
-use Rattle.separation_solve.proofs.Starts.{AreDrawn, are_start, drawn_whole, walled, want_coordinate}
+use Rattle.separation_solve.proofs.StartPlaces.{AreDrawn, are_start, drawn_whole, walled, want_coordinate}
 use Rattle.separation_solve.proofs.start.start_places.Goals as goal
 
 pub unreachable-requires : goal.unreachable-requires
@@ -53,7 +53,7 @@ returns c =
     let wants = c.deref_mut.result.now in
     let pressed = c.press_on.new.places in
     let found : MatchOption c.in_ok-latest.field-0 (HasNoRoom b c.args.gap) (λ places. IsLatest b c.args.gap places.items) = simp to_z-of_z at c.in_ok-latest.ensures in
-    let keeps : All (KeepsRule c.args.gap pressed) c.deref-4.result.now = simp to_z-of_z at c.press_on.ensures.keeps in
+    let keeps : All (IsRuleKept c.args.gap pressed) c.deref-4.result.now = simp to_z-of_z at c.press_on.ensures.keeps in
     let same = subst (λ rs. IsPermutation rs by_left) c.deref.ensures.value c.in_ok-by_left.ensures.same in
     let wanted : wants ≡ map (λ (item : Item). item.want) b.items.items = c.deref_mut.ensures.value ∙ c.in_ok-places.ensures ∙ ap (map (λ (item : Item). item.want)) c.deref-3.ensures.value in
     let is_latest : IsLatest b c.args.gap latest = MatchOption-at_some (HasNoRoom b c.args.gap) (λ places. IsLatest b c.args.gap places.items) c.in-Some.latest c.in-Some.is found in
@@ -70,7 +70,7 @@ returns c =
       is_latest = is_latest;
       wanted = wanted;
       on = λ i h. c.press_on.ensures.on i (omega (arith, h, n));
-      keeps = subst (All (KeepsRule c.args.gap pressed)) c.deref-4.ensures.value keeps;
+      keeps = subst (All (IsRuleKept c.args.gap pressed)) c.deref-4.ensures.value keeps;
       pressed_count = n;
       count = m;
       drawn = a;

@@ -11,10 +11,10 @@ returns-then-is_met c =
     let den = c.args.den in
     let lo_fits : FitsSigned w64 item.lo = omega (arith, ints, c.requires.item.lo.low, c.requires.item.lo.high) in
     let hi_fits : FitsSigned w64 item.hi = omega (arith, ints, c.requires.item.hi.low, c.requires.item.hi.high) in
-    let first_fits : FitsSigned w128 c.limit_over.result = search rules in
-    let last_fits : FitsSigned w128 c.limit_over-then-is_met.result = search rules in
-    let first_is = to_z-of_z w128 c.limit_over.result first_fits ∙ c.limit_over.ensures ∙ ap (λ x. x *ℤ pos den) (to_z-of_z w64 item.lo lo_fits) in
-    let last_is = to_z-of_z w128 c.limit_over-then-is_met.result last_fits ∙ c.limit_over-then-is_met.ensures ∙ ap (λ x. x *ℤ pos den) (to_z-of_z w64 item.hi hi_fits) in
+    let first_fits : FitsSigned w128 c.numerator_over.result = search rules in
+    let last_fits : FitsSigned w128 c.numerator_over-then-is_met.result = search rules in
+    let first_is = to_z-of_z w128 c.numerator_over.result first_fits ∙ c.numerator_over.ensures ∙ ap (λ x. x *ℤ pos den) (to_z-of_z w64 item.lo lo_fits) in
+    let last_is = to_z-of_z w128 c.numerator_over-then-is_met.result last_fits ∙ c.numerator_over-then-is_met.ensures ∙ ap (λ x. x *ℤ pos den) (to_z-of_z w64 item.hi hi_fits) in
     let place_is = to_z-of_z w128 c.args.place c.ranges.place in
     let low = met_back (item.lo *ℤ pos den) c.args.place c.args.low _ _ _ first_is place_is (to_z-of_z w128 c.args.low c.ranges.low) in
     let high = met_back c.args.place (item.hi *ℤ pos den) c.args.high _ _ _ place_is last_is (to_z-of_z w128 c.args.high c.ranges.high) in (
@@ -27,8 +27,8 @@ returns-else-is_met c =
     let item = c.args.self.now in
     let den = c.args.den in
     let lo_fits : FitsSigned w64 item.lo = omega (arith, ints, c.requires.item.lo.low, c.requires.item.lo.high) in
-    let first_fits : FitsSigned w128 c.limit_over.result = search rules in
-    let first_is = to_z-of_z w128 c.limit_over.result first_fits ∙ c.limit_over.ensures ∙ ap (λ x. x *ℤ pos den) (to_z-of_z w64 item.lo lo_fits) in
+    let first_fits : FitsSigned w128 c.numerator_over.result = search rules in
+    let first_is = to_z-of_z w128 c.numerator_over.result first_fits ∙ c.numerator_over.ensures ∙ ap (λ x. x *ℤ pos den) (to_z-of_z w64 item.lo lo_fits) in
     let low = met_back (item.lo *ℤ pos den) c.args.place c.args.low _ _ _ first_is (to_z-of_z w128 c.args.place c.ranges.place) (to_z-of_z w128 c.args.low c.ranges.low) in (
       λ t. absurd (false≢true (sym c.if-is_met.false ∙ t)),
       λ k. c.is_met.ensures.1 (low.1 (low_from item den c.args.place c.args.low c.args.high k)),

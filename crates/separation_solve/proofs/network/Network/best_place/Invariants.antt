@@ -2,4 +2,4 @@ use Rattle.separation_solve.proofs.Mean.{MeanSoFar}
 use Rattle.separation_solve.proofs.network.Network.best_place.Given as goal
 
 abbrev pub invariant-loop-item : goal.invariant-loop-item
-invariant-loop-item g l = MeanSoFar l.self l.block l.item l.weight l.moment
+invariant-loop-item l = MeanSoFar l.self l.block l.item l.weight l.moment

@@ -1,11 +1,12 @@
 use Rattle.std.proofs.Common.{◌≡◌, ◌≤◌, ℤ, pos, neg_ℤ, Vec, List, All, map, length, unsigned_abs, arith, refl, sym, ap, ◌∙◌, subst}
 use Rattle.std.specs.Vec.{with_items}
 use Rattle.std.specs.declared.alloc.Global.{Global}
+use Rattle.std.proofs.Math.IntN.{neg_ℤ-neg_ℤ}
 use Rattle.std.proofs.lemmas.List.{with_items_is, length-map}
 use Rattle.std.proofs.lemmas.List.Elements.{All-from_get_or}
-use Rattle.separation_solve.specs.Network.{IsSpot, turned_link, turned_place}
+use Rattle.separation_solve.specs.Network.{IsSpot, turned_link, turned_place, no_place}
 use Rattle.separation_solve.proofs.Leads.{excess_size}
-use Rattle.separation_solve.proofs.Mirrored.{neg-neg, turned_link_twice, turned_place_twice, turned_sound, upright-turned}
+use Rattle.separation_solve.proofs.Mirrored.{turned_link_twice, turned_place_twice, turned_sound, upright-turned}
 use Rattle.separation_solve.proofs.network.Network.mirror.Goals as goal
 
 -- a list that was turned in its vector
@@ -16,7 +17,7 @@ turned_items f v lent new is turned =
 
 pub turn_places-requires : goal.turn_places-requires
 turn_places-requires c =
-    let all : All IsSpot c.args.self.now.places.items = All-from_get_or IsSpot c.args.self.now.places.items (record { num = pos 0; den = 1 }) c.requires.kept.spots in
+    let all : All IsSpot c.args.self.now.places.items = All-from_get_or IsSpot c.args.self.now.places.items no_place c.requires.kept.spots in
     subst (All IsSpot) (sym c.deref_mut-3.ensures.value) all
 
 pub turn_excess-requires : goal.turn_excess-requires
@@ -40,7 +41,7 @@ returns-clause-same c =
     let n = c.args.self.now in
     record {
       links = upright-turned turned_link turned_link_twice n.mirrored n.links.items _ (turned_items turned_link n.links c.deref_mut.result.now c.turn_links.new.links c.deref_mut.ensures.value c.turn_links.ensures);
-      wants = upright-turned neg_ℤ neg-neg n.mirrored n.wants.items _ (turned_items neg_ℤ n.wants c.deref_mut-2.result.now c.turn_wants.new.wants c.deref_mut-2.ensures.value c.turn_wants.ensures);
+      wants = upright-turned neg_ℤ neg_ℤ-neg_ℤ n.mirrored n.wants.items _ (turned_items neg_ℤ n.wants c.deref_mut-2.result.now c.turn_wants.new.wants c.deref_mut-2.ensures.value c.turn_wants.ensures);
       weights = refl;
     }
 

@@ -2,4 +2,4 @@ use Rattle.separation_solve.proofs.Moving.{SoFarPlaced}
 use Rattle.separation_solve.proofs.network.Network.move_block.Given as goal
 
 abbrev pub invariant-loop-item : goal.invariant-loop-item
-invariant-loop-item g l = SoFarPlaced l.fn.self l.block l.place l.item l.self
+invariant-loop-item l = SoFarPlaced l.fn.self l.block l.place l.item l.self

@@ -14,9 +14,9 @@ pub returns-clause-start : goal.returns-clause-start
 returns-clause-start c =
     let n = c.args.self.now in
     let m = c.mirror.new.self in
-    let none = MatchOption-at_none (All (λ z. pos 0 ≤ℤ z) n.excess.items) _ (none_is c.hindmost-start.result (sym c.is_some.ensures ∙ c.if-is_some.false)) c.hindmost-start.ensures in
-    match_option c.hindmost.result (All (λ z. pos 0 ≤ℤ z) m.excess.items) (All (λ z. z ≡ pos 0) m.excess.items)
+    let none = MatchOption-at_none (All (λ z. pos 0 ≤ℤ z) n.excess.items) _ (none_is c.first_deficit-start.result (sym c.is_some.ensures ∙ c.if-is_some.false)) c.first_deficit-start.ensures in
+    match_option c.first_deficit.result (All (λ z. pos 0 ≤ℤ z) m.excess.items) (All (λ z. z ≡ pos 0) m.excess.items)
     (λ s. (s < length m.excess.items) × (int_at m.excess.items s <ℤ pos 0)) (λ s. (s < items_of m) × (int_at m.excess.items s <ℤ pos 0))
     (all_zero n.excess.items m.excess.items c.mirror.ensures.excess none)
     (λ s _ h. (omega (arith, h.0, c.mirror.ensures.sound.frame.excess), h.1))
-    c.hindmost.ensures
+    c.first_deficit.ensures

@@ -2,6 +2,7 @@ use Rattle.std.proofs.Common.{◌≡◌, ◌≢◌, ℕ, ◌<◌, ◌≤◌, ◌
 use Rattle.std.specs.declared.alloc.Global.{Global}
 use mir.Syntax.{w128}
 use Rattle.std.proofs.lemmas.Int.{ints, fits_signed_from_abs}
+use Rattle.std.proofs.lemmas.List.{get_or_read}
 use Rattle.separation_solve.specs.Bundle.{int_at}
 use Rattle.separation_solve.specs.declared.network.Network.{Network}
 use Rattle.separation_solve.specs.declared.reach.Reach.{Reach}
@@ -12,7 +13,7 @@ use Rattle.separation_solve.specs.Reach.{IsWay, start_of, step_at}
 use Rattle.separation_solve.proofs.Leads.{excess_size}
 use Rattle.separation_solve.proofs.Pushing.{IsSettled, pushed, rest_is, settled_at_item, settled_at_wall}
 use Rattle.separation_solve.proofs.Sending.{amount_size, change_fits}
-use Rattle.separation_solve.proofs.Spots.{cast_is, read_at}
+use Rattle.separation_solve.proofs.Spots.{cast_is}
 use Rattle.separation_solve.proofs.network.Network.push.Goals as goal
 
 -- what is known when the flow has been sent
@@ -41,13 +42,13 @@ sent_known n now r k a sound way some room sent rest =
 
 -- the start that was read
 first_is : (r : Reach) (s : Step) → 0 < length r.steps.items → s ≡ get_or r.steps.items 0 s → s.node ≡ start_of r
-first_is r s h e = ap (λ (t : Step). t.node) (read_at r.steps.items 0 s _ h e)
+first_is r s h e = ap (λ (t : Step). t.node) (get_or_read r.steps.items 0 s h e _)
 
 -- the start's excess, as it was read
 at_start : (n now : Network) (r : Reach) (k : ℕ) (a : ℤ) (s : Step) (x : ℤ) → IsWay n (start_of r) r k → Sent n now r k a → s ≡ get_or r.steps.items 0 s → x ≡ get_or now.excess.items s.node x → to_z w128 (of_z w128 x) ≡ int_at n.excess.items (start_of r)
 at_start n now r k a s x way sent e read =
     let same : x ≡ get_or n.excess.items (start_of r) x = read ∙ ap (λ zs. get_or zs s.node x) sent.excess ∙ ap (λ i. get_or n.excess.items i x) (first_is r s way.reach.some e) in
-    cast_is w128 x (int_at n.excess.items (start_of r)) (read_at n.excess.items (start_of r) x (pos 0) sent.start_in same) sent.start_fits.0
+    cast_is w128 x (int_at n.excess.items (start_of r)) (get_or_read n.excess.items (start_of r) x sent.start_in same (pos 0)) sent.start_fits.0
 
 -- the excess with the amount added at the start
 raised : (n now : Network) (r : Reach) (k : ℕ) (a : ℤ) (s : Step) (x : ℤ) → IsWay n (start_of r) r k → Sent n now r k a → s ≡ get_or r.steps.items 0 s → x ≡ get_or now.excess.items s.node x →
@@ -76,7 +77,7 @@ record AtEnd (n : Network) (r : Reach) (k : ℕ) (a : ℤ) (t : Step) : Type 0 w
 
 at_end : (n : Network) (r : Reach) (k : ℕ) (a : ℤ) (t : Step) → IsSound n → IsWay n (start_of r) r k → pos 0 <ℤ a → a ≤ℤ (step_at r.steps.items k).room → TakesAmount n (step_at r.steps.items k).node a → t ≡ get_or r.steps.items k t → (t.node ≡ items_of n → ⊥) → AtEnd n r k a t
 at_end n r k a t sound way some room taken e other =
-    let is : t.node ≡ (step_at r.steps.items k).node = ap (λ (u : Step). u.node) (read_at r.steps.items k t _ way.target e) in
+    let is : t.node ≡ (step_at r.steps.items k).node = ap (λ (u : Step). u.node) (get_or_read r.steps.items k t way.target e _) in
     let end = (step_at r.steps.items k).node in
     let within : end ≤ items_of n = (way.reach.steps k way.target).node in
     let ne : end ≢ items_of n = λ q. other (is ∙ q) in
@@ -99,7 +100,7 @@ end_is n now r k a s t x y way sent e read end last =
     let i = (step_at r.steps.items k).node in
     let same : y ≡ get_or zs i y = last ∙ ap (λ l. get_or l t.node y) (raised n now r k a s x way sent e read) ∙ ap (λ m. get_or (set zs (start_of r) (int_at zs (start_of r) +ℤ a)) m y) end.is
     ∙ get_or-set_other zs (start_of r) i (int_at zs (start_of r) +ℤ a) y (λ q. end.apart (sym q)) in
-    cast_is w128 y (int_at zs i) (read_at zs i y (pos 0) end.inside same) end.fits.0
+    cast_is w128 y (int_at zs i) (get_or_read zs i y end.inside same (pos 0)) end.fits.0
 
 pub overflow_sub-index_mut : goal.overflow_sub-index_mut
 overflow_sub-index_mut c =
@@ -135,7 +136,7 @@ left n now excess r k a sound way some sent rest settled =
 
 -- the node that takes the flow is the wall
 at_wall : (n : Network) (r : Reach) (k : ℕ) (t : Step) → IsSound n → IsWay n (start_of r) r k → t ≡ get_or r.steps.items k t → t.node ≡ items_of n → (step_at r.steps.items k).node ≡ length n.excess.items
-at_wall n r k t sound way e wall = sym (ap (λ (u : Step). u.node) (read_at r.steps.items k t _ way.target e)) ∙ wall ∙ sym sound.frame.excess
+at_wall n r k t sound way e wall = sym (ap (λ (u : Step). u.node) (get_or_read r.steps.items k t way.target e _)) ∙ wall ∙ sym sound.frame.excess
 
 falls : (t u a : ℤ) → pos 0 <ℤ a → (t +ℤ a) ≤ℤ u → t <ℤ u
 falls t u a some less = omega (arith, ints)

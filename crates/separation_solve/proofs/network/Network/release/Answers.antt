@@ -19,4 +19,4 @@ loop-item-preserved c =
 pub returns-clause-sound : goal.returns-clause-sound
 returns-clause-sound c =
     let was = c.loop-item.invariant in
-    released c.args.self.now c.loop-item.self c.loop-item.item c.requires.frame c.requires.kept was (omega (arith, c.loop-item-test.false, c.len-item-end.ensures, was.excess_long))
+    released c.args.self.now c.loop-item.self c.loop-item.item c.requires.frame c.requires.kept c.requires.tight was (omega (arith, c.loop-item-test.false, c.len-item-end.ensures, was.excess_long))

@@ -23,8 +23,8 @@ returns-clause-accepted c =
     let rules_are : c.len-2.result ≡ length b.rules.items = omega (arith, c.len-2.ensures, b.rules.ok) in
     let few : take c.len.result c.deref.result.now ≡ take (length b.items.items) n.places.items = ap (λ k. take k c.deref.result.now) items ∙ ap (take (length b.items.items)) c.deref.ensures.value in
     read_accepted b _ n _ c.requires.bundle c.requires.gap c.requires.sound c.requires.balanced c.requires.upright c.requires.of_bundle (to_z-of_z c.ranges.gap) (record {
-      dens = c.in_ok-dens_of.ensures ∙ ap (map (λ (p : Fraction). p.den)) few;
-      nums = c.in_ok-nums_of.ensures ∙ ap (map (λ (p : Fraction). p.num)) few;
+      dens = c.in_ok-denominators_of.ensures ∙ ap (map (λ (p : Fraction). p.den)) few;
+      nums = c.in_ok-numerators_of.ensures ∙ ap (map (λ (p : Fraction). p.num)) few;
       rest = c.split_at.result.1.now;
       rest_is = c.split_at.ensures.back ∙ ap (λ k. drop k c.deref-2.result.now) rules_are ∙ ap (drop (length b.rules.items)) c.deref-2.ensures.value;
       mult = c.in_ok-to_vec.ensures.items_if_clones_equal (λ x y e. e) ∙ c.split_at.ensures.front ∙ ap (λ k. take k c.deref-2.result.now) rules_are ∙ ap (take (length b.rules.items)) c.deref-2.ensures.value;

@@ -3,18 +3,18 @@ use Rattle.std.proofs.lemmas.List.Elements.{All-get_or}
 use Rattle.separation_solve.specs.declared.network.Network.{Network}
 use Rattle.separation_solve.specs.declared.reach.Reach.{Reach}
 use Rattle.separation_solve.specs.declared.reach.Step.{Step}
-use Rattle.separation_solve.specs.Network.{IsSound, items_of}
+use Rattle.separation_solve.specs.Network.{IsSound, IsTightAt, items_of}
 use Rattle.separation_solve.specs.Reach.{AddsLeads, IsLead, IsReach, IsStep, start_of, step_at}
-use Rattle.separation_solve.proofs.Extending.{added_here, adds_more, all_added, following, keeps_all, keeps_itself, listed_below, old_start, own_start}
+use Rattle.separation_solve.proofs.Extending.{added_here, adds_more, all_added, following, keeps_all, keeps_itself, listed_tight, old_start, own_start}
 use Rattle.separation_solve.proofs.Reaches.{step_read}
 use Rattle.separation_solve.proofs.reach.Reach.extend.Goals as goal
 use Rattle.separation_solve.proofs.reach.Reach.extend.Goals.{in-Some+in_ok-add, in_default}
 
 -- its node has a list of links
-node_inside : (n : Network) (r : Reach) (k : ℕ) (s : Step) → IsSound n → IsReach n (start_of r) r → k < length r.steps.items → s ≡ get_or r.steps.items k s → s.node < length n.touching.items
+node_inside : (n : Network) (r : Reach) (k : ℕ) (s : Step) → IsSound n → IsReach n (start_of r) r → k < length r.steps.items → s ≡ get_or r.steps.items k s → s.node < length n.tight.items
 node_inside n r k s sound reach h e =
     let node : (step_at r.steps.items k).node ≤ items_of n = (reach.steps k h).node in
-    omega (arith, ap (λ t. t.node) (step_read r k s h e), node, sound.frame.touching)
+    omega (arith, ap (λ t. t.node) (step_read r k s h e), node, sound.frame.lists)
 
 pub index-requires : goal.index-requires
 index-requires c =
@@ -25,9 +25,9 @@ pub lead-requires-clause-link : goal.lead-requires-clause-link
 lead-requires-clause-link c =
     let n = c.args.network.now in
     let inside = node_inside n c.args.self.now c.args.parent c.index-step.result.now c.requires.sound c.requires.reach c.requires.parent c.index-step.ensures in
-    let below = listed_below n c.index-step.result.now.node c.index.result.now c.requires.sound.frame inside c.index.ensures in
-    let all = subst (All (λ j. j < length n.links.items)) (sym c.deref-link-items.ensures.value) below in
-    All-get_or (λ j. j < length n.links.items) c.deref-link-items.result.now c.loop-link.link-index 0 c.loop-link-test.true all
+    let tight = listed_tight n c.index-step.result.now.node c.index.result.now c.requires.sound inside c.index.ensures in
+    let all = subst (All (IsTightAt n.places.items n.links.items)) (sym c.deref-link-items.ensures.value) tight in
+    All-get_or (IsTightAt n.places.items n.links.items) c.deref-link-items.result.now c.loop-link.link-index 0 c.loop-link-test.true all
 
 pub lead-requires-clause-step : goal.lead-requires-clause-step
 lead-requires-clause-step c =

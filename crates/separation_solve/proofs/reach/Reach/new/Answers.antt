@@ -1,16 +1,17 @@
 use Rattle.std.proofs.Common.{◌≡◌, ◌+◌, ◌<◌, Some, None, length, set, replicate, arith, refl, ap, ◌∙◌, rules, to_z, of_z, to_z-of_z, pos, ◌-ℤ◌}
 use mir.Syntax.{w128}
+use Rattle.std.proofs.lemmas.List.{get_or_read}
 use Rattle.separation_solve.specs.Bundle.{int_at}
 use Rattle.separation_solve.specs.Network.{items_of}
-use Rattle.separation_solve.proofs.Spots.{cast_is, read_at}
-use Rattle.separation_solve.proofs.Starting.{excess_fits, reach_new, short_fits}
+use Rattle.separation_solve.proofs.Spots.{cast_is}
+use Rattle.separation_solve.proofs.Searching.{excess_fits, reach_new, short_fits}
 use Rattle.separation_solve.proofs.reach.Reach.new.Goals as goal
 
 pub overflow_sub-first : goal.overflow_sub-first
 overflow_sub-first c =
     let n = c.args.network.now in
     let inside : c.args.start < length n.excess.items = omega (arith, c.requires.item, c.requires.sound.frame.excess) in
-    let e = cast_is w128 c.index.result.now (int_at n.excess.items c.args.start) (read_at n.excess.items c.args.start c.index.result.now (pos 0) inside c.index.ensures) (excess_fits n c.args.start c.requires.sound) in
+    let e = cast_is w128 c.index.result.now (int_at n.excess.items c.args.start) (get_or_read n.excess.items c.args.start c.index.result.now inside c.index.ensures (pos 0)) (excess_fits n c.args.start c.requires.sound) in
     rw e (short_fits n c.args.start c.requires.sound)
 
 pub returns : goal.returns
@@ -18,7 +19,7 @@ returns c =
     let n = c.args.network.now in
     let sound = c.requires.sound in
     let inside : c.args.start < length n.excess.items = omega (arith, c.requires.item, sound.frame.excess) in
-    let e = cast_is w128 c.index.result.now (int_at n.excess.items c.args.start) (read_at n.excess.items c.args.start c.index.result.now (pos 0) inside c.index.ensures) (excess_fits n c.args.start sound) in
+    let e = cast_is w128 c.index.result.now (int_at n.excess.items c.args.start) (get_or_read n.excess.items c.args.start c.index.result.now inside c.index.ensures (pos 0)) (excess_fits n c.args.start sound) in
     let room = ap (λ z. to_z w128 (of_z w128 (pos 0 -ℤ z))) e ∙ to_z-of_z (short_fits n c.args.start sound) in
     let blank = c.in_ok-found.ensures.items_if_clones_equal (λ y h. search rules) in
     let long : c.len.result ≡ items_of n + 1 = omega (arith, c.len.ensures, sound.frame.places) in

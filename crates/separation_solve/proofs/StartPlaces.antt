@@ -12,15 +12,14 @@ use Rattle.separation_solve.specs.declared.bundle.Rule.{Rule}
 use Rattle.separation_solve.specs.declared.bundle.Bundle.{Bundle}
 use Rattle.separation_solve.specs.declared.network.Link.{Link}
 use Rattle.separation_solve.specs.declared.fraction.Fraction.{Fraction}
-use Rattle.separation_solve.specs.Bundle.{IsBundle, IsCoordinate, int_at, item_at, rule_at}
+use Rattle.separation_solve.specs.Bundle.{IsBundle, IsCoordinate, int_at, item_at, rule_at, no_item, no_rule}
 use Rattle.separation_solve.specs.Fraction.{whole}
 use Rattle.separation_solve.specs.Latest.{IsLatest}
-use Rattle.separation_solve.specs.Network.{IsKept, IsSpot, links_of, place_at, rule_link}
-use Rattle.separation_solve.specs.Start.{AreStartPlaces, KeepsRule}
-use Rattle.separation_solve.proofs.LinkLists.{no_link, lower_link, upper_link}
-use Rattle.separation_solve.proofs.Bounds.{no_rule}
+use Rattle.separation_solve.specs.Network.{IsKept, IsSpot, links_of, place_at, rule_link, no_link, no_place}
+use Rattle.separation_solve.specs.Start.{AreStartPlaces, IsRuleKept}
+use Rattle.separation_solve.proofs.LinkLists.{lower_link, upper_link}
 use Rattle.separation_solve.proofs.Frames.{by_part}
-use Rattle.separation_solve.proofs.Contact.{reduced_whole}
+use Rattle.separation_solve.proofs.LowestTerms.{reduced_whole}
 use Rattle.separation_solve.proofs.Positions.{common_meets}
 
 -- a whole place for each item, within its limits, that keeps all rules
@@ -28,7 +27,7 @@ pub record AreWhole (b : Bundle) (gap : ℤ) (places : List ℤ) : Type 0 where
   pub count : length places ≡ length b.items.items
   pub low : (i : ℕ) → i < length b.items.items → (item_at b.items.items i).lo ≤ℤ int_at places i
   pub high : (i : ℕ) → i < length b.items.items → int_at places i ≤ℤ (item_at b.items.items i).hi
-  pub rules : (j : ℕ) → j < length b.rules.items → KeepsRule gap places (rule_at b.rules.items j)
+  pub rules : (j : ℕ) → j < length b.rules.items → IsRuleKept gap places (rule_at b.rules.items j)
 
 -- the places as fractions, and the wall's
 abbrev pub walled : List ℤ → List Fraction
@@ -39,14 +38,12 @@ length-walled places = omega (arith, length-append (map whole places) (whole (po
 
 pub item_place : (places : List ℤ) (i : ℕ) → i < length places → place_at (walled places) i ≡ whole (int_at places i)
 item_place places i h =
-    let d : Fraction = record { num = pos 0; den = 1 } in
-    get_or-append (map whole places) (whole (pos 0) ∷ []) d i (omega (arith, h, length-map places whole)) ∙ get_or-map whole places i (pos 0) d h
+    get_or-append (map whole places) (whole (pos 0) ∷ []) no_place i (omega (arith, h, length-map places whole)) ∙ get_or-map whole places i (pos 0) no_place h
 
 pub wall_place : (places : List ℤ) (i : ℕ) → i ≡ length places → place_at (walled places) i ≡ whole (pos 0)
 wall_place places i e =
-    let d : Fraction = record { num = pos 0; den = 1 } in
     let first : i - length places ≡ 0 = omega (arith, e) in
-    get_or-append_right (map whole places) (whole (pos 0) ∷ []) (length places) i d (length-map places whole) (omega (arith, e)) ∙ ap (λ k. get_or (whole (pos 0) ∷ []) k d) first
+    get_or-append_right (map whole places) (whole (pos 0) ∷ []) (length places) i no_place (length-map places whole) (omega (arith, e)) ∙ ap (λ k. get_or (whole (pos 0) ∷ []) k no_place) first
 
 -- a link between whole places
 pub kept_whole : (places : List Fraction) (link : Link) (a c : ℤ) → place_at places link.from ≡ whole a → place_at places link.to ≡ whole c → (a +ℤ link.gap) ≤ℤ c → IsKept places link
@@ -84,7 +81,6 @@ whole_spot z at = record {
 pub are_start : (b : Bundle) (gap : ℤ) (places : List ℤ) → IsBundle b → AreWhole b gap places → AreStartPlaces b gap (walled places)
 are_start b gap places ok are =
     let wall = wall_place places (length b.items.items) (sym are.count) in
-    let d : Item = record { want = pos 0; lo = pos 0; hi = pos 0; weight = 0 } in
     record {
       count = length-walled places ∙ ap (λ k. k + 1) are.count;
       spots = λ i h. ⊎_elim
@@ -92,7 +88,7 @@ are_start b gap places ok are =
           (λ (o : i ≡ length places → ⊥).
           let within : i < length places = omega (arith, h, length-walled places) in
           let item : i < length b.items.items = omega (arith, within, are.count) in
-          let is = ok.items i d item in
+          let is = ok.items i no_item item in
           subst IsSpot (sym (item_place places i within)) (whole_spot (int_at places i) (record {
             low = omega (arith, ints, are.low i item, is.lo.low);
             high = omega (arith, ints, are.high i item, is.hi.high);
@@ -110,20 +106,18 @@ pub record AreDrawn (b : Bundle) (gap : ℤ) (by_left : List Rule) (latest wants
   pub is_latest : IsLatest b gap latest
   pub wanted : wants ≡ map (λ (item : Item). item.want) b.items.items
   pub on : (i : ℕ) → i < length pressed → int_at wants i ≤ℤ int_at pressed i
-  pub keeps : All (KeepsRule gap pressed) by_left
+  pub keeps : All (IsRuleKept gap pressed) by_left
   pub pressed_count : length pressed ≡ length wants
   pub count : length places ≡ length pressed
   pub drawn : (i : ℕ) → i < length latest → int_at places i ≡ int_min (int_at latest i) (int_at pressed i)
 
 want_is : (b : Bundle) (wants : List ℤ) (i : ℕ) → wants ≡ map (λ (item : Item). item.want) b.items.items → i < length b.items.items → int_at wants i ≡ (item_at b.items.items i).want
 want_is b wants i e h =
-    let d : Item = record { want = pos 0; lo = pos 0; hi = pos 0; weight = 0 } in
-    ap (λ zs. int_at zs i) e ∙ get_or-map (λ (item : Item). item.want) b.items.items i d (pos 0) h
+    ap (λ zs. int_at zs i) e ∙ get_or-map (λ (item : Item). item.want) b.items.items i no_item (pos 0) h
 
 pub drawn_whole : (b : Bundle) (gap : ℤ) (by_left : List Rule) (latest wants pressed places : List ℤ) → AreDrawn b gap by_left latest wants pressed places → AreWhole b gap places
 drawn_whole b gap by_left latest wants pressed places are =
     let items = b.items.items in
-    let d : Item = record { want = pos 0; lo = pos 0; hi = pos 0; weight = 0 } in
     let over = common_meets b gap 1 latest are.ok (omega arith) are.is_latest.meets in
     let count : length latest ≡ length items = are.is_latest.meets.places in
     let wants_count : length wants ≡ length items = ap length are.wanted ∙ length-map items (λ (item : Item). item.want) in
@@ -131,21 +125,20 @@ drawn_whole b gap by_left latest wants pressed places are =
     record {
       count = are.count ∙ are.pressed_count ∙ wants_count;
       low = λ i h.
-          omega (arith, ints, clamps, at i h, over.low i h, are.on i (omega (arith, h, are.pressed_count, wants_count)), want_is b wants i are.wanted h, (are.ok.items i d h).want_low);
+          omega (arith, ints, clamps, at i h, over.low i h, are.on i (omega (arith, h, are.pressed_count, wants_count)), want_is b wants i are.wanted h, (are.ok.items i no_item h).want_low);
       high = λ i h. omega (arith, ints, clamps, at i h, over.high i h);
       rules = λ j h.
           let rule = rule_at b.rules.items j in
           let is = are.ok.rules j no_rule h in
-          let kept = All-permutation (KeepsRule gap pressed) by_left b.rules.items (IsPermutation-sym b.rules.items by_left are.same) are.keeps j no_rule h in
+          let kept = All-permutation (IsRuleKept gap pressed) by_left b.rules.items (IsPermutation-sym b.rules.items by_left are.same) are.keeps j no_rule h in
           omega (arith, ints, clamps, at rule.left (omega (arith, is.forward, is.within)), at rule.right is.within, kept, over.rules j no_rule h);
     }
 
 -- a want stands on the sheet
 pub want_coordinate : (b : Bundle) (wants : List ℤ) (i : ℕ) → IsBundle b → wants ≡ map (λ (item : Item). item.want) b.items.items → i < length wants → IsCoordinate (int_at wants i)
 want_coordinate b wants i ok e h =
-    let d : Item = record { want = pos 0; lo = pos 0; hi = pos 0; weight = 0 } in
     let count : length wants ≡ length b.items.items = ap length e ∙ length-map b.items.items (λ (item : Item). item.want) in
     let within : i < length b.items.items = omega (arith, h, count) in
-    let is = ok.items i d within in
+    let is = ok.items i no_item within in
     let at = want_is b wants i e within in
     record { low = omega (arith, ints, at, is.want_low, is.lo.low); high = omega (arith, ints, at, is.want_high, is.hi.high) }

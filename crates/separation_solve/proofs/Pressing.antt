@@ -1,5 +1,5 @@
 -- Places near the wants that keep all rules.
-use Rattle.std.proofs.Common.{◌≡◌, ℕ, ◌+◌, ◌*◌, ◌<◌, ◌≤◌, ℤ, pos, ◌+ℤ◌, ◌≤ℤ◌, ◌<ℤ◌, negsuc, List, length, get_or, set, All, false, ⊎_elim, arith, refl, ap, sym, subst, ◌∙◌, length-set, get_or-set_same, get_or-set_other}
+use Rattle.std.proofs.Common.{◌≡◌, ℕ, ◌+◌, ◌*◌, ◌<◌, ◌≤◌, ℤ, pos, ◌+ℤ◌, ◌≤ℤ◌, ◌<ℤ◌, negsuc, List, length, get_or, set, All, ⊎_elim, arith, refl, ap, sym, subst, ◌∙◌, length-set, get_or-set_same, get_or-set_other}
 use Rattle.std.specs.Int.{int_min}
 use Rattle.std.specs.List.Sorted.{IsNonDecreasingBy}
 use Rattle.std.proofs.lemmas.Int.{ints}
@@ -7,8 +7,8 @@ use Rattle.std.proofs.lemmas.Bool.{cases_eq}
 use Rattle.std.proofs.lemmas.List.{get_or_default}
 use Rattle.separation_solve.specs.declared.bundle.Rule.{Rule}
 use Rattle.separation_solve.specs.declared.bundle.TheConstants.{MOST_ITEMS}
-use Rattle.separation_solve.specs.Bundle.{IsCoordinate, asked, int_at, rule_at}
-use Rattle.separation_solve.specs.Start.{IsForward, KeepsRule}
+use Rattle.separation_solve.specs.Bundle.{IsCoordinate, asked, int_at, rule_at, no_rule}
+use Rattle.separation_solve.specs.Start.{IsForward, IsRuleKept}
 use Rattle.separation_solve.proofs.Bounds.{asked_within}
 
 -- the first items are drawn back
@@ -17,24 +17,21 @@ pub record DrawnBack (latest old : List ℤ) (i : ℕ) (places : List ℤ) : Typ
   pub drawn : (k : ℕ) → k < i → k < length old → int_at places k ≡ int_min (int_at latest k) (int_at old k)
   pub rest : (k : ℕ) → i ≤ k → int_at places k ≡ int_at old k
 
--- the first rules are kept, and each item stands at its old place or behind it, but not too far
+-- the first rules are kept, and each item stands at its old place or to the right of it, but not too far
 pub record IsPressed (gap : ℤ) (old : List ℤ) (rules : List Rule) (k : ℕ) (places : List ℤ) : Type 0 where
   pub count : length places ≡ length old
   pub on : (i : ℕ) → i < length old → int_at old i ≤ℤ int_at places i
   pub near : (i : ℕ) → i < length old → int_at places i ≤ℤ pos (2000000000 + 1000000 * i)
-  pub keeps : (j : ℕ) → j < k → KeepsRule gap places (rule_at rules j)
-
-pub pressed_none : (gap : ℤ) (old : List ℤ) (rules : List Rule) → ((i : ℕ) → i < length old → IsCoordinate (int_at old i)) → IsPressed gap old rules 0 old
-pressed_none gap old rules h = record { count = refl; on = λ i m. omega (arith, ints); near = λ i m. omega (arith, ints, (h i m).high); keeps = λ j m. absurd (omega arith) }
+  pub keeps : (j : ℕ) → j < k → IsRuleKept gap places (rule_at rules j)
 
 -- a rule that is kept already
-pub pressed_kept : (gap : ℤ) (old : List ℤ) (rules : List Rule) (k : ℕ) (places : List ℤ) → IsPressed gap old rules k places → KeepsRule gap places (rule_at rules k) → IsPressed gap old rules (k + 1) places
+pub pressed_kept : (gap : ℤ) (old : List ℤ) (rules : List Rule) (k : ℕ) (places : List ℤ) → IsPressed gap old rules k places → IsRuleKept gap places (rule_at rules k) → IsPressed gap old rules (k + 1) places
 pressed_kept gap old rules k places so h = record {
   count = so.count;
   on = so.on;
   near = so.near;
   keeps = λ j m. ⊎_elim
-      (λ (e : j ≡ k). subst (λ i. KeepsRule gap places (rule_at rules i)) (sym e) h)
+      (λ (e : j ≡ k). subst (λ i. IsRuleKept gap places (rule_at rules i)) (sym e) h)
       (λ (o : j ≡ k → ⊥). so.keeps j (omega arith))
       (cases_eq j k);
 }
@@ -54,9 +51,8 @@ pub least_of : (gap : ℤ) (old : List ℤ) (rules : List Rule) (k : ℕ) (place
     k < length rules → All (IsForward (length old)) rules → pos 0 ≤ℤ gap → gap ≤ℤ pos 1000000 → length old ≤ MOST_ITEMS → ((i : ℕ) → i < length old → IsCoordinate (int_at old i)) →
     IsLeastPlace old places (rule_at rules k) gap (int_at places (rule_at rules k).left +ℤ asked gap (rule_at rules k))
 least_of gap old rules k places so within ok low high few on_sheet =
-    let d : Rule = record { left = 0; right = 0; spaced = false } in
     let rule = rule_at rules k in
-    let rule_ok = ok k d within in
+    let rule_ok = ok k no_rule within in
     let left : rule.left < length old = omega (arith, rule_ok.forward, rule_ok.within) in
     let bound = asked_within gap rule low high in
     record {
@@ -76,14 +72,13 @@ pub pressed_on : (gap : ℤ) (old : List ℤ) (rules : List Rule) (k : ℕ) (pla
     IsLeastPlace old places (rule_at rules k) gap least → int_at places (rule_at rules k).right <ℤ least →
     IsPressed gap old rules (k + 1) (set places (rule_at rules k).right least)
 pressed_on gap old rules k places least so within ok sorted at less =
-    let d : Rule = record { left = 0; right = 0; spaced = false } in
     let rule = rule_at rules k in
     let right = rule.right in
-    let rule_ok = ok k d within in
+    let rule_ok = ok k no_rule within in
     let next = set places right least in
     let here : int_at next right ≡ least = get_or-set_same places right least (pos 0) at.right in
     let there : (i : ℕ) → (i ≡ right → ⊥) → int_at next i ≡ int_at places i = λ i o. get_or-set_other places right i least (pos 0) o in
-    let not_left : (j : ℕ) → j ≤ k → (rule_at rules j).left ≡ right → ⊥ = λ j h e. absurd (omega (arith, sorted j k d h within, rule_ok.forward, e)) in
+    let not_left : (j : ℕ) → j ≤ k → (rule_at rules j).left ≡ right → ⊥ = λ j h e. absurd (omega (arith, sorted j k no_rule h within, rule_ok.forward, e)) in
     record {
       count = length-set places right least ∙ so.count;
       on = λ i h. ⊎_elim
@@ -95,7 +90,7 @@ pressed_on gap old rules k places least so within ok sorted at less =
           (λ (o : i ≡ right → ⊥). omega (arith, ints, there i o, so.near i h))
           (cases_eq i right);
       keeps = λ j h. ⊎_elim
-          (λ (e : j ≡ k). subst (λ i. KeepsRule gap next (rule_at rules i)) (sym e) (omega (arith, ints, here, at.is, there rule.left (not_left k (omega arith)))))
+          (λ (e : j ≡ k). subst (λ i. IsRuleKept gap next (rule_at rules i)) (sym e) (omega (arith, ints, here, at.is, there rule.left (not_left k (omega arith)))))
           (λ (o : j ≡ k → ⊥).
           let kept = so.keeps j (omega arith) in
           let left = there (rule_at rules j).left (not_left j (omega arith)) in
@@ -107,7 +102,6 @@ pressed_on gap old rules k places least so within ok sorted at less =
     }
 
 -- a kept rule, by another default
-pub rule_keeps : (gap : ℤ) (places : List ℤ) (rules : List Rule) (k : ℕ) (d : Rule) → k < length rules → KeepsRule gap places (rule_at rules k) → KeepsRule gap places (get_or rules k d)
+pub rule_keeps : (gap : ℤ) (places : List ℤ) (rules : List Rule) (k : ℕ) (d : Rule) → k < length rules → IsRuleKept gap places (rule_at rules k) → IsRuleKept gap places (get_or rules k d)
 rule_keeps gap places rules k d h keeps =
-    let none : Rule = record { left = 0; right = 0; spaced = false } in
-    subst (KeepsRule gap places) (get_or_default rules k none d h) keeps
+    subst (IsRuleKept gap places) (get_or_default rules k no_rule d h) keeps
