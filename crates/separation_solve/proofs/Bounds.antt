@@ -12,6 +12,7 @@ use Rattle.separation_solve.specs.declared.bundle.Rule.{Rule}
 use Rattle.separation_solve.specs.declared.bundle.Item.{Item}
 use Rattle.separation_solve.specs.declared.bundle.Bundle.{Bundle}
 use Rattle.separation_solve.specs.Bundle.{IsBundle, IsCoordinate, IsRule, Meets, item_at, rule_at, int_at, slack, asked, no_item, no_rule}
+use Rattle.separation_solve.specs.Start.{IsRuleKept}
 use Rattle.separation_solve.specs.Latest.{IsLatest, IsNoneBeyond, HasNoRoom}
 use Rattle.separation_solve.proofs.Ring.{ring, var, num, ◌⊕◌, ◌⊗◌, ◌⊖◌, mul_comm}
 use Rattle.separation_solve.proofs.Order.{mul-mono, cancel_le}
@@ -21,7 +22,7 @@ pub record IsBound (b : Bundle) (gap : ℤ) (rs : List Rule) (j : ℕ) (places :
   pub len : length places ≡ length b.items.items
   pub low : (i : ℕ) → i < length b.items.items → (item_at b.items.items i).lo ≤ℤ int_at places i
   pub high : (i : ℕ) → i < length b.items.items → int_at places i ≤ℤ (item_at b.items.items i).hi
-  pub met : (k : ℕ) → j ≤ k → k < length rs → (int_at places (rule_at rs k).left +ℤ asked gap (rule_at rs k)) ≤ℤ int_at places (rule_at rs k).right
+  pub met : (k : ℕ) → j ≤ k → k < length rs → IsRuleKept gap places (rule_at rs k)
   pub beyond : IsNoneBeyond b gap places
 
 -- the rules are the bundle's, by their left items

@@ -123,13 +123,14 @@ displacement_fits weight den place limit few small a b =
     let bound : unsigned_abs (place -ℤ limit) ≤ 2 ^ 97 = omega (arith, ints, a.low, a.high, b.low, b.high) in
     fits_signed_mul w128 (pos (2 * weight)) (place -ℤ limit) 8 (2 ^ 97) (omega arith) bound (lit< tt)
 
--- the code's product is the displacement
+-- the code's product fits
 pub displacement_fits_as : (weight den : ℕ) (place limit x y : ℤ) → weight ≤ 4 → den < 2 ^ 64 → IsOnSheet den place → IsOnSheet den limit → x ≡ pos (2 * weight) → y ≡ place -ℤ limit →
     FitsSigned w128 (x *ℤ y)
 displacement_fits_as weight den place limit x y few small a b x_is y_is =
     let e : pos (2 * weight) *ℤ (place -ℤ limit) ≡ x *ℤ y = ap (λ v. v *ℤ (place -ℤ limit)) (sym x_is) ∙ ap (λ v. x *ℤ v) (sym y_is) in
     subst (FitsSigned w128) e (displacement_fits weight den place limit few small a b)
 
+-- the code's product is the displacement
 pub displacement_as : (weight den : ℕ) (place want limit x y : ℤ) → weight ≤ 4 → den < 2 ^ 64 → IsOnSheet den place → IsOnSheet den limit → limit ≡ want *ℤ pos den → x ≡ pos (2 * weight) → y ≡ place -ℤ limit →
     to_z w128 (of_z w128 (x *ℤ y)) ≡ pos (2 * weight) *ℤ (place -ℤ (pos den *ℤ want))
 displacement_as weight den place want limit x y few small a b limit_is x_is y_is =

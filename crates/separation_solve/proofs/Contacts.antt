@@ -101,12 +101,12 @@ room_kept n r link place nearer reduced h room = λ out. not_beyond_trans nearer
 -- a link that was read
 pub record IsRead (n : Network) (j : ℕ) (link : Link) : Type 0 where
   pub is : link ≡ link_at n.links.items j
-  pub ends : IsLink (items_of n) link
+  pub ends : IsLink (items_of n + 1) link
 
 pub read_link : (n : Network) (j : ℕ) (link : Link) → IsSound n → j < length n.links.items → link ≡ get_or n.links.items j link → IsRead n j link
 read_link n j link sound h e =
     let is = get_or_read n.links.items j link h e no_link in
-    record { is = is; ends = subst (IsLink (items_of n)) (sym is) (sound.frame.links j h) }
+    record { is = is; ends = subst (IsLink (items_of n + 1)) (sym is) (sound.frame.links j h) }
 
 -- a place that was read
 pub read_place : (n : Network) (i : ℕ) (place : Fraction) → IsSound n → i ≤ items_of n → place ≡ get_or n.places.items i place → (place ≡ place_at n.places.items i) × IsSpot place

@@ -183,7 +183,7 @@ is_balanced b gap n s i end h =
 -- the multipliers of an item are a part of the flow
 small_sum : (b : Bundle) (gap : ℤ) (n : Network) (s : Solution) (i : ℕ) → IsEnding b gap n s → i < item_count b → all_multipliers b s i ≤ℤ pos (2 ^ 126)
 small_sum b gap n s i end h =
-    let apart = All-weaker (IsLink (item_count b)) (λ l. l.from ≢ l.to) (λ l is. is.apart) (links_of b gap) (are_links b gap end.bundle end.is_gap) in
+    let apart = All-weaker (IsLink (item_count b + 1)) (λ l. l.from ≢ l.to) (λ l is. is.apart) (links_of b gap) (are_links b gap end.bundle end.is_gap) in
     let apart_here : All (λ (l : Link). l.from ≢ l.to) n.links.items = subst (All (λ (l : Link). l.from ≢ l.to)) (sym end.links) apart in
     let sign : All (λ z. pos 0 ≤ℤ z) n.flow.items = All-from_get_or (λ z. pos 0 ≤ℤ z) n.flow.items (pos 0) end.sound.flow.sign in
     let both = both_ends (λ (l : Link). l.to) (λ (l : Link). l.from) i n.links.items n.flow.items apart_here sign in

@@ -85,7 +85,7 @@ pub record IsReleasing (n now : Network) (k : ℕ) : Type 0 where
   pub cleared : (j : ℕ) → j < length now.flow.items → int_at now.flow.items j ≡ pos 0
   pub done : (i : ℕ) → i < k → int_at now.excess.items i ≡ force n i
 
-frame_with : (n : Network) (flow excess : Vec ℤ Global) → IsFrame n → length flow.items ≡ length n.flow.items → length excess.items ≡ length n.excess.items → IsFrame (record n { flow = flow; excess = excess })
+pub frame_with : (n : Network) (flow excess : Vec ℤ Global) → IsFrame n → length flow.items ≡ length n.flow.items → length excess.items ≡ length n.excess.items → IsFrame (record n { flow = flow; excess = excess })
 frame_with n flow excess frame long also = record {
   few = frame.few;
   weights = frame.weights;
@@ -100,7 +100,7 @@ frame_with n flow excess frame long also = record {
   limited = frame.limited;
 }
 
-kept_with : (n : Network) (flow excess : Vec ℤ Global) → AreKept n → AreKept (record n { flow = flow; excess = excess })
+pub kept_with : (n : Network) (flow excess : Vec ℤ Global) → AreKept n → AreKept (record n { flow = flow; excess = excess })
 kept_with n flow excess kept = record {
   spots = kept.spots;
   wall_num = kept.wall_num;

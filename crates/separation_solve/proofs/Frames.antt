@@ -97,9 +97,9 @@ by_part b gap P rules lowers uppers =
 pub gap_small : (b : Bundle) (gap : ℤ) → IsBundle b → IsGap b gap → gap ≤ℤ pos 1000000
 gap_small b gap bundle is = omega (arith, ints, is.not_above, is.is_widest.high, bundle.wanted_high)
 
-pub are_links : (b : Bundle) (gap : ℤ) → IsBundle b → IsGap b gap → All (IsLink (item_count b)) (links_of b gap)
+pub are_links : (b : Bundle) (gap : ℤ) → IsBundle b → IsGap b gap → All (IsLink (item_count b + 1)) (links_of b gap)
 are_links b gap bundle is =
-    by_part b gap (IsLink (item_count b))
+    by_part b gap (IsLink (item_count b + 1))
     (λ j h. let rule = bundle.rules j no_rule h in
     let asks = asked_within gap (rule_at b.rules.items j) is.low (gap_small b gap bundle is) in
     record {
@@ -167,9 +167,9 @@ made_frame b gap n bundle is made =
       light = of_items b (λ (item : Item). item.weight) (λ w. w ≤ 4) n.weights.items bundle made.weights (λ item h. h.weight_high);
       heavy = of_items b (λ (item : Item). item.weight) (λ w. 1 ≤ w) n.weights.items bundle made.weights (λ item h. h.weight_low);
       wants = of_items b (λ (item : Item). item.want) IsCoordinate n.wants.items bundle made.wants want_on_sheet;
-      links = λ j h. subst (λ k. IsLink k (link_at n.links.items j)) (sym items)
-          (subst (λ l. IsLink (item_count b) (link_at l j)) (sym made.links)
-          (All-get_or (IsLink (item_count b)) (links_of b gap) j no_link (omega (arith, ap length made.links, h)) links));
+      links = λ j h. subst (λ k. IsLink (k + 1) (link_at n.links.items j)) (sym items)
+          (subst (λ l. IsLink (item_count b + 1) (link_at l j)) (sym made.links)
+          (All-get_or (IsLink (item_count b + 1)) (links_of b gap) j no_link (omega (arith, ap length made.links, h)) links));
       limited = λ i h. subst (λ k. IsLimited k n.links.items i) (sym items)
           (subst (λ l. IsLimited (item_count b) l i) (sym made.links) (are_limited b gap i (omega (arith, items, h))));
     }

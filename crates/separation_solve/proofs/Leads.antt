@@ -114,7 +114,7 @@ leads_on n j parent step off sound h from tight e =
       is_step = λ start is_step.
           let before : StandsAt step.offset (place_at n.places.items start) (place_at n.places.items link.from) = subst (λ i. StandsAt step.offset (place_at n.places.items start) (place_at n.places.items i)) (sym from) is_step.stands in
           let stands : StandsAt off (place_at n.places.items start) (place_at n.places.items link.to) = subst (λ z. StandsAt z (place_at n.places.items start) (place_at n.places.items link.to)) (sym e) (stands_on n.places.items link start step.offset before tight) in
-          step_from n start next sound (omega (arith, start_in n start step sound is_step)) is_link.to stands is_step.some is_step.most;
+          step_from n start next sound (omega (arith, start_in n start step sound is_step)) (omega (arith, is_link.to)) stands is_step.some is_step.most;
     }
 
 -- a step back over a link with flow
@@ -138,7 +138,7 @@ leads_back n j parent step off room sound h to flows e less back some =
       is_step = λ start is_step.
           let before : StandsAt step.offset (place_at n.places.items start) (place_at n.places.items link.to) = subst (λ i. StandsAt step.offset (place_at n.places.items start) (place_at n.places.items i)) (sym to) is_step.stands in
           let stands : StandsAt off (place_at n.places.items start) (place_at n.places.items link.from) = subst (λ z. StandsAt z (place_at n.places.items start) (place_at n.places.items link.from)) (sym e) (stands_back n.places.items link start step.offset before tight) in
-          step_from n start next sound (omega (arith, start_in n start step sound is_step)) is_link.from stands some (omega (arith, ints, less, is_step.most));
+          step_from n start next sound (omega (arith, start_in n start step sound is_step)) (omega (arith, is_link.from)) stands some (omega (arith, ints, less, is_step.most));
     }
 
 -- how far a step over a link goes fits

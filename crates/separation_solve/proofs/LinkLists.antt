@@ -33,8 +33,6 @@ numbered-more f xs i d h =
     ap (numbered f 0) (take_more xs i d h) ∙ numbered-push f 0 (take i xs) (get_or xs i d)
     ∙ ap (λ k. numbered f 0 (take i xs) ++ f k (get_or xs i d) ∷ []) e
 
--- what stands past the last link
-
 -- an item's lower limit
 abbrev pub lower_link : ℕ → ℕ → Item → Link
 lower_link wall i item = record { from = wall; to = i; gap = item.lo }

@@ -7,7 +7,7 @@ use Rattle.std.specs.Prelude.{Contains}
 use Rattle.std.specs.declared.alloc.Global.{Global}
 use Rattle.separation_solve.specs.declared.fraction.Fraction.{Fraction}
 use Rattle.separation_solve.specs.declared.network.Link.{Link}
-use Rattle.separation_solve.specs.Network.{IsListed, IsTight, IsTightAt, ListsTight, link_at}
+use Rattle.separation_solve.specs.Network.{IsListed, IsTight, IsTightAt, link_at}
 
 -- the tight ones of the first links stand at their nodes, and no others
 pub record IsListing (places : List Fraction) (links : List Link) (old lists : List (Vec ℕ Global)) (upto : ℕ) : Type 0 where
@@ -74,6 +74,3 @@ listing_kept places links start lists j listing none = record {
   listed = below_more (λ k. IsTight places (link_at links k) → IsListed links lists k) j listing.listed (λ tight. absurd (none tight));
   no_others = listing.no_others;
 }
-
-pub listing_all : (places : List Fraction) (links : List Link) (start lists : List (Vec ℕ Global)) → IsListing places links start lists (length links) → ListsTight places links lists
-listing_all places links start lists listing = record { listed = λ j at. listing.listed j at.link at.tight; no_others = listing.no_others }

@@ -27,7 +27,7 @@ pub record MeanSoFar (n : Network) (r : Reach) (items weight : ℕ) (moment : �
   pub low : (neg_ℤ (pos 6000000000) *ℤ pos weight) ≤ℤ moment
   pub high : moment ≤ℤ (pos 6000000000 *ℤ pos weight)
 
--- a share of at most 4 of at most six million units
+-- a weight times at most six million units
 share_bound : (share : ℕ) (z : ℤ) → negsuc 5999999999 ≤ℤ z → z ≤ℤ pos 6000000000 →
     ((neg_ℤ (pos 6000000000) *ℤ pos share) ≤ℤ (pos share *ℤ z)) × ((pos share *ℤ z) ≤ℤ (pos 6000000000 *ℤ pos share))
 share_bound share z low high =

@@ -37,8 +37,8 @@ total_size-negated zs =
     ∙ sum_below-same (length zs) (λ i. pos (unsigned_abs (int_at (map neg_ℤ zs) i))) (λ i. pos (unsigned_abs (int_at zs i)))
     (λ i h. ap (λ z. pos (unsigned_abs z)) (int_at-negated zs i) ∙ omega (arith, ints))
 
-link_turned : (items : ℕ) (link : Link) → IsLink items link → IsLink items (turned_link link)
-link_turned items link h = record {
+link_turned : (nodes : ℕ) (link : Link) → IsLink nodes link → IsLink nodes (turned_link link)
+link_turned nodes link h = record {
   from = h.to;
   to = h.from;
   apart = λ e. h.apart (sym e);
@@ -120,7 +120,7 @@ turned_frame n links wants places excess mirrored frame t =
       wants = All-from_get_or IsCoordinate wants.items (pos 0) (λ i h.
           let c = All-get_or IsCoordinate n.wants.items i (pos 0) (omega (arith, h, items)) frame.wants in
           subst IsCoordinate (sym (ap (λ zs. int_at zs i) t.wants_are ∙ int_at-negated n.wants.items i)) (coordinate_turned (int_at n.wants.items i) c));
-      links = λ j h. subst (λ k. IsLink k (link_at links.items j)) (sym items) (subst (IsLink (items_of n)) (sym (at j)) (link_turned (items_of n) (link_at n.links.items j) (frame.links j (omega (arith, h, many)))));
+      links = λ j h. subst (λ k. IsLink (k + 1) (link_at links.items j)) (sym items) (subst (IsLink (items_of n + 1)) (sym (at j)) (link_turned (items_of n + 1) (link_at n.links.items j) (frame.links j (omega (arith, h, many)))));
       limited = λ i h.
           let l = frame.limited i (omega (arith, h, items)) in
           record {

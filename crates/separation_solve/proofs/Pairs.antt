@@ -1,4 +1,4 @@
--- A bundle of two items and one rule.
+-- Bundles of two and of three items.
 use Rattle.std.proofs.Common.{◌≡◌, ℕ, pos, ◌≤ℤ◌, List, [], ◌∷◌, length, ap, sym, subst, arith}
 use Rattle.std.proofs.lemmas.Int.{ints}
 use Rattle.std.proofs.lemmas.List.Elements.{All-cons, All-nil, All-same}

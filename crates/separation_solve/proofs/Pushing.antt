@@ -10,6 +10,7 @@ use Rattle.separation_solve.specs.Network.{IsSound, items_of, total_size}
 use Rattle.separation_solve.specs.Push.{IsSent, KeepsRest}
 use Rattle.separation_solve.specs.Reach.{IsReach, start_of, step_at}
 use Rattle.separation_solve.specs.Sum.{here, sum_below}
+use Rattle.separation_solve.proofs.Forces.{frame_with, kept_with}
 use Rattle.separation_solve.proofs.Exchange.{here_same, here_other}
 use Rattle.separation_solve.proofs.Order.{mul-mono}
 use Rattle.separation_solve.proofs.Ring.{ring, var, ◌⊕◌, ◌⊗◌}
@@ -17,15 +18,16 @@ use Rattle.separation_solve.proofs.Sums.{sum_below-at}
 
 -- the network, but for its flow
 pub rest_is : (n now : Network) → KeepsRest n now → now ≡ record n { flow = now.flow }
-rest_is n now rest =
-    let e0 : (let a : Network = record { links = now.links; tight = now.tight; wants = now.wants; weights = now.weights; places = now.places; mirrored = now.mirrored; excess = now.excess; flow = now.flow } in a) ≡ record { links = n.links; tight = now.tight; wants = now.wants; weights = now.weights; places = now.places; mirrored = now.mirrored; excess = now.excess; flow = now.flow } = ap (λ x. record { links = x; tight = now.tight; wants = now.wants; weights = now.weights; places = now.places; mirrored = now.mirrored; excess = now.excess; flow = now.flow }) rest.links in
-    let e1 : (let a : Network = record { links = n.links; tight = now.tight; wants = now.wants; weights = now.weights; places = now.places; mirrored = now.mirrored; excess = now.excess; flow = now.flow } in a) ≡ record { links = n.links; tight = n.tight; wants = now.wants; weights = now.weights; places = now.places; mirrored = now.mirrored; excess = now.excess; flow = now.flow } = ap (λ x. record { links = n.links; tight = x; wants = now.wants; weights = now.weights; places = now.places; mirrored = now.mirrored; excess = now.excess; flow = now.flow }) rest.tight in
-    let e2 : (let a : Network = record { links = n.links; tight = n.tight; wants = now.wants; weights = now.weights; places = now.places; mirrored = now.mirrored; excess = now.excess; flow = now.flow } in a) ≡ record { links = n.links; tight = n.tight; wants = n.wants; weights = now.weights; places = now.places; mirrored = now.mirrored; excess = now.excess; flow = now.flow } = ap (λ x. record { links = n.links; tight = n.tight; wants = x; weights = now.weights; places = now.places; mirrored = now.mirrored; excess = now.excess; flow = now.flow }) rest.wants in
-    let e3 : (let a : Network = record { links = n.links; tight = n.tight; wants = n.wants; weights = now.weights; places = now.places; mirrored = now.mirrored; excess = now.excess; flow = now.flow } in a) ≡ record { links = n.links; tight = n.tight; wants = n.wants; weights = n.weights; places = now.places; mirrored = now.mirrored; excess = now.excess; flow = now.flow } = ap (λ x. record { links = n.links; tight = n.tight; wants = n.wants; weights = x; places = now.places; mirrored = now.mirrored; excess = now.excess; flow = now.flow }) rest.weights in
-    let e4 : (let a : Network = record { links = n.links; tight = n.tight; wants = n.wants; weights = n.weights; places = now.places; mirrored = now.mirrored; excess = now.excess; flow = now.flow } in a) ≡ record { links = n.links; tight = n.tight; wants = n.wants; weights = n.weights; places = n.places; mirrored = now.mirrored; excess = now.excess; flow = now.flow } = ap (λ x. record { links = n.links; tight = n.tight; wants = n.wants; weights = n.weights; places = x; mirrored = now.mirrored; excess = now.excess; flow = now.flow }) rest.places in
-    let e5 : (let a : Network = record { links = n.links; tight = n.tight; wants = n.wants; weights = n.weights; places = n.places; mirrored = now.mirrored; excess = now.excess; flow = now.flow } in a) ≡ record { links = n.links; tight = n.tight; wants = n.wants; weights = n.weights; places = n.places; mirrored = n.mirrored; excess = now.excess; flow = now.flow } = ap (λ x. record { links = n.links; tight = n.tight; wants = n.wants; weights = n.weights; places = n.places; mirrored = x; excess = now.excess; flow = now.flow }) rest.mirrored in
-    let e6 : (let a : Network = record { links = n.links; tight = n.tight; wants = n.wants; weights = n.weights; places = n.places; mirrored = n.mirrored; excess = now.excess; flow = now.flow } in a) ≡ record { links = n.links; tight = n.tight; wants = n.wants; weights = n.weights; places = n.places; mirrored = n.mirrored; excess = n.excess; flow = now.flow } = ap (λ x. record { links = n.links; tight = n.tight; wants = n.wants; weights = n.weights; places = n.places; mirrored = n.mirrored; excess = x; flow = now.flow }) rest.excess in
-    e0 ∙ e1 ∙ e2 ∙ e3 ∙ e4 ∙ e5 ∙ e6
+rest_is n now rest = λ i. record {
+  links = rest.links i;
+  tight = rest.tight i;
+  wants = rest.wants i;
+  weights = rest.weights i;
+  mirrored = rest.mirrored i;
+  places = rest.places i;
+  flow = now.flow;
+  excess = rest.excess i;
+}
 
 -- the sum of sizes, after one number changed
 pub total_size-set : (zs : List ℤ) (i : ℕ) (z : ℤ) → i < length zs → total_size (set zs i z) +ℤ pos (unsigned_abs (int_at zs i)) ≡ total_size zs +ℤ pos (unsigned_abs z)
@@ -97,25 +99,8 @@ pushed n flow excess r target a sound reach h some sent settled =
     let t = total_size excess.items in
     let k = items_of n in
     record {
-      frame = record {
-        few = frame.few;
-        weights = frame.weights;
-        excess = settled.long ∙ frame.excess;
-        places = frame.places;
-        lists = frame.lists;
-        flow = sent.links ∙ frame.flow;
-        light = frame.light;
-        heavy = frame.heavy;
-        wants = frame.wants;
-        links = frame.links;
-        limited = frame.limited;
-      };
-      kept = record {
-        spots = sound.kept.spots;
-        wall_num = sound.kept.wall_num;
-        wall_den = sound.kept.wall_den;
-        kept = sound.kept.kept;
-      };
+      frame = frame_with n flow excess frame sent.links settled.long;
+      kept = kept_with n flow excess sound.kept;
       tight = sound.tight;
       flow = record {
         sign = sent.sign;

@@ -1,4 +1,4 @@
--- A search at its start, and at its end.
+-- A search at its start.
 use Rattle.std.proofs.Common.{◌≡◌, ◌≢◌, ℕ, ◌+◌, ◌^◌, ◌<◌, ◌≤◌, pos, ◌-ℤ◌, ◌<ℤ◌, FitsSigned, Option, Some, None, List, [], ◌∷◌, length, get_or, set, replicate, sum_by, arith, refl, ap, sym, subst, ◌∙◌, ⊎_elim, length-set, get_or-set_other, get_or-set_same, lit<}
 use mir.Syntax.{w128}
 use Rattle.std.proofs.lemmas.Bool.{cases_eq, cases_lt}

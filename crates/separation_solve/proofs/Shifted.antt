@@ -253,7 +253,7 @@ new_kept n start r best place new move j h =
     (λ (b : HasStayed n r new link.to).
     kept_at link.gap new_from new_to (place.num +ℤ (off *ℤ pos place.den)) to.num place.den to.den a.new_num a.new_den (ap (λ (p : Fraction). p.num) b.same) (ap (λ (p : Fraction). p.den) b.same)
     (kept_out link.gap place.num off to.num place.den to.den (move.room j h (a.member, b.outside))))
-    (node_cases n start r best place new move link.to ends.to))
+    (node_cases n start r best place new move link.to (omega (arith, ends.to))))
     (λ (a : HasStayed n r new link.from). ⊎_elim
     (λ (b : HasMoved n start r place new link.to).
     kept_at link.gap new_from new_to from.num (place.num +ℤ (on *ℤ pos place.den)) from.den place.den (ap (λ (p : Fraction). p.num) a.same) (ap (λ (p : Fraction). p.den) a.same) b.new_num b.new_den
@@ -261,8 +261,8 @@ new_kept n start r best place new move j h =
     (kept_from link.gap from to from.num (first.num +ℤ (on *ℤ pos first.den)) from.den first.den refl refl b.old_num b.old_den kept)))
     (λ (b : HasStayed n r new link.to).
     kept_at link.gap new_from new_to from.num to.num from.den to.den (ap (λ (p : Fraction). p.num) a.same) (ap (λ (p : Fraction). p.den) a.same) (ap (λ (p : Fraction). p.num) b.same) (ap (λ (p : Fraction). p.den) b.same) kept)
-    (node_cases n start r best place new move link.to ends.to))
-    (node_cases n start r best place new move link.from ends.from)
+    (node_cases n start r best place new move link.to (omega (arith, ends.to))))
+    (node_cases n start r best place new move link.from (omega (arith, ends.from)))
 
 -- the place is at most the mean
 within_mean : (w m top best : ℤ) (other den : ℕ) → pos 0 ≤ℤ w → 0 < den → (w *ℤ best) +ℤ (pos den *ℤ m) ≡ pos 0 → (top *ℤ pos den) ≤ℤ (best *ℤ pos other) → ((w *ℤ top) +ℤ (pos other *ℤ m)) ≤ℤ pos 0

@@ -65,7 +65,7 @@ contact_of n r link =
 abbrev pub LeavesRoom : Network → Reach → Fraction → Link → Type 0
 LeavesRoom n r place link = LeadsOut r link → IsNotBeyond place (contact_of n r link)
 
--- the link leads out, and is tight where the start stands at the place
+-- the link leads out, and the place is an aim at which it is tight
 pub record IsContact (n : Network) (start : ℕ) (r : Reach) (link : Link) (place : Fraction) : Type 0 where
   pub out : LeadsOut r link
   pub is : place ≡ contact_of n r link

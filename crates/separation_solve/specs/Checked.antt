@@ -36,13 +36,14 @@ pub record IsMet (least most m : ℤ) : Type 0 where
   pub ordered : least ≤ℤ most
   pub tight : m ≢ pos 0 → least ≡ most
 
--- the item stands at a fraction within its limits, and the multipliers of its limits are 0 unless it stands there
+-- the item stands at a fraction within its limits that is not too large, and a limit's multiplier is 0 unless it stands at that limit
 pub record KeepsLimits (item : Item) (den : ℕ) (place low high : ℤ) : Type 0 where
   pub positive : 0 < den
   pub within : IsWithinLimits item den place
   pub small : IsSmall place
   pub tight : IsLimitTight item den place low high
 
+-- the item at the place keeps its limits in the solution
 abbrev pub KeepsLimitsAt : Bundle → Solution → ℕ → Type 0
 KeepsLimitsAt b s i = KeepsLimits (item_at b.items.items i) (slice_index s.den.items i) (int_at s.pos.items i) (int_at s.low.items i) (int_at s.high.items i)
 
@@ -51,6 +52,7 @@ pub record KeepsRule (gap : ℤ) (den : List ℕ) (place : List ℤ) (rule : Rul
   pub met : pos 0 ≤ℤ slack gap den place rule
   pub tight : IsRuleTight gap den place rule m
 
+-- the solution keeps the rule at the place
 abbrev pub KeepsRuleAt : Bundle → Solution → ℕ → Type 0
 KeepsRuleAt b s j = KeepsRule s.gap s.den.items s.pos.items (rule_at b.rules.items j) (int_at s.mult.items j)
 

@@ -67,17 +67,11 @@ total_flow zs = sum_below (length zs) (int_at zs)
 abbrev pub most_force : ℕ
 most_force = 92480000000000000000000000000
 
--- two nodes, of which one may be the wall, and a gap of the sheet's size at most
-pub record IsLink (items : ℕ) (link : Link) : Type 0 where
-  pub from : link.from ≤ items
-  pub to : link.to ≤ items
-  pub apart : link.from ≢ link.to
-  pub gap : IsCoordinate link.gap
-
--- the link joins two of so many nodes, with a gap of the sheet's size at most
-pub record JoinsNodes (nodes : ℕ) (link : Link) : Type 0 where
+-- two different nodes of so many, and a gap that is a coordinate
+pub record IsLink (nodes : ℕ) (link : Link) : Type 0 where
   pub from : link.from < nodes
   pub to : link.to < nodes
+  pub apart : link.from ≢ link.to
   pub gap : IsCoordinate link.gap
 
 -- the index stands in the lists of both nodes of its link
@@ -117,7 +111,7 @@ pub record IsFrame (n : Network) : Type 0 where
   pub light : All (λ w. w ≤ 4) n.weights.items
   pub heavy : All (λ w. 1 ≤ w) n.weights.items
   pub wants : All IsCoordinate n.wants.items
-  pub links : EachIndex n.links.items (λ j. IsLink (items_of n) (link_at n.links.items j))
+  pub links : EachIndex n.links.items (λ j. IsLink (items_of n + 1) (link_at n.links.items j))
   pub limited : EachIndex n.wants.items (IsLimited (items_of n) n.links.items)
 
 -- a fraction of the sheet in lowest terms, with a denominator that is not too large

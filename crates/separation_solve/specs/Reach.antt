@@ -9,9 +9,13 @@ use Rattle.separation_solve.specs.declared.reach.Outcome.TheVariants.{Target, Bl
 use Rattle.separation_solve.specs.Bundle.{int_at}
 use Rattle.separation_solve.specs.Network.{IsTight, items_of, link_at, place_at}
 
--- the step at the index; past the end, one at the first node
+-- what is read past the last step: one at the first node
+abbrev pub no_step : Step
+no_step = record { node = 0; via = None; offset = pos 0; room = pos 0 }
+
+-- the step at the index
 abbrev pub step_at : List Step → ℕ → Step
-step_at steps k = slice_index_or steps k (record { node = 0; via = None; offset = pos 0; room = pos 0 })
+step_at steps k = slice_index_or steps k no_step
 
 -- the node's step; past the last node, none
 abbrev pub found_at : List (Option ℕ) → ℕ → Option ℕ

@@ -15,7 +15,8 @@ impl Network {
         ensures sound { IsSound self.new }
         ensures same { IsSameBundle self.old self.new }
         ensures places { upright_places self.new ≡ upright_places self.old }
-        ensures found { IfOk result (λ found. MatchOption found (All (λ z. z ≡ pos 0) self.new.excess.items)
+        ensures found { IfOk result (λ found. MatchOption found
+            (All (λ z. z ≡ pos 0) self.new.excess.items)
             (λ block. IsBlock self.new (start_of block) block)) }
     {
         while let Some(start) = self.next_start() {
@@ -48,7 +49,8 @@ impl Network {
     /// The first item with a deficit, which wants to go right, in the order in which rules go forward.
     fn first_deficit(&self) -> Option<usize>
         ensures { MatchOption result (All (λ z. pos 0 ≤ℤ z) self.now.excess.items)
-            (λ start. (start < length self.now.excess.items) × (int_at self.now.excess.items start <ℤ pos 0)) }
+            (λ start. (start < length self.now.excess.items)
+            × (int_at self.now.excess.items start <ℤ pos 0)) }
     {
         if self.mirrored {
             self.excess.iter().rposition(|excess| *excess < 0)

@@ -1,4 +1,4 @@
-ghost use Rattle.std.specs.Prelude.{◌≡◌, ◌^◌, ◌+◌, ◌<◌, ℤ, pos, ◌+ℤ◌, ◌-ℤ◌, ◌≤ℤ◌, ◌<ℤ◌, IsTrue, ◌↔◌, All, EachIndex, MatchOption, length, slice_index};
+ghost use Rattle.std.specs.Prelude.{◌≡◌, ◌^◌, ◌+◌, ◌<◌, pos, ◌+ℤ◌, ◌-ℤ◌, ◌≤ℤ◌, ◌<ℤ◌, IsTrue, ◌↔◌, All, EachIndex, MatchOption, length, slice_index};
 ghost use Rattle.std.specs.Ordering.{MatchOrdering};
 ghost use Rattle.separation_solve.specs.Bundle.{IsBundle, IsItem, int_at, slack};
 ghost use Rattle.separation_solve.specs.Certified.{IsAccepted, from_left, from_right};
@@ -11,8 +11,8 @@ use crate::displacement::{numerator_over, weighted_displacement};
 use crate::place::Place;
 use std::cmp::Ordering;
 
-/// The most that a number of a solution may be.
-const MOST_NUMBER: i128 = 1 << 100;
+/// The most that a multiplier may be.
+const MOST_MULTIPLIER: i128 = 1 << 100;
 
 /// The most that the multipliers of one item may be together.
 const MOST_TOGETHER: i128 = 1 << 126;
@@ -66,7 +66,7 @@ fn has_lengths(bundle: &Bundle, solution: &Solution) -> bool
 fn are_multipliers(multipliers: &[i128]) -> bool
     ensures { IsTrue result ↔ All IsMultiplier multipliers.now }
 {
-    multipliers.iter().all(|m| 0 <= *m && *m <= MOST_NUMBER)
+    multipliers.iter().all(|m| 0 <= *m && *m <= MOST_MULTIPLIER)
 }
 
 /// Whether the one is at most the other, and equal to it where the multiplier is not 0.
@@ -161,7 +161,8 @@ impl Solution {
         requires right_place { IsOnSheetAt self.now rule.now.right }
         requires gap_low { pos 0 ≤ℤ self.now.gap }
         requires gap_high { self.now.gap ≤ℤ pos 1000000 }
-        ensures { IsTrue result ↔ KeepsRule self.now.gap self.now.den.items self.now.pos.items rule.now multiplier }
+        ensures { IsTrue result ↔
+            KeepsRule self.now.gap self.now.den.items self.now.pos.items rule.now multiplier }
     {
         match self.compare_to_rule(rule) {
             Ordering::Less => false,
@@ -212,7 +213,8 @@ fn push_of(rules: &[Rule], multipliers: &[i128], item: usize) -> Option<Push>
     requires multipliers { All IsMultiplier multipliers.now }
     ensures { let left = from_left item rules.now multipliers.now in
         let right = from_right item rules.now multipliers.now in
-        MatchOption result (pos (2 ^ 126) <ℤ (left +ℤ right)) (λ push. IsPush left right push.from_left push.from_right) }
+        MatchOption result (pos (2 ^ 126) <ℤ (left +ℤ right))
+        (λ push. IsPush left right push.from_left push.from_right) }
 {
     let mut push = Push {
         from_left: 0,
@@ -233,7 +235,8 @@ fn balances(displacement: i128, rightward: i128, leftward: i128) -> bool
     requires rightward { pos 0 ≤ℤ rightward }
     requires leftward { pos 0 ≤ℤ leftward }
     requires together { (rightward +ℤ leftward) ≤ℤ pos (2 ^ 126 + 2 ^ 101) }
-    ensures { IsTrue result ↔ ((rightward +ℤ leftward) ≤ℤ pos (2 ^ 126)) × (displacement ≡ rightward -ℤ leftward) }
+    ensures { IsTrue result ↔
+        ((rightward +ℤ leftward) ≤ℤ pos (2 ^ 126)) × (displacement ≡ rightward -ℤ leftward) }
 {
     rightward + leftward <= MOST_TOGETHER && displacement == rightward - leftward
 }

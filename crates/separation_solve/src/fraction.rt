@@ -1,4 +1,4 @@
-ghost use Rattle.std.specs.Prelude.{◌≡◌, ◌↔◌, IsTrue, ℤ, pos, ◌+ℤ◌, ◌*ℤ◌, ◌<ℤ◌, ◌<◌, ◌≤◌, ◌⊎◌, unsigned_abs};
+ghost use Rattle.std.specs.Prelude.{◌≡◌, ◌↔◌, IsTrue, pos, ◌+ℤ◌, ◌*ℤ◌, ◌<ℤ◌, ◌<◌, ◌≤◌, ◌⊎◌, unsigned_abs};
 ghost use Rattle.separation_solve.specs.Reduced.{IsGreatestDivisor, IsReduced, IsWithin};
 
 /// A fraction of a thousandth, in lowest terms.
@@ -73,7 +73,7 @@ impl Fraction {
     }
 
     /// Whether this fraction is less than the other one.
-    pub fn is_below(self, other: Fraction) -> bool
+    fn is_below(self, other: Fraction) -> bool
         requires light { IsLight self }
         requires other_light { IsLight other }
         ensures { IsTrue result ↔ ((self.num *ℤ pos other.den) <ℤ (other.num *ℤ pos self.den)) }

@@ -37,7 +37,8 @@ fn halfway(met: i64, unmet: i64) -> i64
 
 /// The largest gap, in whole thousandths from 0 to the wanted one, for which some positions meet all rules and limits.
 ///
-/// By bisection: at most twenty passes over items and rules, and the rules are sorted once.
+/// By bisection: at most twenty passes over items and rules, and the rules are sorted once. The only error is want of
+/// memory.
 pub fn widest_gap(alloc: Global, bundle: &Bundle) -> Result<i64, AllocError>
     requires { IsBundle bundle.now }
     ensures { IfOk result (IsWidestGap bundle.now) }

@@ -37,7 +37,8 @@ pub(crate) fn latest(
     requires sorted { IsNonDecreasingBy (λ rule. rule.left) by_left.now }
     requires gap_low { pos 0 ≤ℤ gap }
     requires gap_high { gap ≤ℤ pos 1000000 }
-    ensures { IfOk result (λ found. MatchOption found (HasNoRoom bundle.now gap) (λ places. IsLatest bundle.now gap places.items)) }
+    ensures { IfOk result (λ found. MatchOption found (HasNoRoom bundle.now gap)
+        (λ places. IsLatest bundle.now gap places.items)) }
 {
     let mut places = upper_limits(alloc, &bundle.items)?;
     for j in (0..by_left.len()).rev() {

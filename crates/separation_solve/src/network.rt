@@ -68,7 +68,7 @@ impl Network {
         Ok(network)
     }
 
-    /// The place of the node that is no item.
+    /// The index of the wall.
     pub fn wall(&self) -> usize
         ensures { result ≡ items_of self.now }
     {
@@ -115,7 +115,8 @@ fn push_rules(links: &mut Vec<Link>, rules: &[Rule], gap: i64) -> Result<(), All
 
 fn push_lower_limits(links: &mut Vec<Link>, items: &[Item]) -> Result<(), AllocError>
     requires { All IsItem items.now }
-    ensures { OnOk result (links.new.items ≡ links.old.items ++ lower_links (length items.now) 0 items.now) }
+    ensures { OnOk result (links.new.items
+        ≡ links.old.items ++ lower_links (length items.now) 0 items.now) }
 {
     let wall = items.len();
     for (index, item) in items.iter().enumerate() {
@@ -130,7 +131,8 @@ fn push_lower_limits(links: &mut Vec<Link>, items: &[Item]) -> Result<(), AllocE
 
 fn push_upper_limits(links: &mut Vec<Link>, items: &[Item]) -> Result<(), AllocError>
     requires { All IsItem items.now }
-    ensures { OnOk result (links.new.items ≡ links.old.items ++ upper_links (length items.now) 0 items.now) }
+    ensures { OnOk result (links.new.items
+        ≡ links.old.items ++ upper_links (length items.now) 0 items.now) }
 {
     let wall = items.len();
     for (index, item) in items.iter().enumerate() {

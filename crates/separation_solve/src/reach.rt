@@ -90,7 +90,8 @@ impl Reach {
         requires parent { parent < length self.old.steps.items }
         ensures reach { OnOk result (IsReach network.now (start_of self.old) self.new) }
         ensures keeps { OnOk result (KeepsSteps self.old self.new) }
-        ensures adds { OnOk result (AddsLeads network.now (step_at self.old.steps.items parent).node self.new) }
+        ensures adds { OnOk result
+            (AddsLeads network.now (step_at self.old.steps.items parent).node self.new) }
     {
         let step = self.steps[parent];
         for link in &network.tight[step.node] {
@@ -104,7 +105,8 @@ impl Reach {
     /// Adds the step, unless its node was reached before.
     fn add(&mut self, step: Step) -> Result<(), AllocError>
         requires { step.node < length self.old.found.items }
-        ensures reach { OnOk result ((n : Network) → IsReach n (start_of self.old) self.old → IsFollowing n self.old step → IsReach n (start_of self.old) self.new) }
+        ensures reach { OnOk result ((n : Network) → IsReach n (start_of self.old) self.old →
+            IsFollowing n self.old step → IsReach n (start_of self.old) self.new) }
         ensures keeps { OnOk result (KeepsSteps self.old self.new) }
         ensures added { OnOk result (IsSome (found_at self.new.found.items step.node)) }
     {
@@ -132,7 +134,8 @@ impl Network {
         requires sound { IsSound self.now }
         requires link { IsTightAt self.now.places.items self.now.links.items index }
         requires step { (start : ℕ) × IsStep self.now start step }
-        ensures { MatchOption result (IsNoLead self.now index step.node) (IsLedTo self.now index parent step) }
+        ensures { MatchOption result (IsNoLead self.now index step.node)
+            (IsLedTo self.now index parent step) }
     {
         let link = self.links[index];
         let via = Some(Via {

@@ -39,7 +39,8 @@ impl Network {
         requires sound { IsSound self.old }
         requires block { IsBlock self.old (start_of block.now) block.now }
         ensures sound { OnOk result (IsSound self.new) }
-        ensures falls { OnOk result (unsigned_abs (objective self.new) < unsigned_abs (objective self.old)) }
+        ensures falls { OnOk result
+            (unsigned_abs (objective self.new) < unsigned_abs (objective self.old)) }
         ensures bundle { KeepsBundle self.old self.new }
     {
         let best = self.best_place(block);
@@ -69,14 +70,15 @@ impl Network {
         Fraction::ratio(moment, weight)
     }
 
-    /// The first place of the start, up to the best one, at which a link to a node outside is tight.
+    /// The first place of the start at which a link to a node outside is tight, but the best one if that comes first.
     fn first_contact(&self, block: &Reach, best: Fraction) -> Fraction
         requires sound { IsSound self.now }
         requires block { IsBlock self.now (start_of block.now) block.now }
         requires best { IsAim self.now (start_of block.now) best }
         ensures aim { IsAim self.now (start_of block.now) result }
         ensures not_beyond { IsNotBeyond result best }
-        ensures room { EachIndex self.now.links.items (λ j. LeavesRoom self.now block.now result (link_at self.now.links.items j)) }
+        ensures room { EachIndex self.now.links.items (λ j.
+            LeavesRoom self.now block.now result (link_at self.now.links.items j)) }
     {
         let mut place = best;
         for index in 0..self.links.len() {
@@ -93,7 +95,8 @@ impl Network {
         requires block { IsBlock self.now (start_of block.now) block.now }
         requires link { index < length self.now.links.items }
         ensures { MatchOption result (¬ LeadsOut block.now (link_at self.now.links.items index))
-            (λ contact. IsContact self.now (start_of block.now) block.now (link_at self.now.links.items index) contact) }
+            (λ contact. IsContact self.now (start_of block.now) block.now
+            (link_at self.now.links.items index) contact) }
     {
         let link = self.links[index];
         let offset = block.offset(link.from)?;
@@ -108,7 +111,8 @@ impl Network {
         requires sound { IsSound self.old }
         requires reach { IsReach self.old (start_of block.now) block.now }
         requires light { IsLight place }
-        ensures placed { PlacesBlock self.old.places.items (items_of self.old) block.now place self.new.places.items }
+        ensures placed { PlacesBlock self.old.places.items (items_of self.old) block.now place
+            self.new.places.items }
         ensures rest { ChangesPlaces self.old self.new }
     {
         for item in 0..self.wants.len() {

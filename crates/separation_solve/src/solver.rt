@@ -9,7 +9,8 @@ use crate::fraction::Fraction;
 use crate::network::Network;
 use std::alloc::{AllocError, Global};
 
-/// The least positions of the bundle for the gap, with multipliers that show it.
+/// The least positions of the bundle for a gap in thousandths, from 0 to the widest, with multipliers that show it.
+/// The only error is want of memory.
 ///
 /// The multipliers are a flow along rules and limits that stand tight. It is pushed along paths (Ford and Fulkerson,
 /// "Maximal flow through a network", 1956) from the items that want to go right, until each item is balanced or some

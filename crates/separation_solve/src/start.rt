@@ -14,7 +14,8 @@ use std::alloc::{AllocError, Global};
 
 /// Whole places that meet the bundle with the gap, and last the wall's.
 ///
-/// Each item stands at its want, or as little to the right of it as the rules let it, but never right of its latest place.
+/// Each item stands at its want, or as little to the right of it as the rules let it, but never right of its latest
+/// place.
 pub fn start_places(alloc: Global, bundle: &Bundle, gap: i64) -> Result<Vec<Fraction>, AllocError>
     requires bundle { IsBundle bundle.now }
     requires gap { IsGap bundle.now gap }
@@ -54,7 +55,8 @@ fn press_on(places: &mut [i64], by_left: &[Rule], gap: i64)
 /// Draws each item back to its latest place, if it stands to the right of it.
 fn draw_back(places: &mut [i64], latest: &[i64])
     requires { length places.old ≡ length latest.now }
-    ensures { EachIndex latest.now (λ i. int_at places.new i ≡ int_min (int_at latest.now i) (int_at places.old i)) }
+    ensures { EachIndex latest.now (λ i.
+        int_at places.new i ≡ int_min (int_at latest.now i) (int_at places.old i)) }
 {
     for index in 0..places.len() {
         if latest[index] < places[index] {

@@ -76,7 +76,7 @@ fn item(want: i16, below: u16, above: u16, heavy: bool) -> Item
     }
 }
 
-/// The solution with these positions over the denominators, and the multiplier of the rule.
+/// Two positions over one denominator, with the multipliers of the rule and of the limits.
 fn solution(
     alloc: Global,
     gap: i64,

@@ -1,5 +1,5 @@
 ghost use Rattle.std.specs.Prelude.{◌≡◌, ◌↔◌, IsTrue, OnOk, [], All, length};
-ghost use Rattle.separation_solve.specs.Network.{AreKept, IsFrame, IsSpot, IsTight, JoinsNodes, KeepsBundle, ListsTight};
+ghost use Rattle.separation_solve.specs.Network.{AreKept, IsFrame, IsLink, IsSpot, IsTight, KeepsBundle, ListsTight};
 
 use crate::fraction::Fraction;
 use crate::network::{Link, Network};
@@ -9,7 +9,7 @@ impl Link {
     /// Whether its nodes stand exactly its gap apart.
     fn is_tight(self, places: &[Fraction]) -> bool
         requires spots { All IsSpot places.now }
-        requires link { JoinsNodes (length places.now) self }
+        requires link { IsLink (length places.now) self }
         ensures { IsTrue result ↔ IsTight places.now self }
     {
         let from = places[self.from];
@@ -34,7 +34,7 @@ fn list_tight(
     links: &[Link],
 ) -> Result<(), AllocError>
     requires spots { All IsSpot places.now }
-    requires links { All (JoinsNodes (length places.now)) links.now }
+    requires links { All (IsLink (length places.now)) links.now }
     requires count { length lists.old ≡ length places.now }
     requires empty { All (λ list. list.items ≡ []) lists.old }
     ensures count { OnOk result (length lists.new ≡ length lists.old) }
@@ -56,7 +56,8 @@ impl Network {
         requires kept { AreKept self.old }
         ensures frame { OnOk result (IsFrame self.new) }
         ensures kept { AreKept self.new }
-        ensures tight { OnOk result (ListsTight self.new.places.items self.new.links.items self.new.tight.items) }
+        ensures tight { OnOk result
+            (ListsTight self.new.places.items self.new.links.items self.new.tight.items) }
         ensures bundle { KeepsBundle self.old self.new }
         ensures places { self.new.places ≡ self.old.places }
     {

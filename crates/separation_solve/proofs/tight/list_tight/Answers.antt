@@ -1,6 +1,6 @@
 use Rattle.std.proofs.Common.{◌<◌, length, set, arith, sym, ◌∙◌, true≢false}
 use Rattle.std.proofs.lemmas.List.Elements.{All-get_or}
-use Rattle.separation_solve.specs.Network.{IsTightAt, JoinsNodes, link_at, no_link}
+use Rattle.separation_solve.specs.Network.{IsTightAt, IsLink, link_at, no_link}
 use Rattle.separation_solve.proofs.Listing.{added, listing_kept, listing_more, listing_none}
 use Rattle.separation_solve.proofs.tight.list_tight.Goals as goal
 use Rattle.separation_solve.proofs.tight.list_tight.Goals.{then-is_tight+in_ok-push+in_ok-push-2, else-is_tight}
@@ -18,7 +18,7 @@ loop-index-preserved c =
     let so = c.loop-index.invariant in
     let h : j < length links = c.loop-index-test.true in
     let link = link_at links j in
-    let joins = All-get_or (JoinsNodes (length places)) links j no_link h c.requires.links in
+    let joins = All-get_or (IsLink (length places)) links j no_link h c.requires.links in
     let P = IsTightAt places links in
     elim c.if-is_tight.branch [
       | then-is_tight+in_ok-push+in_ok-push-2 w ↦
