@@ -3,7 +3,7 @@ use Rattle.std.proofs.Common.{◌≡◌, ◌≢◌, ℕ, ◌+◌, ◌^◌, ◌<�
 use mir.Syntax.{w128}
 use Rattle.std.proofs.lemmas.Bool.{cases_eq, cases_lt}
 use Rattle.std.proofs.lemmas.Int.{ints, fits_signed_from_abs}
-use Rattle.std.proofs.lemmas.List.{get_or-replicate, get_or_past, length-replicate}
+use Rattle.std.proofs.lemmas.List.{ext_get_or, get_or-replicate, get_or_past, length-replicate}
 use Rattle.std.proofs.lemmas.List.Folds.{sum_by-replicate}
 use Rattle.std.proofs.lemmas.List.Sums.{sum_by-set}
 use Rattle.std.proofs.lemmas.Option.{none-some}
@@ -13,9 +13,9 @@ use Rattle.separation_solve.specs.declared.network.Network.{Network}
 use Rattle.separation_solve.specs.declared.reach.Reach.{Reach}
 use Rattle.separation_solve.specs.declared.reach.Step.{Step}
 use Rattle.separation_solve.specs.Network.{IsSound, items_of, place_at}
-use Rattle.separation_solve.specs.Reach.{IsReach, IsStep, StandsAt, found_at, not_found, step_at}
+use Rattle.separation_solve.specs.Reach.{IsReach, IsStep, IsTable, StandsAt, found_at, not_found, step_at}
 use Rattle.separation_solve.proofs.Leads.{excess_size}
-use Rattle.separation_solve.proofs.Optional.{match_none}
+use Rattle.separation_solve.proofs.Optional.{match_none, none_if_not_some}
 
 -- nothing found yet
 abbrev pub blank : ℕ → List (Option ℕ)
@@ -89,3 +89,19 @@ reach_new n start r first sound item short node via offset room steps_are found_
           let lens = ap length found_are ∙ length-set empty start (Some 0) ∙ length-blank (items_of n + 1) in
           omega (arith, ap length steps_are, change, one, total, lens, sum_by-replicate not_found (items_of n + 1) None);
     }
+
+-- the first steps' nodes have been cleared: the table gives the others what it gave
+pub record IsClearing (old now : Reach) (k : ℕ) : Type 0 where
+  pub steps : now.steps ≡ old.steps
+  pub count : length now.found.items ≡ length old.found.items
+  pub left : (i s : ℕ) → found_at now.found.items i ≡ Some s → (found_at old.found.items i ≡ Some s) × (k ≤ s)
+
+pub cleared : (old now : Reach) (k : ℕ) → IsTable (length old.found.items) old → IsClearing old now k → length old.steps.items ≤ k → now.found.items ≡ blank (length old.found.items)
+cleared old now k table so done =
+    let n = length old.found.items in
+    ext_get_or None now.found.items (blank n) (so.count ∙ sym (length-blank n)) (λ i h.
+    none_if_not_some (found_at now.found.items i) (λ s e. let was = so.left i s e in absurd (omega (arith, (table.found i s was.0).0, was.1, done))) ∙ sym (blank_at n i))
+
+-- the table for as many nodes
+pub table_for : (a b : ℕ) (r : Reach) → IsTable a r → a ≡ b → IsTable b r
+table_for a b r table e = subst (λ k. IsTable k r) e table

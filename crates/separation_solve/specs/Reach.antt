@@ -4,8 +4,6 @@ use Rattle.separation_solve.specs.declared.fraction.Fraction.{Fraction}
 use Rattle.separation_solve.specs.declared.network.Network.{Network}
 use Rattle.separation_solve.specs.declared.reach.Step.{Step}
 use Rattle.separation_solve.specs.declared.reach.Reach.{Reach}
-use Rattle.separation_solve.specs.declared.reach.Outcome.{Outcome}
-use Rattle.separation_solve.specs.declared.reach.Outcome.TheVariants.{Target, Block}
 use Rattle.separation_solve.specs.Bundle.{int_at}
 use Rattle.separation_solve.specs.Network.{IsTight, items_of, link_at, place_at}
 
@@ -71,6 +69,12 @@ pub record IsReach (n : Network) (start : ℕ) (r : Reach) : Type 0 where
   pub found : (i k : ℕ) → found_at r.found.items i ≡ Some k → (k < length r.steps.items) × ((step_at r.steps.items k).node ≡ i)
   pub count : length r.steps.items + sum_by not_found r.found.items ≡ length r.found.items
 
+-- the step that the table gives a node, if any, is one of the steps and stands at the node
+pub record IsTable (count : ℕ) (r : Reach) : Type 0 where
+  pub nodes : length r.found.items ≡ count
+  pub steps : EachIndex r.steps.items (λ k. (step_at r.steps.items k).node < count)
+  pub found : (i k : ℕ) → found_at r.found.items i ≡ Some k → (k < length r.steps.items) × ((step_at r.steps.items k).node ≡ i)
+
 -- the node of the first step
 abbrev pub start_of : Reach → ℕ
 start_of r = (step_at r.steps.items 0).node
@@ -115,8 +119,3 @@ pub record IsWay (n : Network) (start : ℕ) (r : Reach) (k : ℕ) : Type 0 wher
   pub reach : IsReach n start r
   pub target : k < length r.steps.items
   pub takes : TakesFlow n (step_at r.steps.items k).node
-
--- what a search comes to
-abbrev pub IsOutcome : Network → Outcome → Type 0
-IsOutcome n (Target r target) = IsWay n (start_of r) r target
-IsOutcome n (Block r) = IsBlock n (start_of r) r

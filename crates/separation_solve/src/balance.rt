@@ -2,7 +2,7 @@ ghost use Rattle.std.specs.Prelude.{◌≡◌, ◌<◌, pos, ◌≤ℤ◌, ◌<�
 ghost use Rattle.separation_solve.specs.Bundle.{int_at};
 
 use crate::network::Network;
-use crate::reach::{Outcome, Reach, search};
+use crate::reach::Reach;
 use std::alloc::{AllocError, Global};
 
 impl Network {
@@ -19,10 +19,11 @@ impl Network {
             (All (λ z. z ≡ pos 0) self.new.excess.items)
             (λ block. IsBlock self.new (start_of block) block)) }
     {
+        let mut reach = Reach::new(alloc, self.places.len())?;
         while let Some(start) = self.next_start() {
-            match search(alloc, self, start)? {
-                Outcome::Target(reach, target) => self.push(&reach, target),
-                Outcome::Block(block) => return Ok(Some(block)),
+            match reach.search(self, start)? {
+                Some(target) => self.push(&reach, target),
+                None => return Ok(Some(reach)),
             }
         }
         Ok(None)

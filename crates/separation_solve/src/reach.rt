@@ -1,7 +1,7 @@
-ghost use Rattle.std.specs.Prelude.{◌↔◌, ℕ, ◌<◌, ◌≤◌, pos, ◌<ℤ◌, IsTrue, IfOk, OnOk, MatchOption, IsSome, Some, length};
+ghost use Rattle.std.specs.Prelude.{◌≡◌, ◌↔◌, ℕ, ◌+◌, ◌<◌, ◌≤◌, pos, ◌<ℤ◌, IsTrue, IfOk, OnOk, MatchOption, IsSome, Some, None, [], replicate, length};
 ghost use Rattle.separation_solve.specs.Bundle.{int_at};
 ghost use Rattle.separation_solve.specs.Network.{IsSound, IsTightAt, items_of};
-ghost use Rattle.separation_solve.specs.Reach.{AddsLeads, IsFollowing, IsLedTo, IsNoLead, IsOutcome, IsReach, IsStep, KeepsSteps, TakesFlow, found_at, start_of, step_at};
+ghost use Rattle.separation_solve.specs.Reach.{AddsLeads, IsFollowing, IsLedTo, IsBlock, IsNoLead, IsReach, IsStep, IsTable, IsWay, KeepsSteps, TakesFlow, found_at, start_of, step_at};
 
 use crate::network::Network;
 use std::alloc::{AllocError, Global};
@@ -33,54 +33,72 @@ pub struct Reach {
     pub found: Vec<Option<usize>>,
 }
 
-/// What a search for a node that takes flow came to.
-#[derive(Drop)]
-pub enum Outcome {
-    /// The node of this step takes flow.
-    Target(Reach, usize),
-    /// No node that can be reached does.
-    Block(Reach),
-}
-
-/// Looks, breadth first, for a node that takes flow from the start.
-pub fn search(alloc: Global, network: &Network, start: usize) -> Result<Outcome, AllocError>
-    requires sound { IsSound network.now }
-    requires item { start < items_of network.now }
-    requires short { int_at network.now.excess.items start <ℤ pos 0 }
-    ensures { IfOk result (IsOutcome network.now) }
-{
-    let mut reach = Reach::new(alloc, network, start)?;
-    let mut next = 0;
-    while next < reach.steps.len() {
-        if network.takes_flow(reach.steps[next].node) {
-            return Ok(Outcome::Target(reach, next));
-        }
-        reach.extend(network, next)?;
-        next += 1;
-    }
-    Ok(Outcome::Block(reach))
-}
-
 impl Reach {
     ghost use Rattle.separation_solve.specs.declared.network.Network.{Network};
 
-    /// The start alone.
-    fn new(alloc: Global, network: &Network, start: usize) -> Result<Reach, AllocError>
+    /// No steps yet, for so many nodes.
+    pub fn new(alloc: Global, nodes: usize) -> Result<Reach, AllocError>
+        ensures { IfOk result (IsTable nodes) }
+    {
+        Ok(Reach {
+            steps: Vec::new(alloc),
+            found: vec![in alloc; None; nodes]?,
+        })
+    }
+
+    /// Looks, breadth first, for a node that takes flow from the start, and answers the index of its step. Where no
+    /// node that can be reached takes any, the answer is none, and the steps are a block.
+    pub fn search(&mut self, network: &Network, start: usize) -> Result<Option<usize>, AllocError>
         requires sound { IsSound network.now }
         requires item { start < items_of network.now }
         requires short { int_at network.now.excess.items start <ℤ pos 0 }
-        ensures { IfOk result (IsReach network.now start) }
+        requires table { IsTable (items_of network.now + 1) self.old }
+        ensures { IfOk result (λ target. MatchOption target
+            (IsBlock network.now (start_of self.new) self.new)
+            (IsWay network.now (start_of self.new) self.new)) }
     {
-        let mut found = vec![in alloc; None; network.places.len()]?;
-        found[start] = Some(0);
-        let first = Step {
+        self.begin(network, start)?;
+        let mut next = 0;
+        while next < self.steps.len() {
+            if network.takes_flow(self.steps[next].node) {
+                return Ok(Some(next));
+            }
+            self.extend(network, next)?;
+            next += 1;
+        }
+        Ok(None)
+    }
+
+    /// Takes all earlier steps away, and begins at the start.
+    fn begin(&mut self, network: &Network, start: usize) -> Result<(), AllocError>
+        requires sound { IsSound network.now }
+        requires item { start < items_of network.now }
+        requires short { int_at network.now.excess.items start <ℤ pos 0 }
+        requires table { IsTable (items_of network.now + 1) self.old }
+        ensures { OnOk result (IsReach network.now start self.new) }
+    {
+        self.clear();
+        self.steps.push(Step {
             node: start,
             via: None,
             offset: 0,
             room: -network.excess[start],
-        };
-        let steps = vec![in alloc; first]?;
-        Ok(Reach { steps, found })
+        })?;
+        self.found[start] = Some(0);
+        Ok(())
+    }
+
+    /// Takes all steps away, in the time that it took to add them.
+    fn clear(&mut self)
+        requires { IsTable (length self.old.found.items) self.old }
+        ensures steps { self.new.steps.items ≡ [] }
+        ensures found { self.new.found.items ≡ replicate (length self.old.found.items) None }
+    {
+        for index in 0..self.steps.len() {
+            let node = self.steps[index].node;
+            self.found[node] = None;
+        }
+        self.steps.clear();
     }
 
     /// Adds the nodes to which flow can go from the step's.

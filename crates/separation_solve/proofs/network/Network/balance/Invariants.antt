@@ -1,5 +1,6 @@
-use Rattle.std.proofs.Common.{◌≡◌, unsigned_abs}
-use Rattle.separation_solve.specs.Network.{IsSameBundle, IsSound, total_size, upright_places}
+use Rattle.std.proofs.Common.{◌≡◌, ◌+◌, unsigned_abs}
+use Rattle.separation_solve.specs.Network.{IsSameBundle, IsSound, items_of, total_size, upright_places}
+use Rattle.separation_solve.specs.Reach.{IsTable}
 use Rattle.separation_solve.proofs.network.Network.balance.Given as goal
 
 abbrev pub invariant-loop-start : goal.invariant-loop-start
@@ -7,6 +8,7 @@ invariant-loop-start l = record {
   sound : IsSound l.self;
   same : IsSameBundle l.fn.self l.self;
   places : upright_places l.self ≡ upright_places l.fn.self;
+  table : IsTable (items_of l.self + 1) l.reach;
 }
 
 abbrev pub decreases-loop-start : goal.decreases-loop-start

@@ -3,11 +3,11 @@ use Rattle.separation_solve.specs.Network.{items_of}
 use Rattle.separation_solve.specs.Reach.{IsReach, TakesFlow, start_of, step_at}
 use Rattle.separation_solve.proofs.Extending.{block_of, closed_more, takes_more}
 use Rattle.separation_solve.proofs.Reaches.{step_read}
-use Rattle.separation_solve.proofs.reach.search.Goals as goal
+use Rattle.separation_solve.proofs.reach.Reach.search.Goals as goal
 
 pub takes_flow-requires-clause-node : goal.takes_flow-requires-clause-node
 takes_flow-requires-clause-node c =
-    let r = c.loop-next.reach in
+    let r = c.loop-next.self in
     let inside : c.loop-next.next < length r.steps.items = omega (arith, c.len.ensures, c.loop-next-test.true) in
     let node : (step_at r.steps.items c.loop-next.next).node ≤ items_of c.args.network.now = (c.loop-next.invariant.reach.steps c.loop-next.next inside).node in
     omega (arith, node, ap (λ s. s.node) (step_read r c.loop-next.next c.index.result.now inside c.index.ensures))
@@ -15,7 +15,7 @@ takes_flow-requires-clause-node c =
 pub loop-next-preserved : goal.loop-next-preserved
 loop-next-preserved c =
     let n = c.args.network.now in
-    let r = c.loop-next.reach in
+    let r = c.loop-next.self in
     let s = c.extend.new.self in
     let was = c.loop-next.invariant in
     let i = c.loop-next.next in
@@ -32,7 +32,7 @@ loop-next-preserved c =
 pub returns : goal.returns
 returns c =
     let n = c.args.network.now in
-    let r = c.loop-next.reach in
+    let r = c.loop-next.self in
     let was = c.loop-next.invariant in
     let done : length r.steps.items ≤ c.loop-next.next = omega (arith, c.len.ensures, c.loop-next-test.false) in
     block_of n (start_of r) r (subst (λ m. IsReach n m r) (sym was.reach.first) was.reach) (λ k h. was.none_takes k (omega arith)) (λ k h. was.closed k (omega arith))

@@ -1,0 +1,5 @@
+use Rattle.separation_solve.proofs.Searching.{IsClearing}
+use Rattle.separation_solve.proofs.reach.Reach.clear.Given as goal
+
+abbrev pub invariant-loop-index : goal.invariant-loop-index
+invariant-loop-index l = IsClearing l.fn.self l.self l.index
