@@ -1,4 +1,4 @@
--- A search at its start.
+-- A search at its start, and how its table is cleared for it.
 use Rattle.std.proofs.Common.{◌≡◌, ◌≢◌, ℕ, ◌+◌, ◌^◌, ◌<◌, ◌≤◌, pos, ◌-ℤ◌, ◌<ℤ◌, FitsSigned, Option, Some, None, List, [], ◌∷◌, length, get_or, set, replicate, sum_by, arith, refl, ap, sym, subst, ◌∙◌, ⊎_elim, length-set, get_or-set_other, get_or-set_same, lit<}
 use mir.Syntax.{w128}
 use Rattle.std.proofs.lemmas.Bool.{cases_eq, cases_lt}
@@ -101,7 +101,3 @@ cleared old now k table so done =
     let n = length old.found.items in
     ext_get_or None now.found.items (blank n) (so.count ∙ sym (length-blank n)) (λ i h.
     none_if_not_some (found_at now.found.items i) (λ s e. let was = so.left i s e in absurd (omega (arith, (table.found i s was.0).0, was.1, done))) ∙ sym (blank_at n i))
-
--- the table for as many nodes
-pub table_for : (a b : ℕ) (r : Reach) → IsTable a r → a ≡ b → IsTable b r
-table_for a b r table e = subst (λ k. IsTable k r) e table

@@ -1,16 +1,16 @@
-use Rattle.std.proofs.Common.{◌+◌, length, arith, ap}
+use Rattle.std.proofs.Common.{◌≡◌, ◌+◌, length, arith, ap, subst}
 use Rattle.separation_solve.specs.Network.{items_of, total_size}
+use Rattle.separation_solve.specs.Reach.{IsTable}
 use Rattle.separation_solve.proofs.Balancing.{fewer}
 use Rattle.separation_solve.proofs.Leads.{total_size_sign}
-use Rattle.separation_solve.proofs.Searching.{table_for}
 use Rattle.separation_solve.proofs.network.Network.balance.Goals as goal
 
 pub search-requires-clause-table : goal.search-requires-clause-table
 search-requires-clause-table c =
     let was = c.loop-start.invariant in
     let now = c.in-Some.ensures in
-    table_for (items_of c.loop-start.self + 1) (items_of c.next_start.new.self + 1) c.loop-start.reach was.table
-    (omega (arith, was.sound.frame.weights, now.sound.frame.weights, ap length now.same.weights))
+    let items : items_of c.loop-start.self ≡ items_of c.next_start.new.self = omega (arith, was.sound.frame.weights, now.sound.frame.weights, ap length now.same.weights) in
+    subst (λ k. IsTable (k + 1) c.loop-start.reach) items was.table
 
 pub loop-start-smaller : goal.loop-start-smaller
 loop-start-smaller c =
