@@ -1,7 +1,7 @@
 pub mod Everywhere
 pub mod Before
 pub mod Placed
-pub mod Reaching
+pub mod GreatestEnds
 pub mod Heights
 pub mod AtNode
 pub mod Listed

@@ -1,20 +1,8 @@
 -- Where spans begin and end.
-use Rattle.std.specs.Prelude.{ℕ, Bool, cond, ◌&&◌, ℤ, pos, negsuc, ◌≤ℤ◌, int_lt, List, [], ◌∷◌, filter, map}
+use Rattle.std.specs.Prelude.{ℕ, Bool, cond, ◌&&◌, ℤ, int_lt, List, [], ◌∷◌, filter, map}
 use Rattle.std.specs.Int.{int_max}
+use Rattle.plane_geom.specs.Point.{sheet_start}
 use Rattle.interval_index.specs.declared.span.Span.{Span}
-
--- the least coordinate of the sheet
-abbrev pub sheet_start : ℤ
-sheet_start = negsuc 1999999999
-
--- the greatest coordinate of the sheet
-abbrev pub sheet_end : ℤ
-sheet_end = pos 2000000000
-
--- a coordinate of the sheet
-pub record IsCoordinate (z : ℤ) : Type 0 where
-  pub low : sheet_start ≤ℤ z
-  pub high : z ≤ℤ sheet_end
 
 -- the greatest end of the spans, or the start of the sheet
 abbrev pub greatest_end : List Span → ℤ
@@ -22,9 +10,9 @@ greatest_end [] = sheet_start
 greatest_end (s ∷ ss) = int_max s.hi (greatest_end ss)
 
 -- the greatest end of the spans that begin before the place, or the start of the sheet
-abbrev pub reach_before : ℤ → List Span → ℤ
-reach_before at [] = sheet_start
-reach_before at (s ∷ ss) = cond (int_lt s.lo at) (int_max s.hi (reach_before at ss)) (reach_before at ss)
+abbrev pub greatest_end_before : ℤ → List Span → ℤ
+greatest_end_before at [] = sheet_start
+greatest_end_before at (s ∷ ss) = cond (int_lt s.lo at) (int_max s.hi (greatest_end_before at ss)) (greatest_end_before at ss)
 
 -- where the first span begins that does not begin before the place
 abbrev pub start_from : ℤ → ℤ → List Span → ℤ

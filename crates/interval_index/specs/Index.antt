@@ -6,7 +6,7 @@ use Rattle.std.specs.Ordering.{nat_cmp}
 use Rattle.std.specs.BTreeMap.{BTreeMap}
 use Rattle.std.specs.BTreeMap as tree
 use Rattle.interval_index.specs.declared.span.Span.{Span}
-use Rattle.interval_index.specs.Ends.{IsCoordinate}
+use Rattle.plane_geom.specs.Point.{IsCoordinate}
 use Rattle.interval_index.specs.Order.{IsSorted}
 
 -- what may stand in the index: a span on the sheet that is not empty

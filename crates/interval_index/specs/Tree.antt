@@ -17,7 +17,7 @@ spans_and_height (Some b) = (spans_of b.value, b.value.height)
 
 -- the node is balanced, and what it keeps is right
 pub record IsSoundNode (n : Node) : Type 0 where
-  pub reach : n.reach ≡ greatest_end (spans_of n)
+  pub greatest_end : n.greatest_end ≡ greatest_end (spans_of n)
   pub height : n.height ≡ max n.left.1 n.right.1 + 1
   pub level : DifferByAtMost 1 n.left.1 n.right.1
   pub low : IsLow n.height (length (spans_of n))

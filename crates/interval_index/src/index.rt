@@ -1,10 +1,12 @@
+//! Open intervals in order, each under a key.
 ghost use Rattle.std.specs.Prelude.{◌≡◌, ◌<ℤ◌, false, [], IfSome, OnOk, OnErr, IfOk, is_none};
-ghost use Rattle.interval_index.specs.Ends.{IsCoordinate};
+ghost use Rattle.plane_geom.specs.Point.{IsCoordinate};
 ghost use Rattle.interval_index.specs.Order.{inserted};
 ghost use Rattle.interval_index.specs.Index.{IsListed, IsWidestFree, has_key, inside_any, keys_touching, without_key};
 
-use crate::span::{SHEET_END, Span};
+use crate::span::Span;
 use crate::tree::{Node, Tree};
+use plane_geom::SHEET_END;
 use std::alloc::{AllocError, Global};
 use std::collections::BTreeMap;
 use std::marker::Model;
@@ -49,7 +51,8 @@ impl IntervalIndex {
 
     /// Puts in a span under a new key, in logarithmic time. Coordinates are in thousandths.
     ///
-    /// Where memory is wanting, the index stays as it was.
+    /// The span is not empty (`lo` is below `hi`), and both its ends lie on the sheet. Where memory is wanting, which
+    /// is the only error, the index stays as it was.
     pub fn insert(&mut self, span: Span) -> Result<(), AllocError>
         requires new_key { has_key span.key self.old ≡ false }
         requires lo_within { IsCoordinate span.lo }
@@ -81,14 +84,14 @@ impl IntervalIndex {
     }
 
     /// The ends of the widest closed interval round the place, on the sheet, that has no point inside a span.
-    /// `None` where the place is inside one. In thousandths. Takes logarithmic time, and no memory.
+    /// `None` where the place, which lies on the sheet, is inside one. In thousandths. Takes logarithmic time, and no memory.
     pub fn free_around(&self, at: i64) -> Option<(i64, i64)>
         requires within { IsCoordinate at }
         ensures inside { is_none result ≡ inside_any at self.now }
         ensures widest { IfSome result (λ free. IsWidestFree self.now at free.0 free.1) }
         ensures listed { IsListed self.now }
     {
-        let from = self.tree.reach_before(at);
+        let from = self.tree.greatest_end_before(at);
         if at < from {
             return None;
         }

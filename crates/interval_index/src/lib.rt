@@ -8,7 +8,7 @@ mod span;
 mod tree;
 
 pub use index::IntervalIndex;
-pub use span::{SHEET_END, SHEET_START, Span};
+pub use span::Span;
 
 #[cfg(test)]
 mod tests;

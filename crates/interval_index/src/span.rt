@@ -1,11 +1,6 @@
+//! Open intervals under keys.
 ghost use Rattle.std.specs.Prelude.{◌≡◌};
 ghost use Rattle.interval_index.specs.Order.{is_before};
-
-/// The least coordinate of the sheet.
-pub const SHEET_START: i64 = -2_000_000_000;
-
-/// The greatest coordinate of the sheet.
-pub const SHEET_END: i64 = 2_000_000_000;
 
 /// The open interval from `lo` to `hi`, in thousandths of a GML unit, under a key.
 #[derive(Clone, Copy, Debug, PartialEq, Eq, Hash)]

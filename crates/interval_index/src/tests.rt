@@ -1,4 +1,6 @@
-use crate::{IntervalIndex, SHEET_END, SHEET_START, Span};
+//! The spans of the worked rows, and a tree of many spans.
+use crate::{IntervalIndex, Span};
+use plane_geom::{SHEET_END, SHEET_START};
 use std::alloc::{AllocError, Global};
 use std::test::Fail;
 

@@ -1,11 +1,13 @@
+//! A balanced tree of spans that keeps the greatest end of each subtree.
 // An AVL tree of spans, seen as the spans in order and its height.
 ghost use Rattle.std.specs.Prelude.{◌≡◌, ◌+◌, ◌^◌, ◌<◌, ◌≤◌, max, [], ◌∷◌, ◌++◌, length, OnOk, MatchOption};
 ghost use Rattle.interval_index.specs.Order.{IsSorted, inserted, is_before, without};
-ghost use Rattle.interval_index.specs.Ends.{greatest_end, keys_met, reach_before, start_from};
+ghost use Rattle.interval_index.specs.Ends.{greatest_end, keys_met, greatest_end_before, start_from};
 ghost use Rattle.interval_index.specs.Height.{DifferByAtMost, IsLow};
 ghost use Rattle.interval_index.specs.Tree.{IsFirstAndRest, IsSoundNode};
 
-use crate::span::{SHEET_START, Span};
+use crate::span::Span;
+use plane_geom::SHEET_START;
 use std::alloc::AllocError;
 use std::marker::Model;
 use std::mem;
@@ -22,7 +24,7 @@ pub struct Tree {
 pub struct Node {
     span: Span,
     // The greatest end among the spans from here down.
-    reach: i64,
+    greatest_end: i64,
     height: u64,
     left: Tree,
     right: Tree,
@@ -54,7 +56,7 @@ impl Node {
     {
         Node {
             span,
-            reach: span.hi,
+            greatest_end: span.hi,
             height: 1,
             left: Tree::new(),
             right: Tree::new(),
@@ -92,12 +94,12 @@ impl Tree {
     }
 
     /// The greatest end of the spans, or the start of the sheet.
-    fn reach(&self) -> i64
+    fn greatest_end(&self) -> i64
         ensures { result ≡ greatest_end self.now.0 }
     {
         match &self.root {
             None => SHEET_START,
-            Some(node) => node.reach,
+            Some(node) => node.greatest_end,
         }
     }
 
@@ -157,18 +159,18 @@ impl Tree {
     }
 
     /// The greatest end of the spans that begin before the place, or the start of the sheet.
-    pub fn reach_before(&self, at: i64) -> i64
+    pub fn greatest_end_before(&self, at: i64) -> i64
         requires sorted { IsSorted self.now.0 }
-        ensures { result ≡ reach_before at self.now.0 }
+        ensures { result ≡ greatest_end_before at self.now.0 }
     {
         match &self.root {
             None => SHEET_START,
             Some(node) => {
                 if node.span.lo < at {
-                    let right = node.right.reach_before(at);
-                    node.left.reach().max(node.span.hi).max(right)
+                    let right = node.right.greatest_end_before(at);
+                    node.left.greatest_end().max(node.span.hi).max(right)
                 } else {
-                    node.left.reach_before(at)
+                    node.left.greatest_end_before(at)
                 }
             }
         }
@@ -201,7 +203,7 @@ impl Tree {
         let Some(node) = &self.root else {
             return Ok(());
         };
-        if node.reach <= lo {
+        if node.greatest_end <= lo {
             return Ok(());
         }
         node.left.collect(lo, hi, keys)?;
@@ -243,7 +245,10 @@ fn put_sides(node: &mut Node, left: Tree, right: Tree)
     ensures sound { IsSoundNode node.new }
 {
     node.height = left.height().max(right.height()) + 1;
-    node.reach = left.reach().max(node.span.hi).max(right.reach());
+    node.greatest_end = left
+        .greatest_end()
+        .max(node.span.hi)
+        .max(right.greatest_end());
     node.left = left;
     node.right = right;
 }

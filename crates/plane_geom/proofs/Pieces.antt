@@ -1,3 +1,4 @@
+-- Two longest free pieces of one whole line share no point.
 use Rattle.std.proofs.Common.{◌≡◌, ◌⊎◌, ℤ, ◌≤ℤ◌, refl, sym, ap, ◌∙◌, inl, inr, get_or, arith, subst}
 use Rattle.std.proofs.lemmas.Int.{ints, clamps, by_lt_z}
 use Rattle.std.specs.Int.{int_min, int_max}
@@ -12,7 +13,7 @@ use Rattle.plane_geom.specs.Floor.{point_on, Holds, AreOnOneWholeLine, IsFreePie
 use Rattle.plane_geom.proofs.Places.{halfway, overlap_ends}
 
 -- what overlaps two intervals with a common place overlaps one of them
-overlap_part : (low high a b c d z : ℤ) → a ≤ℤ z → z ≤ℤ b → c ≤ℤ z → z ≤ℤ d → Overlaps low high (int_min a c) (int_max b d) → Overlaps low high a b ⊎ Overlaps low high c d
+pub overlap_part : (low high a b c d z : ℤ) → a ≤ℤ z → z ≤ℤ b → c ≤ℤ z → z ≤ℤ d → Overlaps low high (int_min a c) (int_max b d) → Overlaps low high a b ⊎ Overlaps low high c d
 overlap_part low high a b c d z h i j k o =
     let e = overlap_ends _ _ _ _ o in
     by_lt_z low b
@@ -20,6 +21,20 @@ overlap_part low high a b c d z h i j k o =
     (λ left. inl (halfway low high a b e.0 (omega (arith, ints, clamps)) (omega (arith, ints, clamps))))
     (λ left. inr (halfway low high c d e.0 (omega (arith, ints, clamps, e.1)) (omega (arith, ints, clamps, e.0)))))
     (λ right. inr (halfway low high c d e.0 (omega (arith, ints, clamps, e.0)) (omega (arith, ints, clamps, e.2))))
+
+-- what overlaps an interval between two moved ends overlaps the way of one of them, or the interval between the old ends
+pub covered : (low high u v p q : ℤ) → Overlaps low high p q → Overlaps low high u p ⊎ (Overlaps low high u v ⊎ Overlaps low high v q)
+covered low high u v p q o =
+    let e = overlap_ends _ _ _ _ o in
+    by_lt_z (int_min u p) high
+    (λ a. by_lt_z low (int_max u p)
+    (λ b. inl (halfway low high u p e.0 a b))
+    (λ b. by_lt_z low (int_max u v)
+    (λ c. inr (inl (halfway low high u v e.0 (omega (arith, ints, clamps, e.0, b)) c)))
+    (λ c. inr (inr (halfway low high v q e.0 (omega (arith, ints, clamps, e.0, b, c)) (omega (arith, ints, clamps, e.2, b, c)))))))
+    (λ a. by_lt_z (int_min u v) high
+    (λ b. inr (inl (halfway low high u v e.0 b (omega (arith, ints, clamps, e.0, a)))))
+    (λ b. inr (inr (halfway low high v q e.0 (omega (arith, ints, clamps, e.1, a, b)) (omega (arith, ints, clamps, e.0, a, b))))))
 
 -- two free pieces with a common point are free together
 joined_free : (r : Rect) (way : Way) (at a b c d z : ℤ) → a ≤ℤ z → z ≤ℤ b → c ≤ℤ z → z ≤ℤ d →
@@ -49,7 +64,7 @@ joined_piece floor l m z f g o h i j k = record {
   hi = record { low = omega (arith, ints, clamps, f.hi.low, g.hi.low); high = omega (arith, ints, clamps, f.hi.high, g.hi.high) };
   ordered = omega (arith, ints, clamps);
   free = λ n s inside.
-      let r = (get_or floor.solids.items n s).rect in
+      let r = (get_or floor.solids n s).rect in
       let there : Meets r (point_on l.way l.at m.lo) (point_on l.way l.at m.hi) → ⊥ =
       subst (λ (w : Way). Meets r (point_on w l.at m.lo) (point_on w l.at m.hi) → ⊥) (sym o.way)
       (subst (λ (a : ℤ). Meets r (point_on m.way a m.lo) (point_on m.way a m.hi) → ⊥) (sym o.at) (g.free n s inside)) in

@@ -1,3 +1,4 @@
+-- Coordinates fit their type.
 use Rattle.std.proofs.Common.{◌≡◌, ℤ, ◌≤ℤ◌, false, ◌≤◌, arith, w64}
 use lib.Signed.{lt_z}
 use Rattle.std.proofs.lemmas.Int.{ints, to_z-of_z, fits_signed_from_abs}

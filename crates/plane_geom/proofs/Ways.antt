@@ -1,3 +1,4 @@
+-- The nearest point of a rectangle, and ways through it.
 use Rattle.std.proofs.Common.{◌≡◌, ◌+◌, ◌≤◌, ℤ, pos, ◌-ℤ◌, ◌≤ℤ◌, refl, arith}
 use Rattle.std.specs.Int.RustNames.{unsigned_abs}
 use Rattle.std.proofs.lemmas.Int.{ints, clamps}
@@ -5,7 +6,7 @@ use Rattle.std.specs.Int.{int_min, int_max}
 use Rattle.plane_geom.specs.declared.point.Point.{Point}
 use Rattle.plane_geom.specs.declared.rect.Rect.{Rect}
 use Rattle.plane_geom.specs.Point.{IsCoordinate, PointIsOnSheet, distance}
-use Rattle.plane_geom.specs.Rect.{IsLeastThrough, IsNearest, IsOnSheet, IsOnTheWay}
+use Rattle.plane_geom.specs.Rect.{IsLeastThrough, IsNearest, RectIsOnSheet, IsOnTheWay}
 
 -- the number of a range that is nearest to another
 pub nearest_on_way : (low z high m n : ℤ) → low ≤ℤ high → m ≡ int_max z low → n ≡ int_min m high → IsOnTheWay low z high n
@@ -16,10 +17,10 @@ nearest_on_way low z high m n h e f = record {
 }
 
 -- a number between coordinates is one
-between_coordinates : (low z high : ℤ) → IsCoordinate low → IsCoordinate high → low ≤ℤ z → z ≤ℤ high → IsCoordinate z
+pub between_coordinates : (low z high : ℤ) → IsCoordinate low → IsCoordinate high → low ≤ℤ z → z ≤ℤ high → IsCoordinate z
 between_coordinates low z high h k f g = record { low = omega (arith, ints, h.low); high = omega (arith, ints, k.high) }
 
-pub nearest_on_sheet : (r : Rect) (a n : Point) → IsOnSheet r → IsNearest r a n → PointIsOnSheet n
+pub nearest_on_sheet : (r : Rect) (a n : Point) → RectIsOnSheet r → IsNearest r a n → PointIsOnSheet n
 nearest_on_sheet r a n s h = record {
   x = between_coordinates r.left n.x r.right s.left s.right h.x.from h.x.to;
   y = between_coordinates r.top n.y r.bottom s.top s.bottom h.y.from h.y.to;

@@ -1,3 +1,4 @@
+-- What the two axes have in common.
 use Rattle.std.specs.Prelude.{◌≡◌}
 use Rattle.std.proofs.Common.{arith}
 use Rattle.plane_geom.specs.declared.point.Point.{Point}

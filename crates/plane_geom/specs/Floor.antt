@@ -1,12 +1,15 @@
-use Rattle.std.specs.Prelude.{◌≡◌, ◌⊎◌, ℤ, ◌≤ℤ◌, ◌<ℤ◌, Any, All}
+-- Lines, floors, free pieces, kept lines and crossings.
+use Rattle.std.specs.Prelude.{◌≡◌, ◌⊎◌, ◌≤◌, ℤ, ◌≤ℤ◌, ◌<ℤ◌, List, Any, All, Contains, length}
 use Rattle.plane_geom.specs.declared.point.Point.{Point}
 use Rattle.plane_geom.specs.declared.point.Way.{Way}
 use Rattle.plane_geom.specs.declared.point.Way.TheVariants.{Vertical, Horizontal}
 use Rattle.plane_geom.specs.declared.rect.Rect.{Rect}
+use Rattle.plane_geom.specs.declared.rect.Solid.{Solid}
 use Rattle.plane_geom.specs.declared.floor.Line.{Line}
 use Rattle.plane_geom.specs.declared.floor.Floor.{Floor}
-use Rattle.plane_geom.specs.Point.{IsCoordinate}
-use Rattle.plane_geom.specs.Rect.{Meets}
+use Rattle.plane_geom.specs.Point.{IsCoordinate, PointIsOnSheet}
+use Rattle.plane_geom.specs.Along.{across}
+use Rattle.plane_geom.specs.Rect.{RectIsOnSheet, Meets}
 
 -- the point of a whole line, which runs this way at this coordinate, that stands at z along it
 abbrev pub point_on : Way → ℤ → ℤ → Point
@@ -38,7 +41,7 @@ pub record IsFreePiece (floor : Floor) (l : Line) : Type 0 where
   pub lo : IsCoordinate l.lo
   pub hi : IsCoordinate l.hi
   pub ordered : l.lo ≤ℤ l.hi
-  pub free : All (λ s. Meets s.rect (first_point l) (last_point l) → ⊥) floor.solids.items
+  pub free : All (λ s. Meets s.rect (first_point l) (last_point l) → ⊥) floor.solids
 
 -- a free piece that lies in no other
 pub record IsLongestFreePiece (floor : Floor) (l : Line) : Type 0 where
@@ -57,7 +60,7 @@ SharesSide l r = (lo : ℤ) × (hi : ℤ) × SideOn r l.way l.at lo hi × (l.lo 
 -- a longest free piece that has some length and shares a point with a side on its whole line, or that holds an anchor
 pub record IsKept (floor : Floor) (l : Line) : Type 0 where
   pub longest : IsLongestFreePiece floor l
-  pub reason : ((l.lo <ℤ l.hi) × Any (λ s. SharesSide l s.rect) floor.solids.items) ⊎ Any (Holds l) floor.anchors.items
+  pub reason : ((l.lo <ℤ l.hi) × Any (λ s. SharesSide l s.rect) floor.solids) ⊎ Any (Holds l) floor.anchors
 
 -- a point that lies on a vertical and on a horizontal kept line
 pub record IsCrossing (floor : Floor) (p : Point) : Type 0 where
@@ -69,3 +72,31 @@ pub record IsCrossing (floor : Floor) (p : Point) : Type 0 where
   pub horizontal_kept : IsKept floor horizontal
   pub on_vertical : Holds vertical p
   pub on_horizontal : Holds horizontal p
+
+-- a rectangle on the sheet that has an inside
+pub record IsSolid (s : Solid) : Type 0 where
+  pub on_sheet : RectIsOnSheet s.rect
+  pub wide : s.rect.left <ℤ s.rect.right
+  pub high : s.rect.top <ℤ s.rect.bottom
+
+-- the coordinates at which the two sides of the rectangle run that lie this way
+abbrev pub first_side : Way → Rect → ℤ
+first_side Vertical r = r.left
+first_side Horizontal r = r.top
+
+abbrev pub last_side : Way → Rect → ℤ
+last_side Vertical r = r.right
+last_side Horizontal r = r.bottom
+
+-- among the coordinates are those of all sides that lie this way, and those across of all anchors
+pub record HasCoordinates (floor : Floor) (way : Way) (coordinates : List ℤ) : Type 0 where
+  pub first_sides : All (λ s. Contains coordinates (first_side way s.rect)) floor.solids
+  pub last_sides : All (λ s. Contains coordinates (last_side way s.rect)) floor.solids
+  pub anchors : All (λ p. Contains coordinates (across way p)) floor.anchors
+
+-- a floor that a call may be handed: on the sheet, with at most 256 solids, and with lines at no more than 1280 coordinates each way
+pub record IsFloor (floor : Floor) : Type 0 where
+  pub solids : All IsSolid floor.solids
+  pub anchors : All PointIsOnSheet floor.anchors
+  pub few : length floor.solids ≤ 256
+  pub coordinates : (way : Way) → (zs : List ℤ) × (length zs ≤ 1280) × HasCoordinates floor way zs

@@ -1,4 +1,6 @@
+-- The definitions on the plane.
 pub mod Point
+pub mod Along
 pub mod Rect
 pub mod Floor
 pub mod Axes

@@ -1,12 +1,21 @@
+-- Points, directions and the sheet on which all is drawn.
 use Rattle.std.specs.Prelude.{◌≡◌, ℕ, ◌+◌, ◌⊎◌, ℤ, pos, negsuc, ◌+ℤ◌, ◌-ℤ◌, ◌≤ℤ◌, unsigned_abs, int_lt, if◌then◌else◌}
 use Rattle.plane_geom.specs.declared.point.Point.{Point}
 use Rattle.plane_geom.specs.declared.point.Dir.{Dir}
 use Rattle.plane_geom.specs.declared.point.Dir.TheVariants.{East, South, West, North}
 
--- a coordinate of the sheet on which all is drawn
+-- the least coordinate of the sheet on which all is drawn
+abbrev pub sheet_start : ℤ
+sheet_start = negsuc 1999999999
+
+-- the greatest coordinate of the sheet
+abbrev pub sheet_end : ℤ
+sheet_end = pos 2000000000
+
+-- a coordinate of the sheet
 pub record IsCoordinate (z : ℤ) : Type 0 where
-  pub low : negsuc 1999999999 ≤ℤ z
-  pub high : z ≤ℤ pos 2000000000
+  pub low : sheet_start ≤ℤ z
+  pub high : z ≤ℤ sheet_end
 
 -- a point of the sheet
 pub record PointIsOnSheet (p : Point) : Type 0 where

@@ -1,3 +1,4 @@
+-- Rectangles: what lies inside them and what meets them.
 use Rattle.std.specs.Prelude.{◌≡◌, ℕ, ◌+◌, ◌<◌, ◌⊎◌, ℤ, pos, ◌+ℤ◌, ◌-ℤ◌, ◌*ℤ◌, ◌≤ℤ◌, ◌<ℤ◌, unsigned_abs}
 use Rattle.plane_geom.specs.declared.point.Point.{Point}
 use Rattle.plane_geom.specs.declared.point.Dir.{Dir}
@@ -6,7 +7,7 @@ use Rattle.plane_geom.specs.declared.rect.Rect.{Rect}
 use Rattle.plane_geom.specs.Point.{IsCoordinate, distance, forward}
 
 -- all four sides lie on the sheet
-pub record IsOnSheet (r : Rect) : Type 0 where
+pub record RectIsOnSheet (r : Rect) : Type 0 where
   pub left : IsCoordinate r.left
   pub top : IsCoordinate r.top
   pub right : IsCoordinate r.right
@@ -32,7 +33,7 @@ pub record Overlaps (low high a b : ℤ) : Type 0 where
   pub inside : IsInside low high q z
   pub within : IsWithin a b q z ⊎ IsWithin b a q z
 
--- the straight segment between the points has a point inside the open rectangle
+-- the closed rectangle with these corners, which is a straight segment where the points are in line, has a point inside the open one
 pub record Meets (r : Rect) (a b : Point) : Type 0 where
   pub x : Overlaps r.left r.right a.x b.x
   pub y : Overlaps r.top r.bottom a.y b.y

@@ -1,6 +1,7 @@
+//! The two ways of lines behind one trait.
 ghost use Rattle.std.specs.Prelude.{◌≡◌};
 
-use crate::point::Point;
+use crate::point::{Point, Way};
 
 /// One of the two ways of lines, so that what is done for the one is written once for both.
 ///
@@ -8,7 +9,12 @@ use crate::point::Point;
 pub trait Axis {
     ghost use Rattle.std.specs.Prelude.{◌≡◌, ℤ};
     ghost use Rattle.plane_geom.specs.declared.point.Point.{Point};
+    ghost use Rattle.plane_geom.specs.declared.point.Way.{Way};
+    ghost use Rattle.plane_geom.specs.Along.{across, along};
+    ghost use Rattle.plane_geom.specs.Floor.{point_on};
     ghost use Rattle.plane_geom.specs.Point.{distance};
+
+    ghost way_of: { Way };
 
     ghost across_of: { Point → ℤ };
 
@@ -16,14 +22,28 @@ pub trait Axis {
 
     ghost point_of: { ℤ → ℤ → Point };
 
+    /// The way of the lines.
+    fn way() -> Way
+        ensures { result ≡ way_of };
+
+    /// The coordinate at which a line runs through the point.
     fn across(p: Point) -> i64
         ensures { result ≡ across_of p };
 
+    /// Where on that line the point stands.
     fn along(p: Point) -> i64
         ensures { result ≡ along_of p };
 
+    /// The point with these coordinates.
     fn point(across: i64, along: i64) -> Point
         ensures { result ≡ point_of across along };
+
+    /// The coordinates are those of the way.
+    ghost across_by_way: { (p : Point) → across_of p ≡ across way_of p };
+
+    ghost along_by_way: { (p : Point) → along_of p ≡ along way_of p };
+
+    ghost point_by_way: { (a b : ℤ) → point_of a b ≡ point_on way_of a b };
 
     /// A point is that of its own coordinates.
     ghost point_again: { (p : Point) → point_of (across_of p) (along_of p) ≡ p };
@@ -52,12 +72,21 @@ pub struct YAxis;
 impl Axis for XAxis {
     ghost use Rattle.std.specs.Prelude.{refl};
     ghost use Rattle.plane_geom.specs.Axes.{turned_length};
+    ghost use Rattle.plane_geom.specs.declared.point.Way.TheVariants.{Vertical};
+
+    ghost way_of = { Vertical };
 
     ghost across_of = { λ p. p.x };
 
     ghost along_of = { λ p. p.y };
 
     ghost point_of = { λ a b. record { x = a; y = b } };
+
+    ghost across_by_way = { λ p. refl };
+
+    ghost along_by_way = { λ p. refl };
+
+    ghost point_by_way = { λ a b. refl };
 
     ghost point_again = { λ p. refl };
 
@@ -68,6 +97,10 @@ impl Axis for XAxis {
     ghost swapped_twice = { λ p. refl };
 
     ghost swapped_lengths = { turned_length };
+
+    fn way() -> Way {
+        Way::Vertical
+    }
 
     fn across(p: Point) -> i64 {
         p.x
@@ -88,12 +121,21 @@ impl Axis for XAxis {
 impl Axis for YAxis {
     ghost use Rattle.std.specs.Prelude.{refl};
     ghost use Rattle.plane_geom.specs.Axes.{turned_length};
+    ghost use Rattle.plane_geom.specs.declared.point.Way.TheVariants.{Horizontal};
+
+    ghost way_of = { Horizontal };
 
     ghost across_of = { λ p. p.y };
 
     ghost along_of = { λ p. p.x };
 
     ghost point_of = { λ a b. record { x = b; y = a } };
+
+    ghost across_by_way = { λ p. refl };
+
+    ghost along_by_way = { λ p. refl };
+
+    ghost point_by_way = { λ a b. refl };
 
     ghost point_again = { λ p. refl };
 
@@ -104,6 +146,10 @@ impl Axis for YAxis {
     ghost swapped_twice = { λ p. refl };
 
     ghost swapped_lengths = { turned_length };
+
+    fn way() -> Way {
+        Way::Horizontal
+    }
 
     fn across(p: Point) -> i64 {
         p.y
@@ -135,6 +181,8 @@ mod tests {
         let turned_once = Point { x: -7, y: 3 };
         assert_eq!(rt; turned::<XAxis>(p), turned_once);
         assert_eq!(rt; turned::<YAxis>(p), turned_once);
+        assert_eq!(rt; XAxis::way(), Way::Vertical);
+        assert_eq!(rt; YAxis::way(), Way::Horizontal);
         assert_eq!(rt; XAxis::across(p), 3);
         assert_eq!(rt; YAxis::across(p), -7);
     }

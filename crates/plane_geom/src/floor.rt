@@ -1,13 +1,17 @@
-ghost use Rattle.std.specs.Prelude.{◌≡◌};
-ghost use Rattle.plane_geom.specs.Floor.{Holds, IsKept, AreOnOneWholeLine};
+//! Lines, and the floor on which the lines of a visibility graph are drawn.
+ghost use Rattle.std.specs.Prelude.{◌≡◌, ◌≤ℤ◌};
+ghost use Rattle.plane_geom.specs.Floor.{Holds, IsFreePiece, IsKept, IsLongestFreePiece, AreOnOneWholeLine};
 ghost use Rattle.plane_geom.specs.declared.floor.Floor.{Floor};
 ghost use Rattle.plane_geom.specs.declared.floor.Line.{Line};
 ghost use Rattle.plane_geom.specs.declared.point.Point.{Point};
 
-use crate::point::{Point, Way};
-use crate::rect::Solid;
+use crate::list::{Points, Solids};
+use crate::point::Way;
+use std::alloc::{AllocError, Global};
 
 /// A piece of a whole vertical or horizontal line, which runs at the coordinate `at` from `lo` to `hi`.
+///
+/// In thousandths of a GML unit. `lo` is at most `hi`; where both are equal, it is a single point.
 #[derive(Clone, Copy, Debug, PartialEq, Eq, Hash)]
 pub struct Line {
     pub way: Way,
@@ -20,8 +24,22 @@ pub struct Line {
 /// of all nodes and the checkpoints of all connectors.
 #[derive(Debug, Drop)]
 pub struct Floor {
-    pub solids: Vec<Solid>,
-    pub anchors: Vec<Point>,
+    pub solids: Solids,
+    pub anchors: Points,
+}
+
+impl Floor {
+    ghost use Rattle.std.specs.Prelude.{◌≡◌, IfOk};
+
+    /// The same floor once more. Its only error is want of memory.
+    pub fn copy(&self, alloc: Global) -> Result<Floor, AllocError>
+        ensures { IfOk result (λ f. f ≡ self.now) }
+    {
+        Ok(Floor {
+            solids: self.solids.copy(alloc)?,
+            anchors: self.anchors.copy(alloc)?,
+        })
+    }
 }
 
 /// Two kept lines of one whole line that share a point are one line.
@@ -29,3 +47,37 @@ pub fn kept_lines_apart()
     ensures { (floor : Floor) (l m : Line) (p : Point) → IsKept floor l → IsKept floor m →
         AreOnOneWholeLine l m → Holds l p → Holds m p → l ≡ m }
 {}
+
+/// Each free piece lies in a longest one.
+pub fn free_pieces_have_longest()
+    ensures { (floor : Floor) (l : Line) → IsFreePiece floor l →
+        (m : Line) × IsLongestFreePiece floor m × AreOnOneWholeLine m l × (m.lo ≤ℤ l.lo) × (l.hi ≤ℤ m.hi) }
+{}
+
+#[cfg(test)]
+mod tests {
+    use super::*;
+    use crate::point::Point;
+    use crate::rect::{Rect, Solid};
+    use std::test::Fail;
+
+    #[test]
+    fn copies_a_large_floor(rt: HostRuntime) -> Result<(), Fail> {
+        let alloc = rt.alloc();
+        let rect = Rect {
+            left: 0,
+            top: 0,
+            right: 2,
+            bottom: 4,
+        };
+        let floor = Floor {
+            solids: Solids(vec![in alloc; Solid { node: 1, rect }; 256]?),
+            anchors: Points(vec![in alloc; Point { x: 2, y: 4 }; 4000]?),
+        };
+        let copy = floor.copy(alloc)?;
+        assert_eq!(rt; copy.solids.as_slice().len(), 256);
+        assert_eq!(rt; copy.solids.as_slice(), floor.solids.as_slice());
+        assert_eq!(rt; copy.anchors.as_slice(), floor.anchors.as_slice());
+        Ok(())
+    }
+}

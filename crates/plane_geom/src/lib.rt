@@ -1,14 +1,16 @@
-//! Points, directions and rectangles on the plane of a diagram.
+//! Points, directions, rectangles and lines on the plane of a diagram.
 //!
 //! Coordinates are whole thousandths of a GML unit. East is +x and South is +y.
 #![tactic(auto)]
 
 mod axis;
 mod floor;
+mod list;
 mod point;
 mod rect;
 
 pub use axis::{Axis, XAxis, YAxis};
-pub use floor::{Floor, Line, kept_lines_apart};
-pub use point::{Dir, Point, Way};
+pub use floor::{Floor, Line, free_pieces_have_longest, kept_lines_apart};
+pub use list::{Points, Solids};
+pub use point::{Dir, Point, SHEET_END, SHEET_START, Way};
 pub use rect::{Rect, Solid, meets_by_steps};

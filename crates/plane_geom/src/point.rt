@@ -1,4 +1,11 @@
+//! Points, directions and ways.
 ghost use Rattle.std.specs.Prelude.{◌≡◌};
+
+/// The least coordinate of the sheet.
+pub const SHEET_START: i64 = -2_000_000_000;
+
+/// The greatest coordinate of the sheet.
+pub const SHEET_END: i64 = 2_000_000_000;
 
 /// A place on the plane, in thousandths of a GML unit.
 #[derive(Clone, Copy, Debug, PartialEq, Eq, Hash)]
@@ -24,6 +31,7 @@ pub enum Way {
 }
 
 impl Dir {
+    ghost use Rattle.plane_geom.specs.Along.{way_of};
     ghost use Rattle.plane_geom.specs.Point.{opposite};
 
     /// The direction back.
@@ -37,12 +45,25 @@ impl Dir {
             Dir::North => Dir::South,
         }
     }
+
+    /// The way of the lines along which one travels in the direction.
+    pub fn way(self) -> Way
+        ensures { result ≡ way_of self }
+    {
+        match self {
+            Dir::East | Dir::West => Way::Horizontal,
+            Dir::South | Dir::North => Way::Vertical,
+        }
+    }
 }
 
 impl Point {
-    ghost use Rattle.plane_geom.specs.Point.{PointIsOnSheet, distance, forward, heading};
+    ghost use Rattle.plane_geom.specs.Along.{across, along};
+    ghost use Rattle.plane_geom.specs.Point.{IsStraight, PointIsOnSheet, distance, forward, heading};
 
     /// The sum of the distances across and along: how many unit steps lead to the other point.
+    ///
+    /// Both points lie on the sheet.
     pub fn distance(self, other: Point) -> u64
         requires from_within { PointIsOnSheet self }
         requires to_within { PointIsOnSheet other }
@@ -53,7 +74,8 @@ impl Point {
 
     /// The direction in which the straight segment to the other point runs, and North where both are one point.
     pub fn heading(self, other: Point) -> Dir
-        ensures { result ≡ heading self other }
+        ensures heading { result ≡ heading self other }
+        ensures leads { IsStraight self other → forward (heading self other) (distance self other) self ≡ other }
     {
         if self.x < other.x {
             Dir::East
@@ -66,7 +88,27 @@ impl Point {
         }
     }
 
-    /// The point so many unit steps on.
+    /// The coordinate at which a line of this way runs through the point: x of a vertical one, y of a horizontal one.
+    pub fn across(self, way: Way) -> i64
+        ensures { result ≡ across way self }
+    {
+        match way {
+            Way::Vertical => self.x,
+            Way::Horizontal => self.y,
+        }
+    }
+
+    /// Where the point stands on that line: y on a vertical one, x on a horizontal one.
+    pub fn along(self, way: Way) -> i64
+        ensures { result ≡ along way self }
+    {
+        match way {
+            Way::Vertical => self.y,
+            Way::Horizontal => self.x,
+        }
+    }
+
+    /// The point so many unit steps on. Both points lie on the sheet.
     pub fn forward(self, dir: Dir, steps: u64) -> Point
         requires within { PointIsOnSheet self }
         requires ends_within { PointIsOnSheet (forward dir steps self) }
@@ -112,6 +154,9 @@ mod tests {
             assert_eq!(rt; from.heading(to), dir);
             assert_eq!(rt; from.forward(dir, 12), to);
             assert_eq!(rt; to.heading(from), dir.opposite());
+            assert_eq!(rt; dir.way(), dir.opposite().way());
+            assert_eq!(rt; from.across(dir.way()), to.across(dir.way()));
+            assert_ne!(rt; from.along(dir.way()), to.along(dir.way()));
         }
     }
 }

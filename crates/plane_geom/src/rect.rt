@@ -1,3 +1,4 @@
+//! Rectangles: what lies inside them and what meets them.
 ghost use Rattle.std.specs.Prelude.{◌≡◌, ◌↔◌, ◌<◌, ◌≤ℤ◌, ◌<ℤ◌, ℕ, IsTrue};
 ghost use Rattle.plane_geom.specs.Point.{forward};
 ghost use Rattle.plane_geom.specs.Rect.{IsOnTheWay, Meets, Overlaps, SomeStepMeets};
@@ -8,6 +9,8 @@ ghost use Rattle.plane_geom.specs.declared.rect.Rect.{Rect};
 use crate::point::Point;
 
 /// A rectangle with sides along the axes, in thousandths of a GML unit.
+///
+/// `left` is the lesser x and `top` the lesser y; where a side is not less than the one across, it is empty.
 #[derive(Clone, Copy, Debug, PartialEq, Eq, Hash)]
 pub struct Rect {
     pub left: i64,
@@ -24,13 +27,13 @@ pub struct Solid {
 }
 
 impl Rect {
-    ghost use Rattle.plane_geom.specs.Rect.{HasInside, IsLeastThrough, IsNearest, IsOnSheet, Meets, grown};
+    ghost use Rattle.plane_geom.specs.Rect.{HasInside, IsLeastThrough, IsNearest, RectIsOnSheet, Meets, grown};
     ghost use Rattle.plane_geom.specs.Point.{IsStraight, PointIsOnSheet};
 
-    /// The rectangle with each side moved out by `by` thousandths.
+    /// The rectangle with each side moved out by `by` thousandths. Both rectangles lie on the sheet.
     pub fn grow(&self, by: i64) -> Rect
-        requires within { IsOnSheet self.now }
-        requires grown_within { IsOnSheet (grown self.now by) }
+        requires within { RectIsOnSheet self.now }
+        requires grown_within { RectIsOnSheet (grown self.now by) }
         ensures { result ≡ grown self.now by }
     {
         let Rect {
@@ -60,11 +63,12 @@ impl Rect {
         is_between(left, p.x, right) && is_between(top, p.y, bottom)
     }
 
-    /// The least length of a way from `a` to `b` through a point of the closed rectangle.
+    /// The least length of a way from `a` to `b` through a point of the closed rectangle, in thousandths.
     ///
-    /// The point of the rectangle that is nearest to `a` is on such a way.
+    /// The point of the rectangle that is nearest to `a` is on such a way. All lie on the sheet, and the rectangle
+    /// has a point: `left` is at most `right` and `top` at most `bottom`.
     pub fn l1_through(&self, a: Point, b: Point) -> i64
-        requires within { IsOnSheet self.now }
+        requires within { RectIsOnSheet self.now }
         requires from_within { PointIsOnSheet a }
         requires to_within { PointIsOnSheet b }
         requires wide { self.now.left ≤ℤ self.now.right }
@@ -77,7 +81,7 @@ impl Rect {
 
     /// The point of the closed rectangle that is nearest to the other point.
     fn nearest_to(&self, p: Point) -> Point
-        requires within { IsOnSheet self.now }
+        requires within { RectIsOnSheet self.now }
         requires point_within { PointIsOnSheet p }
         requires wide { self.now.left ≤ℤ self.now.right }
         requires high { self.now.top ≤ℤ self.now.bottom }
@@ -99,11 +103,19 @@ impl Rect {
     /// Whether the closed straight segment from `a` to `b` has a point inside the open rectangle.
     ///
     /// To walk along a side meets nothing, and neither does any segment where the rectangle is empty.
+    /// All lie on the sheet, and the segment is vertical, horizontal or a single point.
     pub fn meets(&self, a: Point, b: Point) -> bool
-        requires within { IsOnSheet self.now }
+        requires within { RectIsOnSheet self.now }
         requires from_within { PointIsOnSheet a }
         requires to_within { PointIsOnSheet b }
         requires straight { IsStraight a b }
+        ensures { IsTrue result ↔ Meets self.now a b }
+    {
+        self.overlaps_area(a, b)
+    }
+
+    /// Whether the closed rectangle with the corners `a` and `b` has a point inside the open rectangle.
+    pub fn overlaps_area(&self, a: Point, b: Point) -> bool
         ensures { IsTrue result ↔ Meets self.now a b }
     {
         let Rect {
@@ -232,6 +244,8 @@ mod tests {
             let found = rect.meets(Point { x: ax, y: ay }, Point { x: bx, y: by });
             assert_eq!(rt; found, want, "from ({ax}, {ay}) to ({bx}, {by})");
         }
+        assert!(rt; rect.overlaps_area(Point { x: 9, y: 9 }, Point { x: 20, y: 3 }));
+        assert!(rt; !rect.overlaps_area(Point { x: 10, y: 9 }, Point { x: 20, y: 3 }));
         let empty = Rect {
             left: 5,
             top: 0,

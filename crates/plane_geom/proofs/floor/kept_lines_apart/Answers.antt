@@ -1,3 +1,4 @@
+-- The union of two such pieces is free.
 use Rattle.plane_geom.proofs.Pieces.{longest_apart}
 use Rattle.plane_geom.proofs.floor.kept_lines_apart.Goals as goal
 

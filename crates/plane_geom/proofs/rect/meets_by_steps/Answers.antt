@@ -1,3 +1,4 @@
+-- From the segment to a step, and back.
 use Rattle.plane_geom.proofs.Steps.{some_step, from_step}
 use Rattle.plane_geom.proofs.rect.meets_by_steps.Goals as goal
 

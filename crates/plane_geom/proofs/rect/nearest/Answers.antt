@@ -1,3 +1,4 @@
+-- A number held between two bounds lies on the way.
 use Rattle.std.proofs.Common.{rules, w64, FitsSigned}
 use Rattle.std.proofs.lemmas.Int.{to_z-of_z}
 use Rattle.plane_geom.proofs.Ways.{nearest_on_way}

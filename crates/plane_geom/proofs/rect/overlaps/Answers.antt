@@ -1,3 +1,4 @@
+-- The three comparisons are those of a common place.
 use Rattle.std.proofs.Common.{◌<ℤ◌, sym, w64, arith, rules, FitsSigned, ◌∙◌}
 use Rattle.std.proofs.lemmas.Int.{ints, to_z-of_z}
 use Rattle.std.specs.Int.Signed.{clash_ℤ}

@@ -6,7 +6,7 @@ use Rattle.std.specs.Int.RustNames.{FitsSigned}
 use Rattle.interval_index.specs.Ends.{greatest_end, keys_met}
 use Rattle.interval_index.specs.Tree.{IsSound, IsSoundNode}
 use Rattle.interval_index.proofs.AtNode.{at_node}
-use Rattle.interval_index.proofs.Reaching.{meets_none, meets_short, keys_met_round}
+use Rattle.interval_index.proofs.GreatestEnds.{meets_none, meets_short, keys_met_round}
 use Rattle.interval_index.proofs.tree.Tree.+collect.Goals as goal
 
 pub returns-then-deref-lo : goal.returns-then-deref-lo
@@ -15,10 +15,10 @@ returns-then-deref-lo t c =
     let n = c.in-Some.node.value in
     let sound : IsSoundNode n = subst IsSound c.in-Some.is c.self.invariant in
     let lo_fits : FitsSigned w64 c.args.lo = search rules in
-    let reach_fits : FitsSigned w64 c.deref.result.now.reach = search rules in
+    let end_fits : FitsSigned w64 c.deref.result.now.greatest_end = search rules in
     let test = simp to_z-of_z at c.if-deref-lo.true in
-    let low : c.deref.result.now.reach ≤ℤ c.args.lo = grind (arith, ints, test) in
-    let is : c.deref.result.now.reach ≡ greatest_end c.args.self.now.0 = cc (sound.reach, at.is) in
+    let low : c.deref.result.now.greatest_end ≤ℤ c.args.lo = grind (arith, ints, test) in
+    let is : c.deref.result.now.greatest_end ≡ greatest_end c.args.self.now.0 = cc (sound.greatest_end, at.is) in
     let none = meets_none c.args.lo c.args.hi c.args.self.now.0 (subst (λ z. z ≤ℤ c.args.lo) is low) in
     rw none (sym (append-nil c.args.keys.now.items))
 

@@ -3,7 +3,7 @@ use Rattle.std.proofs.lemmas.Int.{to_z-of_z}
 use Rattle.std.specs.Int.RustNames.{FitsSigned}
 use Rattle.std.specs.Prelude.{int_lt}
 use Rattle.interval_index.proofs.AtNode.{at_node}
-use Rattle.interval_index.proofs.Reaching.{start_past, start_short}
+use Rattle.interval_index.proofs.GreatestEnds.{start_past, start_short}
 use Rattle.interval_index.proofs.tree.Tree.+start_from.Goals as goal
 
 pub start_from-requires : goal.start_from-requires

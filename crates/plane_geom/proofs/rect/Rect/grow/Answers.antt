@@ -1,3 +1,4 @@
+-- The moved sides fit.
 use Rattle.std.proofs.Common.{w64, FitsSigned, ◌-ℤ◌, ◌+ℤ◌}
 use Rattle.std.proofs.lemmas.Int.{to_z-of_z}
 use Rattle.plane_geom.proofs.Signed.{coordinate_fits}

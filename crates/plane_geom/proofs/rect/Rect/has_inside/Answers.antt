@@ -1,3 +1,4 @@
+-- Inside on both axes.
 use Rattle.std.proofs.Common.{IsTrue, rules, FitsSigned, w64}
 use Rattle.std.proofs.lemmas.Int.{to_z-of_z}
 use Rattle.plane_geom.proofs.rect.Rect.has_inside.Goals as goal

@@ -1,3 +1,4 @@
+-- By the nearest point; both lengths fit.
 use Rattle.std.proofs.Common.{◌+◌, ◌≤◌, w64, arith}
 use Rattle.std.proofs.lemmas.Int.{ints, to_z_pos}
 use Rattle.plane_geom.proofs.Signed.{distance_bound}

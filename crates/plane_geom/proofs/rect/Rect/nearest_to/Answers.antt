@@ -1,3 +1,4 @@
+-- Nearest on both axes.
 use Rattle.std.proofs.Common.{FitsSigned, rules, w64}
 use Rattle.std.proofs.lemmas.Int.{to_z-of_z}
 use Rattle.plane_geom.proofs.Ways.{nearest_on_sheet}

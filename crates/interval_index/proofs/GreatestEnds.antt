@@ -9,7 +9,8 @@ use Rattle.std.proofs.lemmas.List.{append-nil, map-append}
 use Rattle.std.proofs.lemmas.List.Elements.{filter-append}
 use Rattle.interval_index.specs.declared.span.Span.{Span}
 use Rattle.interval_index.specs.Order.{is_before, IsSorted}
-use Rattle.interval_index.specs.Ends.{sheet_start, greatest_end, reach_before, start_from, meets, keys_met}
+use Rattle.plane_geom.specs.Point.{sheet_start}
+use Rattle.interval_index.specs.Ends.{greatest_end, greatest_end_before, start_from, meets, keys_met}
 use Rattle.interval_index.proofs.Everywhere.{all_map, filter_none}
 use Rattle.interval_index.proofs.Placed.{sorted_round}
 
@@ -40,35 +41,35 @@ begins_before at n t h e = let k = lo_of_before t n e in grind (arith, ints)
 begins_later : (at : ℤ) (n t : Span) → int_lt n.lo at ≡ false → is_before n t ≡ true → int_lt t.lo at ≡ false
 begins_later at n t h e = let k = lo_of_before n t e in grind (arith, ints)
 
-pub reach_on_sheet : (at : ℤ) (l : List Span) → sheet_start ≤ℤ reach_before at l
-reach_on_sheet at [] = omega (arith, ints)
-reach_on_sheet at (s ∷ l) = let h = reach_on_sheet at l in grind (arith, ints)
+pub end_before_on_sheet : (at : ℤ) (l : List Span) → sheet_start ≤ℤ greatest_end_before at l
+end_before_on_sheet at [] = omega (arith, ints)
+end_before_on_sheet at (s ∷ l) = let h = end_before_on_sheet at l in grind (arith, ints)
 
-reach_all : (at : ℤ) (l m : List Span) → AllByRecursion (λ t. int_lt t.lo at ≡ true) l → reach_before at (l ++ m) ≡ int_max (greatest_end l) (reach_before at m)
-reach_all at [] m a = sym (max_of_less sheet_start (reach_before at m) (reach_on_sheet at m))
-reach_all at (s ∷ l) m a = rw a.0 (ap (λ z. int_max s.hi z) (reach_all at l m a.1) ∙ max_all s.hi (greatest_end l) (reach_before at m))
+end_all : (at : ℤ) (l m : List Span) → AllByRecursion (λ t. int_lt t.lo at ≡ true) l → greatest_end_before at (l ++ m) ≡ int_max (greatest_end l) (greatest_end_before at m)
+end_all at [] m a = sym (max_of_less sheet_start (greatest_end_before at m) (end_before_on_sheet at m))
+end_all at (s ∷ l) m a = rw a.0 (ap (λ z. int_max s.hi z) (end_all at l m a.1) ∙ max_all s.hi (greatest_end l) (greatest_end_before at m))
 
-reach_none : (at : ℤ) (l : List Span) → AllByRecursion (λ t. int_lt t.lo at ≡ false) l → reach_before at l ≡ sheet_start
-reach_none at [] a = refl
-reach_none at (s ∷ l) a = rw a.0 (reach_none at l a.1)
+end_none : (at : ℤ) (l : List Span) → AllByRecursion (λ t. int_lt t.lo at ≡ false) l → greatest_end_before at l ≡ sheet_start
+end_none at [] a = refl
+end_none at (s ∷ l) a = rw a.0 (end_none at l a.1)
 
 -- the greatest end of the spans on the left of n and on its right that begin before the place, where n does
-pub reach_past : (at : ℤ) (l : List Span) (n : Span) (r : List Span) → int_lt n.lo at ≡ true → IsSorted (l ++ n ∷ r) → reach_before at (l ++ n ∷ r) ≡ int_max (int_max (greatest_end l) n.hi) (reach_before at r)
-reach_past at l n r h s =
+pub end_past : (at : ℤ) (l : List Span) (n : Span) (r : List Span) → int_lt n.lo at ≡ true → IsSorted (l ++ n ∷ r) → greatest_end_before at (l ++ n ∷ r) ≡ int_max (int_max (greatest_end l) n.hi) (greatest_end_before at r)
+end_past at l n r h s =
     let k = sorted_round l n r s in
     let all = all_map (λ t. is_before t n ≡ true) (λ t. int_lt t.lo at ≡ true) (λ t e. begins_before at n t h e) l k.before in
-    reach_all at l (n ∷ r) all ∙ rw h (max_all (greatest_end l) n.hi (reach_before at r))
+    end_all at l (n ∷ r) all ∙ rw h (max_all (greatest_end l) n.hi (greatest_end_before at r))
 
-reach_first : (at : ℤ) (l m : List Span) → AllByRecursion (λ t. int_lt t.lo at ≡ false) m → reach_before at (l ++ m) ≡ reach_before at l
-reach_first at [] m a = reach_none at m a
-reach_first at (s ∷ l) m a = rw (reach_first at l m a) refl
+end_first : (at : ℤ) (l m : List Span) → AllByRecursion (λ t. int_lt t.lo at ≡ false) m → greatest_end_before at (l ++ m) ≡ greatest_end_before at l
+end_first at [] m a = end_none at m a
+end_first at (s ∷ l) m a = rw (end_first at l m a) refl
 
 -- and where n does not
-pub reach_short : (at : ℤ) (l : List Span) (n : Span) (r : List Span) → int_lt n.lo at ≡ false → IsSorted (l ++ n ∷ r) → reach_before at (l ++ n ∷ r) ≡ reach_before at l
-reach_short at l n r h s =
+pub end_short : (at : ℤ) (l : List Span) (n : Span) (r : List Span) → int_lt n.lo at ≡ false → IsSorted (l ++ n ∷ r) → greatest_end_before at (l ++ n ∷ r) ≡ greatest_end_before at l
+end_short at l n r h s =
     let k = sorted_round l n r s in
     let none = all_map (λ t. is_before n t ≡ true) (λ t. int_lt t.lo at ≡ false) (λ t e. begins_later at n t h e) r k.after in
-    reach_first at l (n ∷ r) (h, none)
+    end_first at l (n ∷ r) (h, none)
 
 start_skips : (at z : ℤ) (l m : List Span) → AllByRecursion (λ t. int_lt t.lo at ≡ true) l → start_from at z (l ++ m) ≡ start_from at z m
 start_skips at z [] m a = refl
