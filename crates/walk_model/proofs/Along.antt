@@ -1,3 +1,4 @@
+-- Checkpoints on one stretch: where the next one stands, and which are left.
 use Rattle.std.proofs.Common.{◌≡◌, ◌↔◌, ℕ, ◌+◌, ◌<◌, ◌≤◌, max, min, Option, Some, List, length, drop, get_or, sym, subst, ◌∙◌, arith, add-zero}
 use Rattle.std.proofs.lemmas.List.{drop_more}
 use Rattle.plane_geom.specs.declared.point.Point.{Point}

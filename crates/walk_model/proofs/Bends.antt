@@ -1,5 +1,6 @@
-use Rattle.std.proofs.Common.{◌≡◌, ℕ, suc, zero, ◌+◌, ◌<◌, ◌≤◌, Option, Some, None, List, [], ◌++◌, replicate, refl, sym, ap, ◌∙◌, zero-add, arith}
-use Rattle.std.proofs.lemmas.List.{append-nil}
+-- Bends and runs of a stretch of equal steps.
+use Rattle.std.proofs.Common.{◌≡◌, ◌⊎◌, ℕ, suc, zero, ◌+◌, ◌<◌, ◌≤◌, Option, Some, None, List, [], ◌∷◌, ◌++◌, replicate, refl, sym, ap, ◌∙◌, inl, inr, zero-add, arith, append_assoc}
+use Rattle.std.proofs.lemmas.List.{append-nil, replicate-append-replicate}
 use Rattle.plane_geom.specs.declared.point.Dir.{Dir}
 use Rattle.plane_geom.specs.declared.point.Dir.TheVariants.{East, South, West, North}
 use Rattle.walk_model.specs.Cost.{turn, bends_after, bends, runs_after, runs}
@@ -10,6 +11,14 @@ turn_same East = refl
 turn_same South = refl
 turn_same West = refl
 turn_same North = refl
+
+-- a step in the same direction, or a bend
+pub one_direction : (d e : Dir) → (d ≡ e) ⊎ (0 < turn d e)
+one_direction East East = inl refl
+one_direction South South = inl refl
+one_direction West West = inl refl
+one_direction North North = inl refl
+one_direction _ _ = inr (omega arith)
 
 -- a bend is at most a doubling back
 pub turn_bound : (d e : Dir) → turn d e ≤ 2
@@ -27,6 +36,10 @@ bends_after-stretch d (suc n) ds = omega (arith, turn_same d, bends_after-stretc
 pub runs_after-stretch : (d : Dir) (n : ℕ) (ds : List Dir) → runs_after d (replicate n d ++ ds) ≡ runs_after d ds
 runs_after-stretch d zero ds = refl
 runs_after-stretch d (suc n) ds = rw (turn_same d, zero-add) (runs_after-stretch d n ds)
+
+-- equal steps, and the last of them with the steps behind
+pub stretch_end : (n : ℕ) (d : Dir) (ds : List Dir) → replicate (suc n) d ++ ds ≡ replicate n d ++ (d ∷ ds)
+stretch_end n d ds = ap (λ k. replicate k d ++ ds) (let e : suc n ≡ n + 1 = omega arith in e) ∙ ap (λ xs. xs ++ ds) (sym (replicate-append-replicate n 1 d)) ∙ append_assoc (replicate n d) (d ∷ []) ds
 
 -- the bends of the steps that follow the last step, if there is one
 abbrev pub bends_from : Option Dir → List Dir → ℕ

@@ -1,10 +1,10 @@
+-- The cost of a line, corner by corner.
 use Rattle.std.proofs.Common.{◌≡◌, ℕ, ◌+◌, ◌*◌, ◌<◌, ◌≤◌, Option, Some, None, List, ◌∷◌, ◌++◌, length, drop, get_or, replicate, All, sym, ap, subst, ◌∙◌, arith, length-append}
 use Rattle.std.proofs.lemmas.List.{drop_more, length-replicate}
 use Rattle.std.proofs.lemmas.List.Elements.{All-get_or, All-head, All-tail}
 use Rattle.plane_geom.specs.declared.point.Point.{Point}
 use Rattle.plane_geom.specs.declared.point.Dir.{Dir}
 use Rattle.plane_geom.specs.Point.{PointIsOnSheet, distance, heading}
-use Rattle.walk_model.specs.declared.line.TheConstants.{MOST_POINTS}
 use Rattle.walk_model.specs.Cost.{bends}
 use Rattle.walk_model.specs.Line.{steps_of, steps_through}
 use Rattle.walk_model.proofs.Bends.{bends_from, bends_from-stretch, turn_from, turn_from_bound}
@@ -14,13 +14,13 @@ use Rattle.plane_geom.proofs.Signed.{distance_bound}
 pub record CostSoFar (all : List Dir) (rest : List Point) (i : ℕ) (at : Point) (last : Option Dir) (walked turns : ℕ) : Type 0 where
   pub within : PointIsOnSheet at
   pub rest_within : All PointIsOnSheet rest
-  pub few : length rest ≤ MOST_POINTS
+  pub few : length rest ≤ 40000000
   pub all_steps : walked + length (steps_through at (drop i rest)) ≡ length all
   pub all_bends : turns + bends_from last (steps_through at (drop i rest)) ≡ bends all
   pub few_bends : turns ≤ 2 * i
   pub few_steps : walked ≤ 8000000000 * i
 
-pub cost_none : (points : List Point) (p : Point) (rest : List Point) → points ≡ p ∷ rest → All PointIsOnSheet points → length points ≤ MOST_POINTS → CostSoFar (steps_of points) rest 0 p None 0 0
+pub cost_none : (points : List Point) (p : Point) (rest : List Point) → points ≡ p ∷ rest → All PointIsOnSheet points → length points ≤ 40000000 → CostSoFar (steps_of points) rest 0 p None 0 0
 cost_none points p rest e within few =
     let all = subst (All PointIsOnSheet) e within in
     subst (λ ps. CostSoFar (steps_of ps) rest 0 p None 0 0) (sym e) (record {

@@ -1,3 +1,4 @@
+-- The order of walks is total, and of the legal walks of a task one is first.
 use Rattle.std.proofs.Common.{Bool, ◌≡◌, ◌⊎◌, ℕ, suc, zero, ◌<◌, ◌≤◌, List, [], ◌∷◌, ◌++◌, length, get_or, Option, Some, None, refl, sym, ap, subst, ◌∙◌, inl, inr, arith, append_assoc, append-nil}
 use Rattle.std.specs.declared.cmp.Ordering.{Ordering}
 use Rattle.std.specs.declared.cmp.Ordering.TheVariants.{Less, Equal, Greater}
@@ -18,7 +19,7 @@ use Rattle.walk_model.specs.Lean.{lean}
 use Rattle.walk_model.specs.Legal.{IsLegal, cost_with}
 use Rattle.walk_model.specs.Order.{Triple, IsLegalTriple, triple_cost, rank, dir_cmp, compare_triples, IsBefore, IsFirst}
 use Rattle.walk_model.specs.OneFirst.{HasOneFirst}
-use Rattle.walk_model.proofs.Tests.{Tells, yes, no, legal_told, rank_below, same_rank, unrank, unrank-rank}
+use Rattle.walk_model.proofs.Deciding.{Tells, yes, no, legal_told, rank_below, same_rank, unrank, unrank-rank}
 
 -- the order of walks is a total order of their keys
 pub triples_total : (task : Task) → IsTotalOrder (compare_triples task)
@@ -56,7 +57,7 @@ cost_first Greater p m n e h = absurd (let wrong : Greater ≡ Less = h in cc)
 pub before_cost : (task : Task) (a b : Triple) → IsBefore task a b → triple_cost task a ≤ triple_cost task b
 before_cost task a b h = cost_first (nat_cmp (triple_cost task a) (triple_cost task b)) _ _ _ refl h
 
-cheaper_cmp : (m n : ℕ) (p : Ordering) → m < n → ordering_then (nat_cmp m n) p ≡ Less
+pub cheaper_cmp : (m n : ℕ) (p : Ordering) → m < n → ordering_then (nat_cmp m n) p ≡ Less
 cheaper_cmp m n p h = by_order (nat_cmp m n) refl
   where
     by_order : (o : Ordering) → o ≡ nat_cmp m n → ordering_then o p ≡ Less
@@ -122,20 +123,20 @@ decided_by f g (yes e p) = holds (f p)
 decided_by f g (no e n) = fails (λ q. n (g q))
 
 triple_decided : (solids : List Solid) (task : Task) (t : Triple) → Decided (IsLegalTriple solids task t)
-triple_decided solids task t = by_start (slice_get task.starts.items t.start) refl
+triple_decided solids task t = by_start (slice_get task.starts t.start) refl
   where
-    by_end : (s : Choice) → slice_get task.starts.items t.start ≡ Some s → (e : Option Choice) → slice_get task.ends.items t.end ≡ e → Decided (IsLegalTriple solids task t)
+    by_end : (s : Choice) → slice_get task.starts t.start ≡ Some s → (e : Option Choice) → slice_get task.ends t.end ≡ e → Decided (IsLegalTriple solids task t)
     by_end s h None g = fails (λ l. let wrong : None ≡ Some l.end = sym g ∙ l.is_end in cc)
     by_end s h (Some e) g = decided_by
         (λ l. record { start = s; end = e; is_start = h; is_end = g; legal = l })
         (λ l. let same : l.start ≡ s = let both : Some l.start ≡ Some s = sym l.is_start ∙ h in cc in
         let also : l.end ≡ e = let both : Some l.end ≡ Some e = sym l.is_end ∙ g in cc in
-        subst (λ (c : Choice). IsLegal solids task.via.items c t.walk e) same (subst (λ (c : Choice). IsLegal solids task.via.items l.start t.walk c) also l.legal))
-        (legal_told solids task.via.items s t.walk e)
+        subst (λ (c : Choice). IsLegal solids task.via c t.walk e) same (subst (λ (c : Choice). IsLegal solids task.via l.start t.walk c) also l.legal))
+        (legal_told solids task.via s t.walk e)
 
-    by_start : (s : Option Choice) → slice_get task.starts.items t.start ≡ s → Decided (IsLegalTriple solids task t)
+    by_start : (s : Option Choice) → slice_get task.starts t.start ≡ s → Decided (IsLegalTriple solids task t)
     by_start None h = fails (λ l. let wrong : None ≡ Some l.start = sym h ∙ l.is_start in cc)
-    by_start (Some s) h = by_end s h (slice_get task.ends.items t.end) refl
+    by_start (Some s) h = by_end s h (slice_get task.ends t.end) refl
 
 -- triples with equal parts are equal
 same_triple : (t u : Triple) → t.start ≡ u.start → t.walk.start ≡ u.walk.start → t.walk.steps ≡ u.walk.steps → t.end ≡ u.end → t ≡ u
@@ -217,14 +218,14 @@ Short solids task n t = IsLegalTriple solids task t × (length t.walk.steps ≤ 
 
 -- where the walks of a task begin that have the start choice at a place
 pin_at : Task → Choice → ℕ → Point
-pin_at task c i = (get_or task.starts.items i c).pin
+pin_at task c i = (get_or task.starts i c).pin
 
 legal_pin : (solids : List Solid) (task : Task) (c : Choice) (t : Triple) → IsLegalTriple solids task t → t.walk.start ≡ pin_at task c t.start
 unfolding pin_at
 legal_pin solids task c t l =
-    let within = slice_get_within task.starts.items t.start l.start l.is_start in
-    let same : l.start ≡ get_or task.starts.items t.start c =
-    let both : Some l.start ≡ Some (get_or task.starts.items t.start c) = sym l.is_start ∙ slice_get-get_or task.starts.items t.start c within in cc in
+    let within = slice_get_within task.starts t.start l.start l.is_start in
+    let same : l.start ≡ get_or task.starts t.start c =
+    let both : Some l.start ≡ Some (get_or task.starts t.start c) = sym l.is_start ∙ slice_get-get_or task.starts t.start c within in cc in
     l.legal.leaves.pin ∙ ap (λ (s : Choice). s.pin) same
 
 -- of the legal walks of at most n steps, one stands before all others
@@ -232,19 +233,19 @@ search : (solids : List Solid) (task : Task) (c : Choice) (n : ℕ) → Outcome 
 unfolding pin_at Short
 search solids task c n =
     let By : ℕ → ℕ → Triple → Type 0 = λ i j. Continues solids task i j (pin_at task c i) [] n in
-    let Among : ℕ → Triple → Type 0 = λ i t. (j : ℕ) × (j < length task.ends.items) × By i j t in
-    outcome_as (λ t. (i : ℕ) × (i < length task.starts.items) × Among i t) (Short solids task n)
+    let Among : ℕ → Triple → Type 0 = λ i t. (j : ℕ) × (j < length task.ends) × By i j t in
+    outcome_as (λ t. (i : ℕ) × (i < length task.starts) × Among i t) (Short solids task n)
     (λ t h. let found = h.2.2 in (found.legal, omega (arith, ap length found.steps, found.few)))
     (λ t h. let l = h.0 in (
       t.start,
-      slice_get_within task.starts.items t.start l.start l.is_start,
+      slice_get_within task.starts t.start l.start l.is_start,
       (
         t.end,
-        slice_get_within task.ends.items t.end l.end l.is_end,
+        slice_get_within task.ends t.end l.end l.is_end,
         record { is_start = refl; is_end = refl; begins = legal_pin solids task c t l; legal = l; more = t.walk.steps; few = h.1; steps = refl },
       ),
     ))
-    (over (length task.starts.items) Among (λ i. over (length task.ends.items) (By i) (λ j. search_steps solids task i j (pin_at task c i) n [])))
+    (over (length task.starts) Among (λ i. over (length task.ends) (By i) (λ j. search_steps solids task i j (pin_at task c i) n [])))
 
 steps_within_cost : (task : Task) (t : Triple) → length t.walk.steps ≤ triple_cost task t
 steps_within_cost task t = omega arith
@@ -298,7 +299,7 @@ same_order solids task a b l k h =
     let f = then_equal (slice_cmp dir_cmp a.walk.steps b.walk.steps) (nat_cmp a.end b.end) e.1 in
     let start : a.start ≡ b.start = same_number a.start b.start e.0 in
     let same : l.start ≡ k.start =
-    let both : Some l.start ≡ Some k.start = sym l.is_start ∙ ap (slice_get task.starts.items) start ∙ k.is_start in cc in
+    let both : Some l.start ≡ Some k.start = sym l.is_start ∙ ap (slice_get task.starts) start ∙ k.is_start in cc in
     same_triple a b start
     (l.legal.leaves.pin ∙ ap (λ (c : Choice). c.pin) same ∙ sym k.legal.leaves.pin)
     (same_steps a.walk.steps b.walk.steps f.0)

@@ -1,12 +1,13 @@
-use Rattle.std.proofs.Common.{◌≡◌, true, false, ℕ, suc, zero, ◌+◌, ◌<◌, ◌≤◌, ℤ, List, [], ◌∷◌, ◌++◌, length, take, drop, replicate, get_or, refl, sym, ap, ◌∙◌, inl, inr, arith, length-append, length-drop}
-use lib.Signed.{lt_z, ◌<ℤ◌, ◌≤ℤ◌}
-use Rattle.std.proofs.lemmas.Int.{ints, by_lt_z}
+-- A line is scanned from corner to corner, with the walk along it.
+use Rattle.std.proofs.Common.{◌≡◌, ℕ, suc, zero, ◌+◌, ◌<◌, ◌≤◌, ℤ, List, [], ◌∷◌, ◌++◌, length, take, drop, replicate, get_or, refl, sym, ap, ◌∙◌, arith, length-append, length-drop}
+use Rattle.std.proofs.lemmas.Int.{ints}
 use Rattle.std.proofs.lemmas.List.{length-replicate, take-append-le, take-replicate, drop-drop, drop_at, get_or-drop, get_or-replicate, get_or_append_left}
 use Rattle.std.proofs.Math.Seq.{take-add}
 use Rattle.plane_geom.specs.declared.point.Point.{Point}
 use Rattle.plane_geom.specs.declared.point.Dir.{Dir}
 use Rattle.plane_geom.specs.declared.point.Dir.TheVariants.{East, South, West, North}
 use Rattle.plane_geom.specs.Point.{IsStraight, distance, forward, heading}
+use Rattle.plane_geom.proofs.Headings.{straight_end}
 use Rattle.walk_model.specs.Walk.{Walk, after, point_at, step_at}
 use Rattle.walk_model.specs.Line.{steps_through, walk_through}
 
@@ -33,28 +34,6 @@ after-append p (d ∷ xs) ys = after-append (forward d 1 p) xs ys
 pub after-replicate : (p : Point) (n : ℕ) (d : Dir) → after p (replicate n d) ≡ forward d n p
 after-replicate p zero d = sym (forward-zero d p)
 after-replicate p (suc n) d = after-replicate (forward d 1 p) n d ∙ forward-forward d n 1 p ∙ ap (λ k. forward d k p) (omega arith)
-
--- what the tests of a heading answer
-less : (a b : ℤ) → a <ℤ b → lt_z a b ≡ true
-less a b h = grind (arith, ints)
-
-not_less : (a b : ℤ) → b ≤ℤ a → lt_z a b ≡ false
-not_less a b h = grind (arith, ints)
-
--- points with equal coordinates are equal
-pub same_point : (p q : Point) → p.x ≡ q.x → p.y ≡ q.y → p ≡ q
-same_point p q x y = ap (λ (a : ℤ). record { x = a; y = p.y }) x ∙ ap (λ (b : ℤ). record { x = q.x; y = b }) y
-
--- a straight segment leads from the one point to the other
-pub straight_end : (p q : Point) → IsStraight p q → forward (heading p q) (distance p q) p ≡ q
-straight_end p q (inl x) = by_lt_z p.y q.y
-    (λ l. rw (not_less p.x q.x (omega (arith, ints)), not_less q.x p.x (omega (arith, ints)), less _ _ l) (same_point _ q x (omega (arith, ints))))
-    (λ l. rw (not_less p.x q.x (omega (arith, ints)), not_less q.x p.x (omega (arith, ints)), not_less _ _ l) (same_point _ q x (omega (arith, ints))))
-straight_end p q (inr y) = by_lt_z p.x q.x
-    (λ l. rw (less _ _ l) (same_point _ q (omega (arith, ints)) y))
-    (λ l. by_lt_z q.x p.x
-    (λ m. rw (not_less _ _ l, less _ _ m) (same_point _ q (omega (arith, ints)) y))
-    (λ m. rw (not_less _ _ l, not_less _ _ m, not_less p.y q.y (omega (arith, ints))) (same_point _ q (omega (arith, ints)) (omega (arith, ints)))))
 
 -- k steps on the walk stands at the point, and goes on along the line from there through the others
 pub record Stands (w : Walk) (k : ℕ) (p : Point) (rest : List Point) : Type 0 where

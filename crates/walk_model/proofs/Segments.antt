@@ -1,9 +1,9 @@
+-- The most checkpoints over the segments of a line.
 use Rattle.std.proofs.Common.{◌≡◌, ℕ, ◌+◌, ◌-◌, ◌*◌, ◌<◌, ◌≤◌, max, min, List, [], ◌∷◌, ◌++◌, length, drop, get_or, replicate, All, refl, sym, ap, subst, ◌∙◌, arith, length-drop}
 use Rattle.std.proofs.lemmas.List.{drop_all, drop_more}
 use Rattle.std.proofs.lemmas.List.Elements.{All-get_or, All-head, All-tail}
 use Rattle.plane_geom.specs.declared.point.Point.{Point}
 use Rattle.plane_geom.specs.Point.{PointIsOnSheet, heading}
-use Rattle.walk_model.specs.declared.line.TheConstants.{MOST_POINTS}
 use Rattle.walk_model.specs.declared.stretch.Stretch.{Stretch}
 use Rattle.walk_model.specs.Walk.{Walk, point_at}
 use Rattle.walk_model.specs.Line.{AreStraight, Draws, IsStraightLine, steps_of, steps_through}
@@ -48,7 +48,7 @@ stands_still w k p rest s = record {
 pub record PassedTo (points rest via : List Point) (from to i : ℕ) (at : Point) (walked passed : ℕ) : Type 0 where
   pub within : PointIsOnSheet at
   pub rest_within : All PointIsOnSheet rest
-  pub few : length rest ≤ MOST_POINTS
+  pub few : length rest ≤ 40000000
   pub few_steps : walked ≤ 8000000000 * i
   pub straight : AreStraight at (drop i rest)
   pub at_most : passed ≤ length via
@@ -56,7 +56,7 @@ pub record PassedTo (points rest via : List Point) (from to i : ℕ) (at : Point
   pub most : (w : Walk) → Draws points w → PassesMost w from (min to walked) via passed
 
 -- at the first corner
-pub passed_first : (points rest via : List Point) (from to : ℕ) (p : Point) (s : Stretch) (k : ℕ) → points ≡ p ∷ rest → IsStraightLine points → All PointIsOnSheet points → length points ≤ MOST_POINTS → k ≤ length via →
+pub passed_first : (points rest via : List Point) (from to : ℕ) (p : Point) (s : Stretch) (k : ℕ) → points ≡ p ∷ rest → IsStraightLine points → All PointIsOnSheet points → length points ≤ 40000000 → k ≤ length via →
     IsBetween s 0 p p → ((w : Walk) → GoesAlong w s → PassesMost w (max from s.number) (min to (s.number + s.steps)) via k) → PassedTo points rest via from to 0 p 0 k
 passed_first points rest via from to p s k e straight within few at_most is most =
     let all = subst (All PointIsOnSheet) e within in

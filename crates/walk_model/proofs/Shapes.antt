@@ -1,16 +1,19 @@
-use Rattle.std.proofs.Common.{◌≡◌, ◌≢◌, ℕ, suc, zero, ◌+◌, ◌*◌, ◌<◌, ◌≤◌, ℤ, pos, ◌+ℤ◌, Option, Some, None, List, ◌∷◌, ◌++◌, length, drop, get_or, replicate, All, refl, sym, ap, subst, ◌∙◌, arith, false, ◌==◌, if◌then◌else◌, unsigned_abs}
+-- Runs and lean of a line, corner by corner.
+use Rattle.std.proofs.Common.{◌≡◌, ◌≢◌, ℕ, suc, zero, ◌+◌, ◌*◌, ◌<◌, ◌≤◌, ℤ, pos, ◌+ℤ◌, Option, Some, None, List, [], ◌∷◌, ◌++◌, length, drop, get_or, replicate, All, refl, sym, ap, subst, ◌∙◌, arith, false, ◌==◌, if◌then◌else◌, unsigned_abs}
 use Rattle.std.proofs.lemmas.Int.{ints}
-use Rattle.std.proofs.lemmas.List.{drop_more}
+use Rattle.std.proofs.lemmas.List.{append-nil, drop_more}
 use Rattle.std.proofs.lemmas.List.Elements.{All-get_or, All-head, All-tail}
 use Rattle.plane_geom.specs.declared.point.Point.{Point}
 use Rattle.plane_geom.specs.declared.point.Dir.{Dir}
 use Rattle.plane_geom.specs.declared.point.Dir.TheVariants.{East, South, West, North}
+use Rattle.plane_geom.specs.Along.{way_of, across}
 use Rattle.plane_geom.specs.Point.{PointIsOnSheet, IsStraight, distance, forward, heading}
 use Rattle.walk_model.specs.Cost.{turn, runs, runs_after}
-use Rattle.walk_model.specs.Lean.{across, lean, lean_after, line_lean}
+use Rattle.walk_model.specs.Lean.{lean, lean_after, line_lean}
 use Rattle.walk_model.specs.Line.{AreStraight, IsStraightLine, steps_of, steps_through}
 use Rattle.walk_model.proofs.Bends.{turn_same, runs_after-stretch}
-use Rattle.walk_model.proofs.Scan.{forward-zero, forward-forward, straight_end}
+use Rattle.plane_geom.proofs.Headings.{straight_end}
+use Rattle.walk_model.proofs.Scan.{forward-zero, forward-forward}
 
 -- the runs and the lean of the steps from the point that follow the last step, if there is one
 abbrev pub runs_from : Option Dir → List Dir → ℕ
@@ -22,16 +25,16 @@ lean_from None p ds = lean p ds
 lean_from (Some d) p ds = lean_after d p ds
 
 -- a stretch goes on the run before it
-lean_after-stretch : (d : Dir) (n : ℕ) (p : Point) (ds : List Dir) → lean_after d p (replicate n d ++ ds) ≡ lean_after d (forward d n p) ds
+pub lean_after-stretch : (d : Dir) (n : ℕ) (p : Point) (ds : List Dir) → lean_after d p (replicate n d ++ ds) ≡ lean_after d (forward d n p) ds
 lean_after-stretch d zero p ds = ap (λ (q : Point). lean_after d q ds) (sym (forward-zero d p))
 lean_after-stretch d (suc n) p ds =
-    ap (λ k. (if k == 0 then pos 0 else across d p) +ℤ lean_after d (forward d 1 p) (replicate n d ++ ds)) (turn_same d)
+    ap (λ k. (if k == 0 then pos 0 else across (way_of d) p) +ℤ lean_after d (forward d 1 p) (replicate n d ++ ds)) (turn_same d)
     ∙ (let zero_on : pos 0 +ℤ lean_after d (forward d 1 p) (replicate n d ++ ds) ≡ lean_after d (forward d 1 p) (replicate n d ++ ds) = omega (arith, ints) in zero_on)
     ∙ lean_after-stretch d n (forward d 1 p) ds
     ∙ ap (λ (q : Point). lean_after d q ds) (forward-forward d n 1 p ∙ ap (λ k. forward d k p) (omega arith))
 
 -- only to go on in the same direction is no bend
-turn_differs : (d e : Dir) → d ≢ e → (turn d e == 0) ≡ false
+pub turn_differs : (d e : Dir) → d ≢ e → (turn d e == 0) ≡ false
 turn_differs East East h = absurd (h refl)
 turn_differs East South h = refl
 turn_differs East West h = refl
@@ -50,18 +53,25 @@ turn_differs North West h = refl
 turn_differs North North h = absurd (h refl)
 
 -- a stretch that is not empty begins a run, or goes on one
-new_runs : (last : Option Dir) (e : Dir) (n : ℕ) (ds : List Dir) → 0 < n → last ≢ Some e → runs_from last (replicate n e ++ ds) ≡ 1 + runs_from (Some e) ds
+pub new_runs : (last : Option Dir) (e : Dir) (n : ℕ) (ds : List Dir) → 0 < n → last ≢ Some e → runs_from last (replicate n e ++ ds) ≡ 1 + runs_from (Some e) ds
 new_runs last e zero ds h not = absurd (omega arith)
 new_runs None e (suc n) ds h not = ap (λ k. 1 + k) (runs_after-stretch e n ds)
 new_runs (Some d) e (suc n) ds h not =
     ap (λ b. (if b then 0 else 1) + runs_after e (replicate n e ++ ds)) (turn_differs d e (λ same. not (ap Some same))) ∙ ap (λ k. 1 + k) (runs_after-stretch e n ds)
 
-new_lean : (last : Option Dir) (e : Dir) (n : ℕ) (p : Point) (ds : List Dir) → 0 < n → last ≢ Some e → lean_from last p (replicate n e ++ ds) ≡ across e p +ℤ lean_after e (forward e n p) ds
+pub new_lean : (last : Option Dir) (e : Dir) (n : ℕ) (p : Point) (ds : List Dir) → 0 < n → last ≢ Some e → lean_from last p (replicate n e ++ ds) ≡ across (way_of e) p +ℤ lean_after e (forward e n p) ds
 new_lean last e zero p ds h not = absurd (omega arith)
-new_lean None e (suc n) p ds h not = ap (λ z. across e p +ℤ z) (lean_after-stretch e n (forward e 1 p) ds ∙ ap (λ (q : Point). lean_after e q ds) (forward-forward e n 1 p ∙ ap (λ k. forward e k p) (omega arith)))
+new_lean None e (suc n) p ds h not = ap (λ z. across (way_of e) p +ℤ z) (lean_after-stretch e n (forward e 1 p) ds ∙ ap (λ (q : Point). lean_after e q ds) (forward-forward e n 1 p ∙ ap (λ k. forward e k p) (omega arith)))
 new_lean (Some d) e (suc n) p ds h not =
-    ap (λ b. (if b then pos 0 else across e p) +ℤ lean_after e (forward e 1 p) (replicate n e ++ ds)) (turn_differs d e (λ same. not (ap Some same)))
-    ∙ ap (λ z. across e p +ℤ z) (lean_after-stretch e n (forward e 1 p) ds ∙ ap (λ (q : Point). lean_after e q ds) (forward-forward e n 1 p ∙ ap (λ k. forward e k p) (omega arith)))
+    ap (λ b. (if b then pos 0 else across (way_of e) p) +ℤ lean_after e (forward e 1 p) (replicate n e ++ ds)) (turn_differs d e (λ same. not (ap Some same)))
+    ∙ ap (λ z. across (way_of e) p +ℤ z) (lean_after-stretch e n (forward e 1 p) ds ∙ ap (λ (q : Point). lean_after e q ds) (forward-forward e n 1 p ∙ ap (λ k. forward e k p) (omega arith)))
+
+-- equal steps lean as their line does
+pub lean-stretch : (p : Point) (d : Dir) (n : ℕ) → 0 < n → lean p (replicate n d) ≡ across (way_of d) p
+lean-stretch p d n some =
+    let whole = new_lean None d n p [] some (λ e. cc) in
+    let same : lean p (replicate n d) ≡ lean p (replicate n d ++ []) = ap (lean p) (sym (append-nil (replicate n d))) in
+    omega (arith, ints, same, whole)
 
 -- at a corner, with what came before, what the corners ahead add to the runs and the lean makes all
 pub record ShapeSoFar (points rest : List Point) (i : ℕ) (at : Point) (last : Option Dir) (count : ℕ) (sum : ℤ) : Type 0 where
@@ -88,7 +98,7 @@ shape_none points p rest e line within few =
       small = omega arith;
     })
 
-across_small : (d : Dir) (p : Point) → PointIsOnSheet p → unsigned_abs (across d p) ≤ 2000000000
+across_small : (d : Dir) (p : Point) → PointIsOnSheet p → unsigned_abs (across (way_of d) p) ≤ 2000000000
 across_small East p h = omega (arith, ints, h.y.low, h.y.high)
 across_small South p h = omega (arith, ints, h.x.low, h.x.high)
 across_small West p h = omega (arith, ints, h.y.low, h.y.high)
@@ -108,13 +118,13 @@ module _ (points rest : List Point) (i : ℕ) (at : Point) (last : Option Dir) (
   both_straight = subst (AreStraight at) (drop_more rest i d some) so.straight
 
   -- the next segment begins a run
-  pub shape_on : 0 < distance at next → last ≢ Some (heading at next) → ShapeSoFar points rest (i + 1) next (Some (heading at next)) (count + 1) (sum +ℤ across (heading at next) at)
+  pub shape_on : 0 < distance at next → last ≢ Some (heading at next) → ShapeSoFar points rest (i + 1) next (Some (heading at next)) (count + 1) (sum +ℤ across (way_of (heading at next)) at)
   shape_on differ not =
       let e = heading at next in
       let n = distance at next in
       let more_runs = ap (runs_from last) segment ∙ new_runs last e n ahead differ not in
       let more_lean = ap (lean_from last at) segment ∙ new_lean last e n at ahead differ not
-      ∙ ap (λ (q : Point). across e at +ℤ lean_after e q ahead) (straight_end at next both_straight.0) in
+      ∙ ap (λ (q : Point). across (way_of e) at +ℤ lean_after e q ahead) (straight_end at next both_straight.0) in
       record {
         within = All-get_or PointIsOnSheet rest i d some so.rest_within;
         rest_within = so.rest_within;

@@ -1,3 +1,4 @@
+-- The order of two lists of steps, stretch by stretch.
 use Rattle.std.proofs.Common.{◌≡◌, ℕ, suc, zero, ◌+◌, ◌-◌, ◌<◌, ◌≤◌, min, List, ◌++◌, length, replicate, drop, refl, sym, ap, ◌∙◌, arith, length-append, length-drop, append_assoc}
 use Rattle.std.specs.Cmp.Lexicographic.{slice_cmp}
 use Rattle.std.proofs.lemmas.List.{length-replicate, replicate-append-replicate}
@@ -10,7 +11,7 @@ use Rattle.walk_model.specs.declared.steps.RemainingSteps.{RemainingSteps}
 use Rattle.walk_model.specs.Line.{steps_through}
 use Rattle.walk_model.specs.Order.{dir_cmp, rank}
 use Rattle.walk_model.specs.RemainingSteps.{IsReady, remaining_steps}
-use Rattle.walk_model.proofs.Tests.{same_rank}
+use Rattle.walk_model.proofs.Deciding.{same_rank}
 use Rattle.walk_model.proofs.StepLists.{drop-stretch, slice_cmp-stretch}
 
 -- two lists of steps in the order of two others

@@ -1,3 +1,4 @@
+-- The number of a point on a stretch.
 use Rattle.std.specs.Bool.{then_some}
 use Rattle.std.proofs.Common.{◌≡◌, ◌↔◌, Bool, true, false, IsTrue, Some, ℕ, ◌+◌, ◌-◌, ◌≤◌, max, ◌-ℤ◌, unsigned_abs, refl, sym, ap, ◌∙◌, arith}
 use Rattle.std.proofs.lemmas.Int.{ints}

@@ -1,3 +1,4 @@
+-- The choices of a connector's end.
 use Rattle.std.specs.Prelude.{ℕ, ◌≡◌, ◌<◌, ◌≤◌, ◌^◌, List, All, AllPairs}
 use Rattle.plane_geom.specs.Point.{PointIsOnSheet, forward, distance}
 use Rattle.walk_model.specs.declared.task.Choice.{Choice}

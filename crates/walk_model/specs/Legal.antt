@@ -1,3 +1,4 @@
+-- Legal walks, and the tasks that ask for them.
 use Rattle.std.specs.Prelude.{ℕ, ◌≡◌, ◌≢◌, ◌+◌, ◌-◌, ◌<◌, ◌≤◌, ◌^◌, ℤ, Option, Some, None, List, [], ◌∷◌, take, drop, length, replicate, All}
 use Rattle.plane_geom.specs.declared.point.Point.{Point}
 use Rattle.plane_geom.specs.declared.rect.Solid.{Solid}
@@ -48,10 +49,12 @@ pub record IsLegal (solids : List Solid) (via : List Point) (s : Choice) (w : Wa
 abbrev pub cost_with : ℕ → Choice → Walk → Choice → ℕ
 cost_with penalty s w e = walk_cost penalty w.steps + s.cost + e.cost
 
--- a task that a call may be handed
+-- a task that a call may be handed: at most 1024 choices of each end, at most 4 checkpoints, and a bend costs at most 10^9
 pub record IsTask (t : Task) : Type 0 where
-  pub starts : AreChoices t.starts.items
-  pub ends : AreChoices t.ends.items
-  pub via : All PointIsOnSheet t.via.items
-  pub few : length t.via.items ≤ 4
+  pub starts : AreChoices t.starts
+  pub ends : AreChoices t.ends
+  pub few_starts : length t.starts ≤ 1024
+  pub few_ends : length t.ends ≤ 1024
+  pub via : All PointIsOnSheet t.via
+  pub few : length t.via ≤ 4
   pub penalty : t.penalty ≤ 10 ^ 9

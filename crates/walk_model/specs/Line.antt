@@ -1,7 +1,8 @@
-use Rattle.std.specs.Prelude.{◌≡◌, List, [], ◌∷◌, ◌++◌, replicate}
+-- Lines by their corner points, and the walks along them.
+use Rattle.std.specs.Prelude.{◌≡◌, ◌≤◌, List, [], ◌∷◌, ◌++◌, replicate, length, All}
 use Rattle.plane_geom.specs.declared.point.Point.{Point}
 use Rattle.plane_geom.specs.declared.point.Dir.{Dir}
-use Rattle.plane_geom.specs.Point.{IsStraight, distance, heading}
+use Rattle.plane_geom.specs.Point.{IsStraight, PointIsOnSheet, distance, heading}
 use Rattle.walk_model.specs.Walk.{Walk}
 
 -- each segment of the line from the point through the others is straight
@@ -22,6 +23,16 @@ walk_through p qs = record { start = p; steps = steps_through p qs }
 abbrev pub IsStraightLine : List Point → Type 0
 IsStraightLine [] = Unit {0}
 IsStraightLine (p ∷ qs) = AreStraight p qs
+
+-- points that a call may be handed as the corners of a line: on the sheet, and at most 4 * 10^7
+pub record IsPolyline (points : List Point) : Type 0 where
+  pub within : All PointIsOnSheet points
+  pub few : length points ≤ 40000000
+
+-- such points with vertical and horizontal segments alone
+pub record IsOrthogonal (points : List Point) : Type 0 where
+  pub straight : IsStraightLine points
+  pub corners : IsPolyline points
 
 -- the unit steps of the line through the corner points
 abbrev pub steps_of : List Point → List Dir

@@ -1,3 +1,4 @@
+-- What the order of walks is.
 use Rattle.std.specs.Prelude.{◌≡◌, ◌≢◌, ◌⊎◌, ◌↔◌, List}
 use Rattle.plane_geom.specs.declared.rect.Solid.{Solid}
 use Rattle.walk_model.specs.declared.task.Task.{Task}

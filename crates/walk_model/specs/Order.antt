@@ -1,3 +1,4 @@
+-- The order of walks, first walks, and routes.
 use Rattle.std.specs.Prelude.{ℕ, ◌≡◌, ◌+◌, List, length, Some, unwrap_or, slice_get}
 use Rattle.std.specs.declared.cmp.Ordering.TheVariants.{Less}
 use Rattle.std.specs.declared.cmp.Ordering.{Ordering}
@@ -26,9 +27,9 @@ pub record Triple : Type 0 where
 pub record IsLegalTriple (solids : List Solid) (task : Task) (t : Triple) : Type 0 where
   pub start : Choice
   pub end : Choice
-  pub is_start : slice_get task.starts.items t.start ≡ Some start
-  pub is_end : slice_get task.ends.items t.end ≡ Some end
-  pub legal : IsLegal solids task.via.items start t.walk end
+  pub is_start : slice_get task.starts t.start ≡ Some start
+  pub is_end : slice_get task.ends t.end ≡ Some end
+  pub legal : IsLegal solids task.via start t.walk end
 
 -- the connection cost of the choice at the place
 abbrev pub pin_cost : List Choice → ℕ → ℕ
@@ -36,7 +37,7 @@ pin_cost choices place = unwrap_or (option_map (λ c. c.cost) (slice_get choices
 
 -- what the walk costs with its choices
 abbrev pub triple_cost : Task → Triple → ℕ
-triple_cost task t = walk_cost task.penalty t.walk.steps + pin_cost task.starts.items t.start + pin_cost task.ends.items t.end
+triple_cost task t = walk_cost task.penalty t.walk.steps + pin_cost task.starts t.start + pin_cost task.ends t.end
 
 -- the place of a direction in the order East, South, West, North
 abbrev pub rank : Dir → ℕ

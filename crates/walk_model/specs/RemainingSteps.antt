@@ -1,3 +1,4 @@
+-- The steps of a line that are left. No public clause cites this module.
 use Rattle.std.specs.Prelude.{◌≡◌, List, [], ◌++◌, replicate, All}
 use Rattle.plane_geom.specs.declared.point.Dir.{Dir}
 use Rattle.plane_geom.specs.Point.{PointIsOnSheet}

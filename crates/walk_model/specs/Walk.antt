@@ -1,3 +1,4 @@
+-- Walks: a start point and unit steps.
 use Rattle.std.specs.Prelude.{ℕ, List, [], ◌∷◌, take, replicate, slice_index_or}
 use Rattle.plane_geom.specs.declared.point.Point.{Point}
 use Rattle.plane_geom.specs.declared.point.Dir.{Dir}

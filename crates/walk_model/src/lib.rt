@@ -10,7 +10,8 @@ mod steps;
 mod stretch;
 mod task;
 
-pub use line::{MOST_POINTS, cost_of, passed_between, passes, straight_by_steps};
-pub use order::{compare_routes, one_first_walk, run_count};
-pub use route::{Answer, Points, Route, WrittenRoute};
-pub use task::{Choice, Task};
+pub use line::{cost_of, passed_between, passes, straight_by_steps, walks_are_no_shorter};
+pub use order::{compare_routes, one_answer, one_first_walk, one_route, run_count, some_route};
+pub use plane_geom::Points;
+pub use route::{Answer, Route, WrittenRoute};
+pub use task::{Choice, Choices, Task};

@@ -1,25 +1,24 @@
-ghost use Rattle.std.specs.Prelude.{◌≡◌, ℕ, ◌+◌, ◌<◌, ◌≤◌, ◌^◌, ◌↔◌, [], take, length, replicate, All, IsTrue};
-ghost use Rattle.plane_geom.specs.Point.{PointIsOnSheet, forward};
+//! What a line costs, and which checkpoints it passes.
+ghost use Rattle.std.specs.Prelude.{◌≡◌, ℕ, ◌+◌, ◌<◌, ◌≤◌, ◌^◌, ◌↔◌, List, [], ◌∷◌, ◌++◌, take, length, replicate, All, IsTrue};
+ghost use Rattle.plane_geom.specs.Along.{across, way_of};
+ghost use Rattle.plane_geom.specs.Point.{distance, forward};
 ghost use Rattle.plane_geom.specs.declared.point.Dir.{Dir};
 ghost use Rattle.plane_geom.specs.declared.point.Point.{Point};
 ghost use Rattle.walk_model.specs.Cost.{bends, runs, turn, walk_cost};
+ghost use Rattle.walk_model.specs.Lean.{lean};
 ghost use Rattle.walk_model.specs.Legal.{Passes};
-ghost use Rattle.walk_model.specs.Line.{Draws, IsStraightLine, steps_of};
-ghost use Rattle.walk_model.specs.Walk.{Walk, after, point_at, step_at, straight_walk};
+ghost use Rattle.walk_model.specs.Line.{AreStraight, Draws, IsOrthogonal, steps_of, walk_through};
+ghost use Rattle.walk_model.specs.Walk.{Walk, after, end_of, point_at, step_at, straight_walk};
 
 use crate::stretch::Stretch;
 use plane_geom::{Dir, Point};
 
-/// The greatest number of corner points of a line.
-pub const MOST_POINTS: usize = 40_000_000;
-
 /// What the walk along the line costs: its length, and the penalty for each bend.
 ///
-/// A turn is one bend and a doubling back is two. All in thousandths.
+/// A turn is one bend and a doubling back is two. All in thousandths. The line has vertical and horizontal segments
+/// alone, lies on the sheet and has at most 40,000,000 points, and the penalty is at most 10^9.
 pub fn cost_of(points: &[Point], penalty: u64) -> u64
-    requires straight { IsStraightLine points.now }
-    requires within { All PointIsOnSheet points.now }
-    requires few { length points.now ≤ MOST_POINTS }
+    requires line { IsOrthogonal points.now }
     requires small { penalty ≤ 10 ^ 9 }
     ensures { result ≡ walk_cost penalty (steps_of points.now) }
 {
@@ -47,11 +46,10 @@ pub fn cost_of(points: &[Point], penalty: u64) -> u64
 
 /// Whether the walk along the line passes the checkpoints in order.
 ///
-/// Two checkpoints are passed at one point only where they are equal.
+/// Two checkpoints are passed at one point only where they are equal. The line is one that `cost_of` takes. A line
+/// without points passes no checkpoint.
 pub fn passes(points: &[Point], via: &[Point]) -> bool
-    requires straight { IsStraightLine points.now }
-    requires within { All PointIsOnSheet points.now }
-    requires few { length points.now ≤ MOST_POINTS }
+    requires line { IsOrthogonal points.now }
     ensures walk { (w : Walk) → Draws points.now w →
         IsTrue result ↔ Passes w 0 (length w.steps) via.now }
     ensures no_walk { points.now ≡ [] → IsTrue result ↔ (via.now ≡ []) }
@@ -62,10 +60,10 @@ pub fn passes(points: &[Point], via: &[Point]) -> bool
 
 /// How many of the checkpoints, from the first on, the walk along the line passes in order
 /// between its point number `from` and its point number `to`. Points of a walk count unit steps, from 0.
+///
+/// The line is one that `cost_of` takes, and both numbers are those of points of its walk.
 pub fn passed_between(points: &[Point], from: u64, to: u64, via: &[Point]) -> usize
-    requires straight { IsStraightLine points.now }
-    requires within { All PointIsOnSheet points.now }
-    requires few { length points.now ≤ MOST_POINTS }
+    requires line { IsOrthogonal points.now }
     requires in_order { from ≤ to }
     requires ends_within { to ≤ length (steps_of points.now) }
     ensures at_most { result ≤ length via.now }
@@ -90,7 +88,8 @@ pub fn passed_between(points: &[Point], from: u64, to: u64, via: &[Point]) -> us
     passed
 }
 
-/// Equal steps in a row lead straight on, and make one run without a bend.
+/// Equal steps in a row lead straight on, and make one run without a bend; the walk of a straight line ends at its
+/// last corner.
 pub fn straight_by_steps()
     ensures end { (p : Point) (d : Dir) (n : ℕ) → after p (replicate n d) ≡ forward d n p }
     ensures points { (p : Point) (d : Dir) (n k : ℕ) → k ≤ n →
@@ -98,6 +97,14 @@ pub fn straight_by_steps()
     ensures steps { (p : Point) (d : Dir) (n k : ℕ) → k < n → step_at (straight_walk p d n) k ≡ d }
     ensures no_bend { (d : Dir) (n : ℕ) → bends (replicate n d) ≡ 0 }
     ensures one_run { (d : Dir) (n : ℕ) → 0 < n → runs (replicate n d) ≡ 1 }
+    ensures one_lean { (p : Point) (d : Dir) (n : ℕ) → 0 < n → lean p (replicate n d) ≡ across (way_of d) p }
+    ensures line_end { (p q : Point) (corners : List Point) → AreStraight p (corners ++ q ∷ []) →
+        end_of (walk_through p (corners ++ q ∷ [])) ≡ q }
+{}
+
+/// A walk has at least as many steps as its ends are apart.
+pub fn walks_are_no_shorter()
+    ensures { (w : Walk) → distance w.start (end_of w) ≤ length w.steps }
 {}
 
 /// The bends between two consecutive steps.

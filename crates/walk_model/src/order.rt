@@ -1,14 +1,15 @@
+//! The order of routes.
 ghost use Rattle.std.specs.Prelude.{◌≡◌, ◌+◌, ◌+ℤ◌, ◌<◌, ◌≤◌, ◌^◌, ◌↔◌, List, length, All, IfOk, IsTrue, unsigned_abs};
 ghost use Rattle.plane_geom.specs.declared.rect.Solid.{Solid};
 ghost use Rattle.plane_geom.specs.Point.{PointIsOnSheet};
+ghost use Rattle.walk_model.specs.Answers.{HasOneAnswer};
 ghost use Rattle.walk_model.specs.Cost.{runs};
-ghost use Rattle.walk_model.specs.Lean.{across, line_lean};
-ghost use Rattle.walk_model.specs.Line.{IsStraightLine, steps_of};
+ghost use Rattle.walk_model.specs.Lean.{line_lean};
+ghost use Rattle.walk_model.specs.Line.{IsOrthogonal, steps_of};
 ghost use Rattle.walk_model.specs.OneFirst.{HasOneFirst};
 ghost use Rattle.walk_model.specs.Order.{IsRouteOf, Triple, compare_by_keys, compare_triples};
 ghost use Rattle.walk_model.specs.declared.task.Task.{Task};
 
-use crate::line::MOST_POINTS;
 use crate::route::Route;
 use crate::steps::compare_steps;
 use plane_geom::{Dir, Point};
@@ -44,29 +45,17 @@ fn goes_on(last: Option<Dir>, dir: Dir) -> bool
 }
 
 /// How many runs the walk along the line has: its longest blocks of equal steps.
+///
+/// The line is one that `cost_of` takes.
 pub fn run_count(points: &[Point]) -> u64
-    requires straight { IsStraightLine points.now }
-    requires within { All PointIsOnSheet points.now }
-    requires few { length points.now ≤ MOST_POINTS }
+    requires line { IsOrthogonal points.now }
     ensures { result ≡ runs (steps_of points.now) }
 {
     shape_of(points).runs
 }
 
-/// The coordinate across a step in the direction at the point.
-fn across(dir: Dir, at: Point) -> i64
-    ensures { result ≡ across dir at }
-{
-    match dir {
-        Dir::East | Dir::West => at.y,
-        Dir::South | Dir::North => at.x,
-    }
-}
-
 fn shape_of(points: &[Point]) -> Shape
-    requires straight { IsStraightLine points.now }
-    requires within { All PointIsOnSheet points.now }
-    requires few { length points.now ≤ MOST_POINTS }
+    requires line { IsOrthogonal points.now }
     ensures runs { result.runs ≡ runs (steps_of points.now) }
     ensures lean { result.lean ≡ line_lean points.now }
 {
@@ -80,7 +69,7 @@ fn shape_of(points: &[Point]) -> Shape
         if at.distance(next) > 0 {
             let dir = at.heading(next);
             if !goes_on(last, dir) {
-                shape = shape.with_run(across(dir, at));
+                shape = shape.with_run(at.across(dir.way()));
                 last = Some(dir);
             }
         }
@@ -92,14 +81,10 @@ fn shape_of(points: &[Point]) -> Shape
 /// The order of two routes of one task: by cost, then by the number of runs, the lean, the start choice,
 /// the list of unit steps and the end choice. A list of steps that begins another stands before it.
 ///
-/// The steps are compared run by run, and none is made.
+/// The steps are compared run by run, and none is made. Both lines are such that `cost_of` takes.
 pub fn compare_routes(a: &Route, b: &Route) -> Ordering
-    requires a_straight { IsStraightLine a.now.points }
-    requires b_straight { IsStraightLine b.now.points }
-    requires a_within { All PointIsOnSheet a.now.points }
-    requires b_within { All PointIsOnSheet b.now.points }
-    requires a_few { length a.now.points ≤ MOST_POINTS }
-    requires b_few { length b.now.points ≤ MOST_POINTS }
+    requires a_line { IsOrthogonal a.now.points }
+    requires b_line { IsOrthogonal b.now.points }
     ensures keys { result ≡ compare_by_keys a.now b.now }
     ensures order { (task : Task) (t u : Triple) → IsRouteOf task a.now t → IsRouteOf task b.now u →
         result ≡ compare_triples task t u }
@@ -120,10 +105,25 @@ pub fn one_first_walk()
     ensures { (solids : List Solid) (task : Task) → HasOneFirst solids task }
 {}
 
+/// A walk with its choices has one route at most.
+pub fn one_route()
+    ensures { (task : Task) (t : Triple) (a b : Route) → IsRouteOf task a t → IsRouteOf task b t → a ≡ b }
+{}
+
+/// Each walk with its choices has a route, whose numbers need not fit a machine's.
+pub fn some_route()
+    ensures { (task : Task) (t : Triple) → (r : Route) × IsRouteOf task r t }
+{}
+
+/// A task has one answer at most.
+pub fn one_answer()
+    ensures { (solids : List Solid) (task : Task) → HasOneAnswer solids task }
+{}
+
 #[cfg(test)]
 mod tests {
     use super::*;
-    use crate::route::Points;
+    use plane_geom::Points;
     use std::alloc::{AllocError, Global};
     use std::test::Fail;
 

@@ -1,31 +1,13 @@
-ghost use Rattle.std.specs.Prelude.{◌≡◌};
+//! What is answered for a connector.
+ghost use Rattle.std.specs.Prelude.{◌≡◌, IfOk};
 
-use plane_geom::Point;
-use std::marker::Model;
+use plane_geom::Points;
+use std::alloc::{AllocError, Global};
 
-/// The corner points of a route: a pin, each turn, each tip of a doubling back, and the last pin.
-#[derive(Debug, Drop)]
-pub struct Points(pub Vec<Point>);
-
-impl Model for Points {
-    ghost use Rattle.std.specs.Prelude.{List};
-    ghost use Rattle.plane_geom.specs.declared.point.Point.{Point};
-
-    ghost Value = { List Point };
-
-    ghost view = { λ p. p.0.items };
-}
-
-impl Points {
-    /// The points, in order.
-    pub fn as_slice(&self) -> &[Point]
-        ensures { result.now ≡ self.now }
-    {
-        &self.0
-    }
-}
-
-/// A legal walk of a task. `start` and `end` are places in its `starts` and `ends`, from 0.
+/// What is answered for a task that has a legal walk.
+///
+/// `start` and `end` are places in the task's `starts` and `ends`, from 0. `points` are the corners: a pin, each
+/// turn, each tip of a doubling back, and the last pin. `cost`, in thousandths, has both connection costs in it.
 #[derive(Debug, Drop)]
 pub struct Route {
     pub start: u32,
@@ -34,11 +16,41 @@ pub struct Route {
     pub cost: u64,
 }
 
-/// The first of the cheapest legal walks of a connector, and none where no walk is legal.
+impl Route {
+    /// The same route once more. Its only error is want of memory.
+    pub fn copy(&self, alloc: Global) -> Result<Route, AllocError>
+        ensures { IfOk result (λ r. r ≡ self.now) }
+    {
+        Ok(Route {
+            start: self.start,
+            end: self.end,
+            points: self.points.copy(alloc)?,
+            cost: self.cost,
+        })
+    }
+}
+
+/// What is answered for the connector with this number; there is no route where it has no legal walk.
 #[derive(Debug, Drop)]
 pub struct Answer {
     pub edge: u32,
     pub route: Option<Route>,
+}
+
+impl Answer {
+    /// The same answer once more. Its only error is want of memory.
+    pub fn copy(&self, alloc: Global) -> Result<Answer, AllocError>
+        ensures { IfOk result (λ a. a ≡ self.now) }
+    {
+        let route = match &self.route {
+            Some(route) => Some(route.copy(alloc)?),
+            None => None,
+        };
+        Ok(Answer {
+            edge: self.edge,
+            route,
+        })
+    }
 }
 
 /// The line of a connector as it is written.
@@ -51,8 +63,8 @@ pub struct WrittenRoute {
 #[cfg(test)]
 mod tests {
     use super::*;
-    use crate::task::{Choice, Task};
-    use plane_geom::Dir;
+    use crate::task::{Choice, Choices, Task};
+    use plane_geom::{Dir, Point};
     use std::test::Fail;
 
     #[test]
@@ -68,9 +80,9 @@ mod tests {
             cost: 0,
         };
         let task = Task {
-            starts: vec![in alloc; choice]?,
-            ends: vec![in alloc]?,
-            via: vec![in alloc; port]?,
+            starts: Choices(vec![in alloc; choice]?),
+            ends: Choices(vec![in alloc]?),
+            via: Points(vec![in alloc; port]?),
             penalty: 50,
         };
         let route = Route {
@@ -87,8 +99,16 @@ mod tests {
             edge: 1,
             points: Points(vec![in alloc; pin, port]?),
         };
-        assert_eq!(rt; task.starts.len(), 1);
-        assert!(rt; answer.route.is_some());
+        let task = task.copy(alloc)?;
+        let answer = answer.copy(alloc)?;
+        assert_eq!(rt; task.starts.0.len(), 1);
+        assert_eq!(rt; task.starts.0[0], choice);
+        assert_eq!(rt; task.via.0[0], port);
+        assert!(rt;
+            answer
+                .route
+                .is_some_and(|r| r.cost == 14 && r.points.0[1] == port)
+        );
         assert_eq!(rt; written.points.0.len(), 2);
         Ok(())
     }

@@ -1,3 +1,4 @@
+//! The unit steps of a line, compared run by run.
 ghost use Rattle.std.specs.Prelude.{◌≡◌, ◌≤◌, ◌++◌, drop, replicate, All};
 ghost use Rattle.std.specs.Cmp.Lexicographic.{slice_cmp};
 ghost use Rattle.plane_geom.specs.Point.{PointIsOnSheet};

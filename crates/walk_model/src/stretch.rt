@@ -1,3 +1,4 @@
+//! Equal steps in a row.
 ghost use Rattle.std.specs.Prelude.{ℕ, ◌≡◌, ◌+◌, ◌-◌, ◌^◌, ◌<◌, ◌≤◌, ◌↔◌, length, max, min};
 ghost use Rattle.plane_geom.specs.Point.{IsStraight, PointIsOnSheet, distance, forward};
 

@@ -1,4 +1,9 @@
-use plane_geom::{Dir, Point};
+//! What a connector asks of its walk.
+ghost use Rattle.std.specs.Prelude.{◌≡◌, IfOk};
+
+use plane_geom::{Dir, Point, Points};
+use std::alloc::{AllocError, Global};
+use std::marker::Model;
 
 /// A pin of a connector's end with one of its directions.
 ///
@@ -9,19 +14,62 @@ pub struct Choice {
     pub pin: Point,
     pub dir: Dir,
     pub port: Point,
-    /// What using the pin costs, in thousandths.
+    /// What using the pin costs, in thousandths, at most 10^9.
     pub cost: u64,
+}
+
+/// The choices of one end of a connector, in order.
+#[derive(Debug, Drop)]
+pub struct Choices(pub Vec<Choice>);
+
+impl Model for Choices {
+    ghost use Rattle.std.specs.Prelude.{List};
+    ghost use Rattle.walk_model.specs.declared.task.Choice.{Choice};
+
+    ghost Value = { List Choice };
+
+    ghost view = { λ c. c.0.items };
+}
+
+impl Choices {
+    /// The choices, in order.
+    pub fn as_slice(&self) -> &[Choice]
+        ensures { result.now ≡ self.now }
+    {
+        &self.0
+    }
+
+    /// The same choices once more. Its only error is want of memory.
+    pub fn copy(&self, alloc: Global) -> Result<Choices, AllocError>
+        ensures { IfOk result (λ c. c ≡ self.now) }
+    {
+        Ok(Choices(Vec::from_slice(alloc, &self.0)?))
+    }
 }
 
 /// What a connector asks of its walk.
 #[derive(Debug, Drop)]
 pub struct Task {
     /// The choices of the source, in order.
-    pub starts: Vec<Choice>,
+    pub starts: Choices,
     /// The choices of the target, in order.
-    pub ends: Vec<Choice>,
+    pub ends: Choices,
     /// The checkpoints, to be passed in this order between the two ports.
-    pub via: Vec<Point>,
-    /// What a bend costs, in thousandths.
+    pub via: Points,
+    /// What a bend costs, in thousandths, at most 10^9.
     pub penalty: u64,
+}
+
+impl Task {
+    /// The same task once more. Its only error is want of memory.
+    pub fn copy(&self, alloc: Global) -> Result<Task, AllocError>
+        ensures { IfOk result (λ t. t ≡ self.now) }
+    {
+        Ok(Task {
+            starts: self.starts.copy(alloc)?,
+            ends: self.ends.copy(alloc)?,
+            via: self.via.copy(alloc)?,
+            penalty: self.penalty,
+        })
+    }
 }

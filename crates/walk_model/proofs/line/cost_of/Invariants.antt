@@ -1,3 +1,4 @@
+-- The steps and bends up to a corner.
 use Rattle.walk_model.specs.Line.{steps_of}
 use Rattle.walk_model.proofs.Costs.{CostSoFar}
 use Rattle.walk_model.proofs.line.cost_of.Given as goal

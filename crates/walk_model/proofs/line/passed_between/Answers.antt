@@ -1,10 +1,11 @@
+-- The most up to a corner, and then the most of the others.
 use Rattle.std.proofs.lemmas.List.{take_rest}
 use Rattle.walk_model.proofs.Segments.{passed_first, passed_on, passed_all}
 use Rattle.walk_model.proofs.line.passed_between.Goals as goal
 
 pub loop-next-init : goal.loop-next-init
 loop-next-init c =
-    passed_first _ _ _ _ _ _ c.between.result c.passed_between-passed.result c.in-Some.ensures.cases.0 c.requires.straight c.requires.within c.requires.few
+    passed_first _ _ _ _ _ _ c.between.result c.passed_between-passed.result c.in-Some.ensures.cases.0 c.requires.line.straight c.requires.line.corners.within c.requires.line.corners.few
     c.passed_between-passed.ensures.at_most c.between.ensures c.passed_between-passed.ensures.most
 
 pub loop-next-preserved : goal.loop-next-preserved

@@ -1,3 +1,4 @@
+-- The most checkpoints up to a corner.
 use Rattle.walk_model.proofs.Segments.{PassedTo}
 use Rattle.walk_model.proofs.line.passed_between.Given as goal
 

@@ -1,3 +1,4 @@
+-- All are passed where the most of them is their number.
 use Rattle.std.proofs.Common.{◌≡◌, length, refl, ap, arith}
 use Rattle.std.proofs.lemmas.Bool.Decides.{nat_tests}
 use Rattle.walk_model.specs.Legal.{PassesMost}

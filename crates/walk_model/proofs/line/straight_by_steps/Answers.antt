@@ -1,8 +1,11 @@
+-- By induction over the steps.
 use Rattle.std.proofs.Common.{ap, ◌∙◌}
 use Rattle.std.proofs.lemmas.List.{take-replicate}
 use Rattle.walk_model.specs.Walk.{after}
 use Rattle.walk_model.proofs.Bends.{bends-stretch, runs-stretch}
+use Rattle.walk_model.proofs.Lengths.{line_leads}
 use Rattle.walk_model.proofs.Scan.{after-replicate}
+use Rattle.walk_model.proofs.Shapes.{lean-stretch}
 use Rattle.walk_model.proofs.line.straight_by_steps.Goals as goal
 
 pub returns-clause-end : goal.returns-clause-end
@@ -16,3 +19,9 @@ returns-clause-no_bend c = bends-stretch
 
 pub returns-clause-one_run : goal.returns-clause-one_run
 returns-clause-one_run c = runs-stretch
+
+pub returns-clause-one_lean : goal.returns-clause-one_lean
+returns-clause-one_lean c = lean-stretch
+
+pub returns-clause-line_end : goal.returns-clause-line_end
+returns-clause-line_end c = line_leads

@@ -1,3 +1,4 @@
+-- The runs and the lean up to a corner.
 use Rattle.walk_model.proofs.Shapes.{ShapeSoFar}
 use Rattle.walk_model.proofs.order.shape_of.Given as goal
 

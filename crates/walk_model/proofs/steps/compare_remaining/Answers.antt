@@ -1,3 +1,4 @@
+-- Equal steps in front leave the order to the others.
 use Rattle.std.proofs.Common.{◌≡◌, ◌≢◌, ◌∙◌, rules, arith, sym}
 use Rattle.walk_model.specs.Order.{dir_cmp}
 use Rattle.walk_model.proofs.StepOrder.{same_after, fewer_after, slice_cmp-different}

@@ -1,3 +1,4 @@
+-- The order of what is left is the order of all, and fewer steps are left.
 use Rattle.std.proofs.Common.{length}
 use Rattle.walk_model.specs.RemainingSteps.{remaining_steps}
 use Rattle.walk_model.proofs.StepOrder.{SameOrder}

@@ -1,3 +1,4 @@
+-- An empty stretch gives way to the next segment.
 use Rattle.std.proofs.Common.{◌∙◌, sym}
 use Rattle.walk_model.proofs.StepLists.{drop-stretch}
 use Rattle.walk_model.proofs.steps.RemainingSteps.after.Goals as goal

@@ -1,3 +1,4 @@
+-- A point on the stretch has one number.
 use Rattle.std.proofs.Common.{◌≡◌, ◌↔◌, max, ◌-ℤ◌, unsigned_abs, IsTrue, arith, rules}
 use Rattle.plane_geom.specs.Point.{forward}
 use Rattle.plane_geom.proofs.Signed.{coordinate_fits, signed}

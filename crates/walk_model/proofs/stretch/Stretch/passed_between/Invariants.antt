@@ -1,3 +1,4 @@
+-- The checkpoints passed so far.
 use Rattle.walk_model.proofs.Along.{PassedSoFar}
 use Rattle.walk_model.proofs.stretch.Stretch.passed_between.Given as goal
 

@@ -1,3 +1,4 @@
+-- Whether a walk is legal is told by a test that computes.
 use Rattle.std.proofs.Common.{◌≡◌, ◌≢◌, Bool, true, false, not, ◌&&◌, ◌||◌, ℕ, suc, zero, ◌+◌, ◌-◌, ◌<◌, ◌≤◌, leb, ℤ, pos, ◌+ℤ◌, ◌-ℤ◌, ◌≤ℤ◌, ◌<ℤ◌, List, [], ◌∷◌, length, take, drop, replicate, Option, Some, None, refl, sym, ap, subst, ◌∙◌, inl, inr, arith}
 use lib.Signed.{lt_z, le_z}
 use Rattle.std.proofs.lemmas.Int.{ints, by_lt_z}
@@ -17,7 +18,7 @@ use Rattle.walk_model.specs.Walk.{Walk, MeetsAt, point_at, step_at, end_of}
 use Rattle.walk_model.specs.Choice.{stub_length}
 use Rattle.walk_model.specs.Legal.{Leaves, Arrives, IsFree, Passes, IsLegal}
 use Rattle.walk_model.specs.Order.{rank}
-use Rattle.walk_model.proofs.Scan.{same_point}
+use Rattle.plane_geom.proofs.Headings.{same_point}
 
 -- the test answers whether the fact holds
 pub data Tells (test : Bool) (P : Type 0) : Type 0 where

@@ -1,0 +1,6 @@
+-- The corners are where the runs end.
+use Rattle.walk_model.proofs.SomeRoute.{some_route}
+use Rattle.walk_model.proofs.order.some_route.Goals as goal
+
+pub returns : goal.returns
+returns c = some_route
