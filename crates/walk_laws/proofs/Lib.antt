@@ -1,0 +1,25 @@
+-- The lemmas on first walks, callees first.
+pub mod Turns
+pub mod Fronts
+pub mod Straight
+pub mod Least
+pub mod Shift
+pub mod Flanks
+pub mod Clear
+pub mod Tours
+pub mod Parts
+pub mod Legs
+pub mod InnerRuns
+pub mod HeldRuns
+pub mod KeptSteps
+pub mod Lines
+pub mod CountedRuns
+pub mod OnLines
+pub mod OneRun
+pub mod FewRuns
+pub mod Numbers
+pub mod FirstWalks
+pub mod LineEnds
+pub mod OnSheet
+pub mod SmallWalks
+pub mod Cases

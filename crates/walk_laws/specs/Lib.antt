@@ -1,0 +1,3 @@
+-- The definitions that the laws of first walks cite.
+pub mod Lines
+pub mod Runs

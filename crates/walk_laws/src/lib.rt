@@ -1,0 +1,14 @@
+//! Laws of first walks: they go along the kept lines of a floor, with few runs.
+#![tactic(auto)]
+
+mod laws;
+mod sizes;
+
+pub use laws::{
+    checkpoints_are_crossings, doublings_back_are_at_checkpoints, first_walks_go_along_lines,
+    first_walks_have_few_runs, one_run_per_free_piece, runs_are_held,
+};
+pub use sizes::{
+    both_ways_are_all_runs, first_routes_are_small, first_walks_are_small,
+    first_walks_have_few_runs_of_a_way, first_walks_stay_on_sheet,
+};
