@@ -1,3 +1,4 @@
+-- The exponent as moves of the point, also where it was counted short.
 use Rattle.std.proofs.Common.{pow-add, ◌≡◌, ℕ, ◌+◌, ◌-◌, ◌*◌, ◌^◌, ◌<◌, ◌≤◌, min, true, false, if◌then◌else◌, length, sym, ap, ◌∙◌, arith, inl, inr}
 use Rattle.std.specs.Str.Parse.{digits_value}
 use Rattle.std.proofs.lemmas.Bool.{cases_lt}

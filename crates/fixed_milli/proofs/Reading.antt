@@ -1,3 +1,4 @@
+-- Bytes are read in one way, and what is written is read again.
 use Rattle.std.proofs.Common.{◌≡◌, ℕ, suc, ◌+◌, ◌-◌, ◌*◌, ◌/◌, ◌%◌, ◌^◌, ◌<◌, ◌≤◌, Bool, true, false, List, [], ◌∷◌, ◌++◌, Result, Ok, Err, ℤ, pos, neg_ℤ, refl, sym, ap, ◌∙◌, arith, inl, inr, ⊎_elim}
 use Rattle.std.specs.Prelude.{negsuc, unsigned_abs}
 use Rattle.std.specs.Char.{digit_value}
@@ -6,8 +7,6 @@ use Rattle.std.specs.Str.Parse.{AllDigits, digits_value, digits_value_after}
 use Rattle.std.proofs.lemmas.Fmt.{decimal_is_IsNumeral, decimal_digit, decimal_step}
 use Rattle.std.proofs.lemmas.Str.{digit_value_digit}
 use Rattle.std.proofs.lemmas.Bool.{cases_lt}
-use Rattle.std.proofs.lemmas.Int.{ints}
-use lib.Signed.{◌<ℤ◌, ◌≤ℤ◌}
 use Rattle.std.proofs.lemmas.List.{append_assoc}
 use Rattle.fixed_milli.specs.declared.milli.MilliFault.{MilliFault}
 use Rattle.fixed_milli.specs.declared.milli.MilliFault.TheVariants.{NotNumber, OutOfRange}
@@ -97,22 +96,3 @@ padded_three n small = ⊎_elim
     rw (decimal_step n more wide, decimal_step (n / 10) tens narrow, front, decimal_digit (n / 100) one))
     (cases_lt n 100))
     (cases_lt n 10)
-
--- the pieces of a text of thousandths, as they are written one after another
-abbrev pub pieces : List ℕ → ℕ → List ℕ
-pieces sign size = sign ++ (decimal (size / 1000) ++ (46 ∷ padded_integral (format_spec 32 0 4 3 (2 ^ 64 - 1)) false [] (decimal (size % 1000))))
-
--- without a sign they are the text of the size
-pieces_size : (size : ℕ) → pieces [] size ≡ size_text size
-pieces_size size =
-    ap (λ three. decimal (size / 1000) ++ (46 ∷ three)) (padded_three (size % 1000) (omega arith)) ∙ sym (append_assoc (decimal (size / 1000)) (46 ∷ []) (three_digits (size % 1000)))
-
--- they are the text of the value whose sign and size they have
-pub pieces_negative : (value : ℤ) (sign : List ℕ) (size : ℕ) → value <ℤ pos 0 → sign ≡ 45 ∷ [] → size ≡ unsigned_abs value → pieces sign size ≡ milli_text value
-pieces_negative (pos n) sign size below minus so = absurd (omega (arith, ints))
-pieces_negative (negsuc n) sign size below minus so = ap (λ s. pieces s size) minus ∙ ap (λ k. 45 ∷ pieces [] k) so ∙ ap (λ text. 45 ∷ text) (pieces_size (suc n))
-
--- and where it is not negative they have no sign
-pub pieces_positive : (value : ℤ) (sign : List ℕ) (size : ℕ) → pos 0 ≤ℤ value → sign ≡ [] → size ≡ unsigned_abs value → pieces sign size ≡ milli_text value
-pieces_positive (pos n) sign size above none so = ap (λ s. pieces s size) none ∙ ap (pieces []) so ∙ pieces_size n
-pieces_positive (negsuc n) sign size above none so = absurd (omega (arith, ints))

@@ -1,4 +1,5 @@
-use Rattle.std.proofs.Common.{pow-add, ◌≡◌, ℕ, zero, suc, ◌+◌, ◌-◌, ◌*◌, ◌^◌, ◌<◌, ◌≤◌, ◌⊎◌, min, List, [], ◌∷◌, ◌++◌, length, take, drop, refl, sym, ap, ◌∙◌, arith, inl, inr, length-append, length-drop}
+-- Rounding, and the point moved to the right and to the left.
+use Rattle.std.proofs.Common.{pow-add, ◌≡◌, ℕ, zero, suc, ◌+◌, ◌-◌, ◌*◌, ◌/◌, ◌%◌, ◌^◌, ◌<◌, ◌≤◌, ◌⊎◌, min, List, [], ◌∷◌, ◌++◌, length, take, drop, refl, sym, ap, ◌∙◌, arith, inl, inr, length-append, length-drop}
 use Rattle.std.specs.Char.{digit_value}
 use Rattle.std.specs.Str.Parse.{AllDigits, digits_value, digits_value_after}
 use Rattle.std.proofs.lemmas.Bool.Decides.{nat_tests}
@@ -10,13 +11,31 @@ use Rattle.std.proofs.lemmas.Str.Parse.{digit_from_value}
 use Rattle.std.proofs.Math.Nat.{pow-suc, one-le-pow, pow-le-pow_right, mul-le-mul_left, mul-le-mul_right, div-eq_of_lt-le, mul-div-mul_right}
 use Rattle.fixed_milli.specs.declared.digits.TheConstants.{LIMIT}
 use Rattle.fixed_milli.specs.Digits.{carry}
-use Rattle.fixed_milli.specs.Milli.{rounded}
+use Rattle.fixed_milli.specs.Milli.{rounded, distance}
 use Rattle.fixed_milli.proofs.Decimals.{after-append, after_is, capped_after, capped_mul}
 
 -- the rounded ratio is the whole number that it is nearest to
 rounded_is : (a b r : ℕ) → r * (2 * b) ≤ 2 * a + b → 2 * a + b < (r + 1) * (2 * b) → rounded a b ≡ r
 unfolding rounded
 rounded_is a b r low high = div-eq_of_lt-le (2 * b) low high
+
+-- and it is that number
+rounded_bounds : (a b : ℕ) → 0 < b → (rounded a b * (2 * b) ≤ 2 * a + b) × (2 * a + b < (rounded a b + 1) * (2 * b))
+unfolding rounded
+rounded_bounds a b some =
+    let n = 2 * b in
+    let x = 2 * a + b in
+    let whole : n * (x / n) + x % n ≡ x = omega arith in
+    let rest : x % n < n = omega arith in
+    (omega arith, omega arith)
+
+-- so it is at most half a unit away
+pub rounded_near : (a b : ℕ) → 0 < b → 2 * distance a (rounded a b * b) ≤ b
+rounded_near a b some = let bounds = rounded_bounds a b some in omega (arith, bounds)
+
+-- and the greater one where two are as near
+pub rounded_halves : (a b k : ℕ) → 0 < b → 2 * a ≡ 2 * k * b + b → rounded a b ≡ k + 1
+rounded_halves a b k some half = rounded_is a b (k + 1) (omega arith) (omega arith)
 
 -- a common factor changes nothing
 pub rounded-scaled : (a b c : ℕ) → 0 < c → rounded (a * c) (b * c) ≡ rounded a b

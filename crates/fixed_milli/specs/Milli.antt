@@ -1,20 +1,29 @@
-use Rattle.std.specs.Prelude.{◌≡◌, ℕ, ◌+◌, ◌*◌, ◌/◌, ◌%◌, ◌^◌, ◌<◌, ◌≤◌, List, [], ◌∷◌, ◌++◌, codes, suc, if◌then◌else◌, Result, Ok, Err, ℤ, pos, negsuc, neg_ℤ}
+-- Numbers in whole thousandths: what bytes are read as, and how thousandths are written.
+use Rattle.std.specs.Prelude.{◌≡◌, ℕ, ◌+◌, ◌-◌, ◌*◌, ◌/◌, ◌%◌, ◌^◌, ◌<◌, ◌≤◌, Bool, List, [], ◌∷◌, ◌++◌, codes, suc, if◌then◌else◌, Result, Ok, Err, ℤ, pos, negsuc, neg_ℤ}
 use Rattle.std.specs.Fmt.{decimal}
 use Rattle.fixed_milli.specs.declared.milli.MilliFault.{MilliFault}
 use Rattle.fixed_milli.specs.declared.milli.MilliFault.TheVariants.{NotNumber, OutOfRange}
 use Rattle.fixed_milli.specs.Number.{Number, Spells, SpellsNothing, numerator, denominator}
 
--- the whole number nearest to a / b, and the greater one where two are as near
+-- the whole number nearest to a / b, and the greater one where two are as near, as `rounded_is_nearest` says
 unfoldable pub rounded : ℕ → ℕ → ℕ
 rounded a b = (2 * a + b) / (2 * b)
+
+-- how far two numbers are apart
+abbrev pub distance : ℕ → ℕ → ℕ
+distance m n = (m - n) + (n - m)
 
 -- the absolute value in whole thousandths, rounded with halves away from zero
 abbrev pub magnitude : Number → ℕ
 magnitude n = rounded (numerator n) (denominator n)
 
+-- the number of this size with a minus or without one
+abbrev pub with_sign : Bool → ℕ → ℤ
+with_sign negative size = if negative then neg_ℤ (pos size) else pos size
+
 -- the value in whole thousandths
 abbrev pub thousandths : Number → ℤ
-thousandths n = if n.negative then neg_ℤ (pos (magnitude n)) else pos (magnitude n)
+thousandths n = with_sign n.negative (magnitude n)
 
 -- the greatest absolute value that is read, in thousandths
 abbrev pub most_thousandths : ℕ

@@ -1,3 +1,4 @@
+-- Numbers and the bytes that spell them: the form of a number, and its value.
 use Rattle.std.specs.Prelude.{◌≡◌, ℕ, ◌+◌, ◌*◌, ◌^◌, ◌<◌, ◌⊎◌, Bool, true, false, List, [], ◌++◌, length, codes, if◌then◌else◌}
 use Rattle.std.specs.Str.Parse.{AllDigits, IsNumeral, digits_value}
 
@@ -49,6 +50,10 @@ pub record AreDigits (n : Number) : Type 0 where
   pub whole : AllDigits 10 n.whole
   pub fraction : AllDigits 10 n.fraction
   pub exponent : AllDigits 10 n.exponent
+
+-- the bytes spell a number
+abbrev pub IsNumber : List ℕ → Type 0
+IsNumber bytes = (n : Number) × Spells n bytes
 
 -- no number is spelled by the bytes
 abbrev pub SpellsNothing : List ℕ → Type 0

@@ -1,3 +1,4 @@
+-- The number of the parts that the reader keeps. No public clause cites this module.
 use Rattle.fixed_milli.specs.declared.numeral.Numeral.{Numeral}
 use Rattle.fixed_milli.specs.Number.{Number}
 

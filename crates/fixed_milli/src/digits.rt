@@ -1,6 +1,9 @@
+//! Digits that are counted up to a limit.
+
 ghost use Rattle.std.specs.Prelude.{◌≡◌, ◌≤◌, ◌<◌, ◌+◌, ◌*◌, ◌^◌, min};
 ghost use Rattle.std.specs.Str.Parse.{AllDigits, digits_value_after};
 ghost use Rattle.fixed_milli.specs.Digits.{carry};
+ghost use Rattle.fixed_milli.specs.Milli.{with_sign};
 
 /// The greatest absolute value that is read, in thousandths.
 pub(crate) const MOST: u64 = 1_000_000_000_000_000;
@@ -22,6 +25,15 @@ pub(crate) fn with_digits(mut value: u64, digits: &[u8], most: u64) -> u64
         value = value.saturating_mul(10).saturating_add(units).min(most);
     }
     value
+}
+
+/// The number of this size, with a minus where it is `negative`.
+pub(crate) fn with_sign(negative: bool, size: u64) -> i64
+    requires { size < 2 ^ 63 }
+    ensures { result ≡ with_sign negative size }
+{
+    let size = size as i64;
+    if negative { -size } else { size }
 }
 
 /// The number with so many zeros behind it, and `LIMIT` where that is less.

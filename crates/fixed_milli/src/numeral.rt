@@ -1,3 +1,5 @@
+//! A number's parts, and its absolute value in thousandths.
+
 use crate::digits::{LIMIT, rounded, with_digits, with_zeros};
 use crate::split::{split_digits, split_exponent, split_fraction, split_sign};
 

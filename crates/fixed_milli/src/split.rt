@@ -1,3 +1,5 @@
+//! Splits of bytes by sign, digits, point and exponent.
+
 ghost use Rattle.std.specs.Prelude.{MatchOption, Bool, List, ℕ};
 ghost use Rattle.fixed_milli.specs.Number.{IsExponent};
 ghost use Rattle.fixed_milli.specs.Split.{SplitsSign, SplitsDigits, SplitsFraction};
@@ -37,7 +39,8 @@ pub(crate) fn split_fraction(bytes: &[u8]) -> (&[u8], &[u8])
     }
 }
 
-/// Whether the exponent is negative, and its digits, if the bytes are one or nothing.
+/// Whether the exponent is negative, and its digits. Where there are no bytes it is left out, and has
+/// no digits; other bytes that are no exponent give none.
 pub(crate) fn split_exponent(bytes: &[u8]) -> Option<(bool, &[u8])>
     ensures { MatchOption result ((negative : Bool) (digits : List ℕ) → IsExponent bytes.now negative digits → ⊥)
         (λ e. IsExponent bytes.now e.0 e.1.now) }

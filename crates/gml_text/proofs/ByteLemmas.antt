@@ -3,7 +3,8 @@ use Rattle.std.proofs.Common.{◌≡◌, ℕ, ◌==◌, true, false, Some, None,
 use Rattle.std.proofs.lemmas.Bool.Decides.{nat_tests}
 use Rattle.std.specs.Char.{is_ascii_digit}
 use Rattle.gml_text.specs.Bytes.{is_space, begins_key, is_key_byte, is_word_byte}
-use Rattle.gml_text.specs.Token.{begun, after, is_sign, is_mark}
+use Rattle.fixed_milli.specs.Bytes.{is_mark}
+use Rattle.gml_text.specs.Token.{begun, after, is_sign}
 use Rattle.gml_text.specs.declared.token.NumberPart.{NumberPart}
 use Rattle.gml_text.specs.declared.token.NumberPart.TheVariants.{Sign, Whole, Point, Fraction, Mark, MarkSign, Exponent}
 

@@ -1,3 +1,4 @@
+-- The lemmas of this crate.
 pub mod Views
 pub mod ByteLemmas
 pub mod Numbers

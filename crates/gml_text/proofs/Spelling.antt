@@ -7,7 +7,8 @@ use Rattle.std.proofs.lemmas.List.{append-nil}
 use Rattle.std.proofs.lemmas.Option.{none-some, same_Some}
 use Rattle.gml_text.specs.Bytes.{is_space, begins_key, is_key_byte, is_word_byte}
 use Rattle.gml_text.specs.Tree.{Content, number, text, list, Pairs, no_pairs, pair, ◌then◌}
-use Rattle.gml_text.specs.Grammar.{Lacks, IsBlank, IsGap, IsKey, IsNumber, EndsWord, StandsApart, SpellsPairs, SpellsValue, Spells}
+use Rattle.fixed_milli.specs.Number.{IsNumber}
+use Rattle.gml_text.specs.Grammar.{Lacks, IsBlank, IsGap, IsKey, EndsWord, StandsApart, SpellsPairs, SpellsValue, Spells}
 use Rattle.gml_text.specs.Reading.{Where, between, behind, Mode, in_gap, in_comment, in_key, in_number, in_text, Frame, State, start, closed, begins, in_space, key_step, number_step, text_step, mode_step, stepped, whole, finished, accepted}
 use Rattle.gml_text.specs.Token.{begun, after, is_complete}
 use Rattle.gml_text.specs.declared.token.NumberPart.{NumberPart}

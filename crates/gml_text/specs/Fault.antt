@@ -1,3 +1,4 @@
+-- The fault of a refusal. No public clause cites this module.
 use Rattle.std.specs.Prelude.{ℕ}
 use Rattle.gml_text.specs.declared.fault.GmlFault.{GmlFault}
 use Rattle.gml_text.specs.declared.fault.GmlFault.TheVariants as faults

@@ -1,3 +1,5 @@
+-- The definitions that contracts cite.
+pub use Rattle.fixed_milli.specs.Number
 pub mod Bytes
 pub mod Tree
 pub mod Grammar

@@ -1,3 +1,4 @@
+-- What bytes are read as: a document within the limit of depth, or one of two faults.
 use Rattle.std.specs.Prelude.{ℕ, ◌+◌, ◌<◌, ◌≤◌, List, ◌++◌, length, take, Result, Ok, Err}
 use Rattle.gml_text.specs.Tree.{Pairs, depth}
 use Rattle.gml_text.specs.Grammar.{Spells}

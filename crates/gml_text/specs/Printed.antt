@@ -1,6 +1,9 @@
+-- The printed form of a tree, and which trees have one.
 use Rattle.std.specs.Prelude.{ℕ, zero, suc, ◌≤◌, ◌+◌, List, [], ◌++◌, codes}
+use Rattle.gml_text.specs.Bytes.{quote}
 use Rattle.gml_text.specs.Tree.{Content, number, text, list, Pairs, no_pairs, pair, depth}
-use Rattle.gml_text.specs.Grammar.{IsKey, IsNumber, Lacks}
+use Rattle.fixed_milli.specs.Number.{IsNumber}
+use Rattle.gml_text.specs.Grammar.{IsKey, Lacks}
 use Rattle.gml_text.specs.Parse.{most_open}
 
 -- two spaces for each open list
@@ -33,7 +36,7 @@ abbrev mutual
 
   pub IsGrammaticalValue : Content → Type 0
   IsGrammaticalValue (number digits) = IsNumber digits
-  IsGrammaticalValue (text inner) = Lacks 34 inner
+  IsGrammaticalValue (text inner) = Lacks quote inner
   IsGrammaticalValue (list inner) = IsGrammatical inner
 
 -- a tree that a document may have

@@ -1,3 +1,4 @@
+-- The reader's fields as a state. No public clause cites this module.
 use Rattle.std.specs.Prelude.{◌≡◌, ℕ, List, map, reverse, Some, None, Result, Ok, Err, Vec}
 use Rattle.std.specs.declared.alloc.Global.{Global}
 use Rattle.gml_text.specs.View.{pairs}
@@ -7,20 +8,20 @@ use Rattle.gml_text.specs.declared.fault.Refusal.TheVariants.{Syntax, TooDeep, M
 use Rattle.gml_text.specs.declared.tree.Pair.{Pair}
 use Rattle.gml_text.specs.declared.reader.OpenList.{OpenList}
 use Rattle.gml_text.specs.declared.reader.Reader.{Reader}
-use Rattle.gml_text.specs.declared.token.Place.{Place}
-use Rattle.gml_text.specs.declared.token.Place.TheVariants.{BetweenPairs, BeforeValue}
+use Rattle.gml_text.specs.declared.token.Where as code
+use Rattle.gml_text.specs.declared.token.Where.TheVariants.{BetweenPairs, BeforeValue}
 use Rattle.gml_text.specs.declared.token.Token.{Token}
 use Rattle.gml_text.specs.declared.token.Token.TheVariants.{Gap, Comment, Key, Number, Text}
 
--- a place with the key that stands before it
-abbrev pub where_of : Place → List ℕ → Where
+-- where white space stands, with the key that stands before it
+abbrev pub where_of : code.Where → List ℕ → Where
 where_of BetweenPairs key = between
 where_of BeforeValue key = behind key
 
 -- a token with its key and the bytes of its value
 abbrev pub mode_of : Token → List ℕ → List ℕ → Mode
-mode_of (Gap place) key lexeme = in_gap (where_of place key)
-mode_of (Comment place) key lexeme = in_comment (where_of place key)
+mode_of (Gap here) key lexeme = in_gap (where_of here key)
+mode_of (Comment here) key lexeme = in_comment (where_of here key)
 mode_of Key key lexeme = in_key key
 mode_of (Number part) key lexeme = in_number key lexeme part
 mode_of Text key lexeme = in_text key lexeme

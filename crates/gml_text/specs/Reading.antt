@@ -1,6 +1,7 @@
+-- How a reader goes on byte by byte: the code once more, as a function on states. No public clause cites this module; what is promised is `Grammar` and `Parse`.
 use Rattle.std.specs.Prelude.{◌≡◌, ℕ, ◌<◌, ⊤, not, ◌==◌, ◌||◌, if◌then◌else◌, List, [], ◌∷◌, ◌++◌, length, Option, Some, None, Result, Ok, Err, IsSomeAnd}
 use Rattle.std.specs.Option.{option_map, option_and_then}
-use Rattle.gml_text.specs.Bytes.{is_space, begins_key, is_key_byte, is_word_byte}
+use Rattle.gml_text.specs.Bytes.{line_feed, hash, quote, opening, closing, is_space, begins_key, is_key_byte, is_word_byte}
 use Rattle.gml_text.specs.Tree.{Content, number, text, list, Pairs, no_pairs, pair, ◌then◌}
 use Rattle.gml_text.specs.Token.{begun, after, is_complete}
 use Rattle.gml_text.specs.Parse.{most_open}
@@ -52,20 +53,20 @@ opened fs ps key = record { mode = in_gap between; lists = record { key = key; b
 -- a byte that is no white space
 abbrev pub begins : Where → List Frame → Pairs → ℕ → Option State
 begins between fs ps b =
-    if b == 93 then closed fs ps
+    if b == closing then closed fs ps
     else if begins_key b then Some (record { mode = in_key (b ∷ []); lists = fs; pairs = ps })
     else None
 begins (behind key) fs ps b =
-    if b == 91 then Some (opened fs ps key)
-    else if b == 34 then Some (record { mode = in_text key []; lists = fs; pairs = ps })
+    if b == opening then Some (opened fs ps key)
+    else if b == quote then Some (record { mode = in_text key []; lists = fs; pairs = ps })
     else option_map (λ part. record { mode = in_number key (b ∷ []) part; lists = fs; pairs = ps }) (begun b)
 
 -- a byte of white space, or one that ends it
 abbrev pub in_space : Where → List Frame → Pairs → ℕ → Option State
-in_space place fs ps b =
-    if is_space b then Some (record { mode = in_gap place; lists = fs; pairs = ps })
-    else if b == 35 then Some (record { mode = in_comment place; lists = fs; pairs = ps })
-    else begins place fs ps b
+in_space here fs ps b =
+    if is_space b then Some (record { mode = in_gap here; lists = fs; pairs = ps })
+    else if b == hash then Some (record { mode = in_comment here; lists = fs; pairs = ps })
+    else begins here fs ps b
 
 -- a byte of a key, or one that ends it
 abbrev pub key_step : List ℕ → List Frame → Pairs → ℕ → Option State
@@ -88,14 +89,14 @@ number_step key digits part fs ps b (Some next) = Some (record { mode = in_numbe
 -- a byte of a string, or the quote that ends it
 abbrev pub text_step : List ℕ → List ℕ → List Frame → Pairs → ℕ → Option State
 text_step key inner fs ps b =
-    if b == 34 then Some (ended fs ps key (text inner))
+    if b == quote then Some (ended fs ps key (text inner))
     else Some (record { mode = in_text key (inner ++ b ∷ []); lists = fs; pairs = ps })
 
 -- one more byte
 abbrev pub mode_step : Mode → List Frame → Pairs → ℕ → Option State
-mode_step (in_gap place) fs ps b = in_space place fs ps b
-mode_step (in_comment place) fs ps b =
-    Some (record { mode = if b == 10 then in_gap place else in_comment place; lists = fs; pairs = ps })
+mode_step (in_gap here) fs ps b = in_space here fs ps b
+mode_step (in_comment here) fs ps b =
+    Some (record { mode = if b == line_feed then in_gap here else in_comment here; lists = fs; pairs = ps })
 mode_step (in_key key) fs ps b = key_step key fs ps b
 mode_step (in_number key digits part) fs ps b = number_step key digits part fs ps b (after part b)
 mode_step (in_text key inner) fs ps b = text_step key inner fs ps b

@@ -1,3 +1,4 @@
+-- Trees of pairs, as contracts see a document.
 use Rattle.std.specs.Prelude.{ℕ, suc, max, List, [], ◌∷◌}
 
 mutual

@@ -1,3 +1,4 @@
+-- The tree that a document of the code stands for.
 use Rattle.std.specs.Prelude.{◌≡◌, ℕ, List, [], ◌∷◌, map, Result, Ok, Err}
 use Rattle.gml_text.specs.Tree.{Content, number, text, list, Pairs, no_pairs, pair}
 use Rattle.gml_text.specs.declared.fault.GmlFault.{GmlFault}

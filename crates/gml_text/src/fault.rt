@@ -1,3 +1,5 @@
+//! Why bytes are refused: the public faults, and the reader's refusals.
+
 use std::alloc::{AllocError, AllocFailed};
 use thiserror::Error;
 

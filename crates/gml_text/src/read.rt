@@ -1,3 +1,5 @@
+//! Reading a document.
+
 ghost use Rattle.std.specs.Prelude.{◌≡◌, ℕ, IfOk, Ok, Err, Result};
 ghost use Rattle.gml_text.specs.Parse.{IsDocument, IsSyntaxAt, IsTooDeepAt, Reads};
 ghost use Rattle.gml_text.specs.Printed.{IsPrintable};

@@ -4,7 +4,7 @@ ghost use Rattle.std.specs.Prelude.{◌≡◌, ◌≤◌, [], ◌∷◌, IfOk, v
 ghost use Rattle.gml_text.specs.Parse.{most_open};
 
 use crate::fault::Refusal;
-use crate::token::{self, NumberPart, Place, Token};
+use crate::token::{self, NumberPart, Token, Where};
 use crate::tree::{Bytes, Pair, Value};
 use std::alloc::{AllocError, Global};
 use std::mem;
@@ -60,7 +60,7 @@ impl Reader {
             pairs: Vec::new(alloc),
             key: Vec::new(alloc),
             lexeme: Vec::new(alloc),
-            token: Token::Gap(Place::BetweenPairs),
+            token: Token::Gap(Where::BetweenPairs),
         }
     }
 
@@ -69,10 +69,10 @@ impl Reader {
         ensures { Gives (stepped (state_of self.old) byte) result (state_of self.new) }
     {
         match self.token {
-            Token::Gap(place) => self.in_gap(place, byte),
-            Token::Comment(place) => {
+            Token::Gap(here) => self.in_gap(here, byte),
+            Token::Comment(here) => {
                 if byte == b'\n' {
-                    self.token = Token::Gap(place);
+                    self.token = Token::Gap(here);
                 }
                 Ok(())
             }
@@ -92,27 +92,27 @@ impl Reader {
             self.end_number()?;
         }
         match self.token {
-            Token::Gap(Place::BetweenPairs) | Token::Comment(Place::BetweenPairs)
+            Token::Gap(Where::BetweenPairs) | Token::Comment(Where::BetweenPairs)
                 if self.lists.is_empty() => { Ok(self.pairs) }
             _ => Err(Refusal::Syntax),
         }
     }
 
     /// A byte of white space, or one that ends it.
-    fn in_gap(&mut self, place: Place, byte: u8) -> Result<(), Refusal>
-        ensures { Gives (in_space (where_of place self.old.key.items) (frames self.old.lists.items) (pairs self.old.pairs.items) byte) result (state_of self.new) }
+    fn in_gap(&mut self, here: Where, byte: u8) -> Result<(), Refusal>
+        ensures { Gives (in_space (where_of here self.old.key.items) (frames self.old.lists.items) (pairs self.old.pairs.items) byte) result (state_of self.new) }
     {
         if token::is_space(byte) {
-            self.token = Token::Gap(place);
+            self.token = Token::Gap(here);
             return Ok(());
         }
         if byte == b'#' {
-            self.token = Token::Comment(place);
+            self.token = Token::Comment(here);
             return Ok(());
         }
-        match place {
-            Place::BetweenPairs => self.begin_pair(byte),
-            Place::BeforeValue => self.begin_value(byte),
+        match here {
+            Where::BetweenPairs => self.begin_pair(byte),
+            Where::BeforeValue => self.begin_value(byte),
         }
     }
 
@@ -128,7 +128,7 @@ impl Reader {
         if token::is_word_byte(byte) {
             return Err(Refusal::Syntax);
         }
-        self.in_gap(Place::BeforeValue, byte)
+        self.in_gap(Where::BeforeValue, byte)
     }
 
     /// A byte of a number, or one that ends it.
@@ -144,7 +144,7 @@ impl Reader {
             return Err(Refusal::Syntax);
         }
         self.end_number()?;
-        self.in_gap(Place::BetweenPairs, byte)
+        self.in_gap(Where::BetweenPairs, byte)
     }
 
     /// A byte of a string, or the quote that ends it.
@@ -203,7 +203,7 @@ impl Reader {
         let key = mem::replace(&mut self.key, Vec::new(self.alloc));
         let before = mem::replace(&mut self.pairs, Vec::new(self.alloc));
         self.lists.push(OpenList { key, before })?;
-        self.token = Token::Gap(Place::BetweenPairs);
+        self.token = Token::Gap(Where::BetweenPairs);
         Ok(())
     }
 
@@ -236,7 +236,7 @@ impl Reader {
             key: Bytes(key),
             value,
         })?;
-        self.token = Token::Gap(Place::BetweenPairs);
+        self.token = Token::Gap(Where::BetweenPairs);
         Ok(())
     }
 }

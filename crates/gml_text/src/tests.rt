@@ -1,3 +1,5 @@
+//! Documents that are read and printed, and bytes that are refused.
+
 use super::*;
 use std::alloc::Global;
 use std::test::Fail;
@@ -157,6 +159,18 @@ fn reads_lists_up_to_the_limit(rt: HostRuntime) -> Result<(), Fail> {
     assert_eq!(rt;
         print(rt.alloc(), &again)?.as_slice(),
         print(rt.alloc(), &doc)?.as_slice()
+    );
+    Ok(())
+}
+
+#[test]
+fn reads_and_prints_a_megabyte(rt: HostRuntime) -> Result<(), Fail> {
+    let text = repeated(rt.alloc(), b"a 1\nb [\n  c \"x\"\n]\n", 60_000)?;
+    let doc = parse(rt.alloc(), &text)?;
+    assert_eq!(rt; find(&doc.pairs, b"c"), None);
+    assert_eq!(rt;
+        print(rt.alloc(), &doc)?.as_slice() == text.as_slice(),
+        true
     );
     Ok(())
 }

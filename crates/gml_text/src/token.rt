@@ -1,4 +1,4 @@
-//! What a reader stands in, from one byte to the next.
+//! What the byte that was read last belongs to, and which bytes go on with it.
 
 ghost use Rattle.std.specs.Prelude.{◌≡◌};
 ghost use Rattle.gml_text.specs.Bytes.{is_space, begins_key, is_key_byte, is_word_byte};
@@ -6,7 +6,7 @@ ghost use Rattle.gml_text.specs.Token.{begun, after, is_complete};
 
 /// Where white space stands.
 #[derive(Clone, Copy)]
-pub(crate) enum Place {
+pub(crate) enum Where {
     /// Before a key, a closing bracket or the end of the document.
     BetweenPairs,
     /// Behind a key.
@@ -35,8 +35,8 @@ pub(crate) enum NumberPart {
 /// What the byte that was read last belongs to.
 #[derive(Clone, Copy)]
 pub(crate) enum Token {
-    Gap(Place),
-    Comment(Place),
+    Gap(Where),
+    Comment(Where),
     Key,
     Number(NumberPart),
     Text,

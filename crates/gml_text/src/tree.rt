@@ -1,3 +1,5 @@
+//! The tree of a document: pairs of keys and values, with their bytes as they were written.
+
 ghost use Rattle.std.specs.Prelude.{◌≡◌};
 
 use std::marker::Model;

@@ -1,3 +1,5 @@
+//! Writing a document in its printed form.
+
 ghost use Rattle.std.specs.Prelude.{◌≡◌, ◌+◌, ◌++◌, ◌≤◌, ◌∷◌, [], IfOk, OnOk, length};
 ghost use Rattle.gml_text.specs.Grammar.{Spells};
 ghost use Rattle.gml_text.specs.Parse.{most_open};

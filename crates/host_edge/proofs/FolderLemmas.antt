@@ -1,3 +1,4 @@
+-- A told file is found where the file itself is.
 use Rattle.std.proofs.Common.{◌≡◌, ℕ, true, false, cond, List, [], ◌∷◌, map, Option, None, Some, refl, string_bytes}
 use Rattle.std.specs.Prelude.{find, option_map, option_copied, bytes_eq}
 use Rattle.std.specs.Borrow.{Bor}

@@ -1,8 +1,10 @@
-use Rattle.std.proofs.Common.{◌≡◌, ℕ, ◌+◌, ◌-◌, List, ◌++◌, length, take, drop, Option, None, Some, refl, sym, ap, ◌∙◌, append_assoc, arith}
+-- Pieces that are appended one after another, and counters.
+use Rattle.std.proofs.Common.{◌≡◌, ℕ, ◌+◌, ◌-◌, List, ◌++◌, length, take, drop, Option, None, Some, inl, inr, refl, sym, ap, ◌∙◌, append_assoc, arith}
+use Rattle.std.proofs.lemmas.Bool.{cases_lt}
 use Rattle.std.proofs.lemmas.Grind.{common_steps}
 use Rattle.std.proofs.Math.Seq.{take-add}
 use Rattle.std.specs.Io.KnownBytes.{append_known}
-use Rattle.host_edge.specs.Count.{NeverFalls}
+use Rattle.host_edge.specs.Count.{NeverFalls, Rose, last_count, next_count}
 
 -- two pieces, of which one follows the other, are appended as one
 append_known-take : (known : Option (List ℕ)) (bytes : List ℕ) (written n : ℕ) → append_known (append_known known (take written bytes)) (take n (drop written bytes)) ≡ append_known known (take (written + n) bytes)
@@ -19,5 +21,10 @@ pub append_known_more : (known held : Option (List ℕ)) (bytes : List ℕ) (wri
 append_known_more known held bytes written n h =
     rw (h, take-rest bytes written) (append_known-take known bytes written n)
 
+-- counts that never fall, one after another
 pub NeverFalls-trans : (a b c : ℕ) → NeverFalls a b → NeverFalls b c → NeverFalls a c
 NeverFalls-trans a b c first second = (omega (arith, first.0, second.0), λ at_last. second.1 (first.1 at_last))
+
+-- a counter that counts on rises
+pub rose_next : (before after : ℕ) → after ≡ next_count before → Rose before after
+rose_next before after e = elim (cases_lt before last_count) as (λ _. Rose before after) [ inl more ↦ inl (omega (arith, e, more)) | inr last ↦ inr (omega (arith, e, last)) ]

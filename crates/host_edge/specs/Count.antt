@@ -1,3 +1,4 @@
+-- Counters that stay at their last value.
 use Rattle.std.specs.Prelude.{◌≡◌, ◌⊎◌, ℕ, ◌+◌, ◌-◌, ◌^◌, ◌<◌, ◌≤◌, ◌==◌, min, Bool, List}
 use Rattle.std.specs.List.{list_any}
 

@@ -1,3 +1,4 @@
+-- The files that a folder tells, and the note that each answer leaves.
 use Rattle.std.specs.Prelude.{◌≡◌, ℕ, ◌<◌, ◌≤◌, Bool, true, false, List, [], ◌∷◌, ◌++◌, Option, option_map, find, bytes_eq, Result, Ok, Err, Vec, vec_len}
 use Rattle.host_edge.specs.declared.folder.FolderFault.{FolderFault}
 use Rattle.host_edge.specs.declared.folder.FolderFault.TheVariants.{Failed, TooLong, Memory}

@@ -1,3 +1,4 @@
+-- The definitions that contracts cite.
 pub mod Count
 pub mod Folder
 pub mod MemFolder

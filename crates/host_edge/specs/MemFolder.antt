@@ -1,3 +1,4 @@
+-- A folder in memory, and the note that its next read leaves.
 use Rattle.std.specs.Prelude.{ℕ, ◌+◌, min, ◌||◌, if◌then◌else◌, List, [], length, is_none, unwrap_or, string_bytes}
 use Rattle.host_edge.specs.declared.mem_folder.NamedFile.{NamedFile}
 use Rattle.host_edge.specs.Count.{is_listed}

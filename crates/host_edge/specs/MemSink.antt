@@ -1,3 +1,4 @@
+-- A sink in memory.
 use Rattle.std.specs.Prelude.{ℕ, List}
 
 -- a sink in memory: what it holds, how many bytes a call takes at most, the numbers of the calls that fail, and how many calls and faults there were

@@ -1,3 +1,4 @@
+-- Notes of reads.
 use Rattle.std.specs.Prelude.{ℕ, Bool, List, count_by}
 
 -- one read: the name and the limit that it was asked for, how many bytes it took, and whether it failed

@@ -1,7 +1,9 @@
+//! The real files.
+
 ghost use Rattle.std.specs.Prelude.{◌≡◌, ◌+◌, ◌<◌, ◌↔◌, [], ◌++◌, take, vec_len, None, IfOk, IfSome, IsTrue, OnOk};
 
 use crate::folder::{Folder, FolderFault};
-use crate::note::{StoredNote, room_for_note};
+use crate::note::{StoredNote, reserve_note};
 use std::alloc::Global;
 use std::fs::File;
 use std::io;
@@ -57,7 +59,7 @@ impl<'a, R: Files> Folder for DiskFolder<'a, R> {
     ghost notes = { λ f. f };
 
     fn read_file(&mut self, name: &str, limit: u64) -> Result<Vec<u8>, FolderFault> {
-        let note_name = room_for_note(self.alloc, &mut self.notes, name)?;
+        let note_name = reserve_note(self.alloc, &mut self.notes, name)?;
         let mut bytes = Vec::new(self.alloc);
         let read = match File::open(self.rt, name) {
             Ok(file) => read_past(file, limit, &mut bytes),

@@ -1,3 +1,5 @@
+//! What contracts ask of files that are read by name.
+
 ghost use Rattle.std.specs.Prelude.{◌≡◌, ◌<◌, List, length, Option, Some, IfOk, IfSome, IsErrOf, IsSomeAnd};
 ghost use Rattle.host_edge.specs.Folder.{ToldFiles, file_named, RecordsRead};
 ghost use Rattle.host_edge.specs.Note.{Note};
@@ -41,7 +43,9 @@ pub trait Folder {
 
     /// Reads the file with this name, if it has at most `limit` bytes.
     ///
-    /// `Memory` may come before any other fault is met, and leaves no note.
+    /// It answers `Failed` where the file is not there or cannot be read, and `TooLong` where it has
+    /// more bytes than the limit; the note says which. `Memory` may come before either is met, and
+    /// leaves no note. No answer changes the files.
     fn read_file(&mut self, name: &str, limit: u64) -> Result<Vec<u8>, FolderFault>
         ensures noted { RecordsRead (notes self.old) (notes self.new) name.now limit result }
         ensures files_kept { files self.new ≡ files self.old }

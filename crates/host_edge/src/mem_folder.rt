@@ -1,9 +1,11 @@
+//! Files in memory.
+
 ghost use Rattle.std.specs.Prelude.{◌≡◌, ◌≢◌, ◌<◌, [], ◌∷◌, ◌++◌, map, length, Some, None, IfOk, IsErrOf, IsSomeAnd, Err, option_map};
 ghost use Rattle.host_edge.specs.Folder.{file_named, RecordsRead};
 ghost use Rattle.host_edge.specs.MemFolder.{told_file, next_note};
 
 use crate::folder::{Folder, FolderFault};
-use crate::note::{StoredNote, room_for_note};
+use crate::note::{StoredNote, reserve_note};
 use std::alloc::Global;
 use std::marker::Model;
 
@@ -82,7 +84,7 @@ impl Folder for MemFolder {
         ensures note { result ≢ Err FolderFault.Memory
             → self.new.notes ≡ self.old.notes ++ next_note self.old name.now limit ∷ [] }
     {
-        let note_name = room_for_note(self.alloc, &mut self.notes, name)?;
+        let note_name = reserve_note(self.alloc, &mut self.notes, name)?;
         let call = self.notes.len() as u64 + 1;
         let file = if self.fails.contains(&call) {
             None

@@ -1,3 +1,5 @@
+//! Output in memory.
+
 ghost use Rattle.std.specs.Prelude.{◌≡◌, ◌<◌, ◌≤◌, [], ◌++◌, take, length, min, Some, Ok, IfOk, OnErr, IsErr, IsTrue, ◌==◌, if◌then◌else◌};
 ghost use Rattle.host_edge.specs.Count.{NeverFalls, next_count, is_listed};
 ghost use Rattle.host_edge.specs.MemSink.{MemSinkState};
@@ -37,8 +39,8 @@ impl Model for MemSink {
 }
 
 impl MemSink {
-    /// A sink that takes at most `most` bytes a call, where the calls with the numbers in `fails`
-    /// fail. The call takes no memory.
+    /// A sink that takes at most `most` bytes a call, which is at least 1, and where the calls with
+    /// the numbers in `fails` fail. It holds nothing yet. The call takes no memory.
     pub fn new(alloc: Global, most: usize, fails: Vec<u64>) -> MemSink
         requires { 1 ≤ most }
         ensures { result

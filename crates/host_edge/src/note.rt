@@ -1,3 +1,5 @@
+//! The notes of a folder, as they are kept.
+
 ghost use Rattle.std.specs.Prelude.{◌≡◌, ◌<◌, IfOk, OnOk, string_bytes, vec_len, vec_capacity};
 
 use std::alloc::{AllocError, Global};
@@ -26,14 +28,14 @@ impl Model for StoredNote {
     } };
 }
 
-/// Takes the room for a note of a read of this name, and answers the note's copy of the name.
-pub(crate) fn room_for_note(
+/// Takes the memory for a note of a read of this name, and answers the note's copy of the name.
+pub(crate) fn reserve_note(
     alloc: Global,
     notes: &mut Vec<StoredNote>,
     name: &str,
 ) -> Result<String, AllocError>
     ensures notes { notes.new.items ≡ notes.old.items }
-    ensures room { OnOk result (vec_len notes.new < vec_capacity notes.new) }
+    ensures reserved { OnOk result (vec_len notes.new < vec_capacity notes.new) }
     ensures name { IfOk result (λ copy. string_bytes copy ≡ name.now) }
 {
     notes.reserve(1)?;

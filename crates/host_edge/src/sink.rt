@@ -1,3 +1,5 @@
+//! What contracts ask of output.
+
 ghost use Rattle.std.specs.Prelude.{◌≡◌, ℕ, ◌<◌, ◌≤◌, List, length, take, Option, Ok, IfOk, OnOk, OnErr};
 ghost use Rattle.std.specs.Io.KnownBytes.{append_known};
 ghost use Rattle.host_edge.specs.Count.{Rose, NeverFalls};
@@ -18,7 +20,10 @@ pub trait Sink {
     /// How many faults the sink met. The count begins at 0, and stays at 2^64 - 1 once it is there.
     ghost faults: { Self → ℕ };
 
-    /// Puts the first bytes of a piece, at least one where it has any, and answers how many.
+    /// Puts the first bytes of a piece, at least one where it has any, and answers how many. At an
+    /// empty piece that is 0, and nothing is counted.
+    ///
+    /// It answers `WriteFailed` only where a fault was counted, and has put nothing then.
     fn write(&mut self, bytes: &[u8]) -> Result<usize, WriteFailed>
         ensures put { IfOk result (λ n.
             held self.new ≡ append_known (held self.old) (take n bytes.now)) }

@@ -1,9 +1,15 @@
-ghost use Rattle.std.specs.Prelude.{◌≡◌, None};
+//! Standard output as a sink.
+
+ghost use Rattle.std.specs.Prelude.{◌≡◌, ◌<◌, ◌≤◌, length, None, Ok, IfOk, OnErr, OnOk};
+ghost use Rattle.host_edge.specs.Count.{NeverFalls, next_count};
 
 use crate::sink::{Sink, WriteFailed};
 use std::marker::Model;
 
 /// Standard output, of which the sink tells nothing.
+///
+/// It counts a fault where standard output answers an error, and where nothing is taken of a piece
+/// that is not empty.
 #[derive(Drop)]
 pub struct StdSink<'a, R: Print> {
     rt: &'a R,
@@ -33,7 +39,17 @@ impl<'a, R: Print> Sink for StdSink<'a, R> {
 
     ghost faults = { λ s. s };
 
-    fn write(&mut self, bytes: &[u8]) -> Result<usize, WriteFailed> {
+    fn write(&mut self, bytes: &[u8]) -> Result<usize, WriteFailed>
+        // A fault is counted exactly where a piece is refused.
+        ensures ok { OnOk result (self.new ≡ self.old) }
+        ensures err { OnErr result (self.new ≡ next_count self.old) }
+
+        // What each sink promises, as far as the clauses above do not say it.
+        ensures within { IfOk result (λ n. n ≤ length bytes.now) }
+        ensures progress { IfOk result (λ n. 0 < length bytes.now → 0 < n) }
+        ensures empty { length bytes.now ≡ 0 → (result ≡ Ok 0) × (self.new ≡ self.old) }
+        ensures never_falls { NeverFalls self.old self.new }
+    {
         if bytes.is_empty() {
             return Ok(0);
         }

@@ -1,3 +1,5 @@
+//! Reads and writes, in memory and with real files and standard output.
+
 ghost use Rattle.std.specs.Prelude.{◌≡◌, ◌≢◌, ℕ, true, Err, IfOk, OnOk, OnErr, IfSome, IsErrOf};
 ghost use Rattle.std.specs.Io.KnownBytes.{append_known};
 ghost use Rattle.host_edge.specs.Count.{Rose};
@@ -13,6 +15,9 @@ use std::fmt::Display;
 use std::io::ErrorKind;
 use std::test::Fail;
 use std::{env, fs, io, process};
+
+/// More bytes than any small buffer has.
+const MEGABYTE: usize = 1_000_000;
 
 /// Copies a file to a sink, through the bounds alone.
 fn copy<F: Folder, O: Sink>(
@@ -34,6 +39,7 @@ fn copy<F: Folder, O: Sink>(
     Ok(write_all_to(out, &bytes))
 }
 
+/// A file in memory with this name and these bytes.
 fn named(alloc: Global, name: &str, bytes: &str) -> Result<NamedFile, AllocError> {
     Ok(NamedFile {
         name: String::from_str(alloc, name)?,
@@ -87,6 +93,10 @@ fn writes_in_memory(rt: HostRuntime) -> Result<(), Fail> {
         assert_eq!(rt; write_all_to(&mut sink, text.as_bytes()), want);
         assert_eq!(rt; sink.held(), held.as_bytes());
     }
+    let large = vec![in alloc; b'x'; MEGABYTE]?;
+    let mut sink = MemSink::new(alloc, MEGABYTE, Vec::new(alloc));
+    assert_eq!(rt; sink.write(&large), Ok(MEGABYTE));
+    assert_eq!(rt; sink.held() == large.as_slice(), true);
     Ok(())
 }
 
@@ -115,11 +125,15 @@ fn reads_a_real_file(rt: HostRuntime) -> Result<(), Fail> {
     let mut folder = DiskFolder::new(alloc, &rt);
     let whole = folder.read_file(name.as_str(), 10);
     let longer = folder.read_file(name.as_str(), 9);
+    let large = vec![in alloc; b'x'; MEGABYTE]?;
+    fs::write(&rt, name.as_str(), large.as_slice())?;
+    let megabyte = folder.read_file(name.as_str(), MEGABYTE as u64);
     fs::remove_file(&rt, name.as_str())?;
     let missing = folder.read_file(name.as_str(), 10);
     let directory = folder.read_file(directory.as_str(), 10);
     assert_eq!(rt; whole?.as_slice(), "0123456789".as_bytes());
     assert_eq!(rt; longer, Err(FolderFault::TooLong { limit: 9 }));
+    assert_eq!(rt; megabyte?.as_slice() == large.as_slice(), true);
     assert_eq!(rt; missing, Err(FolderFault::Failed));
     assert_eq!(rt; directory, Err(FolderFault::Failed));
     Ok(())

@@ -4,14 +4,14 @@ use std::alloc::{AllocError, Global};
 use std::env::FillError;
 use std::rt::Env;
 
-/// The room that is tried first for a word, in bytes.
-const FIRST_ROOM: usize = 256;
+/// How many bytes are tried first for a word. Where it has more, twice as many are tried next.
+const FIRST_SIZE: usize = 256;
 
-/// The word with this number, if there is one. A word that is not UTF-8 is an empty word.
+/// The word with this number, if there is one.
 fn word_at(rt: &impl Env, alloc: Global, number: usize) -> Result<Option<String>, AllocError> {
-    let mut room = FIRST_ROOM;
+    let mut size = FIRST_SIZE;
     for _ in 0..usize::BITS {
-        let mut bytes = vec![in alloc; 0; room]?;
+        let mut bytes = vec![in alloc; 0; size]?;
         match rt.arg(number, &mut bytes) {
             Ok(length) => {
                 bytes.truncate(length);
@@ -19,12 +19,16 @@ fn word_at(rt: &impl Env, alloc: Global, number: usize) -> Result<Option<String>
                 return Ok(Some(word));
             }
             Err(FillError::NotPresent) => return Ok(None),
-            Err(FillError::TooLong) => room = room.saturating_mul(2),
+            Err(FillError::TooLong) => size = size.saturating_mul(2),
         }
     }
     Err(AllocError)
 }
 
+/// All words after the program's name, in order.
+///
+/// A word that is not UTF-8 counts as an empty word, so that those behind it keep their places. Words
+/// may have any number of bytes. The only error is want of memory.
 pub(crate) fn all_words(rt: &impl Env, alloc: Global) -> Result<Vec<String>, AllocError> {
     let mut words = Vec::new(alloc);
     for number in 1..usize::MAX {
@@ -34,4 +38,67 @@ pub(crate) fn all_words(rt: &impl Env, alloc: Global) -> Result<Vec<String>, All
         }
     }
     Ok(words)
+}
+
+#[cfg(test)]
+mod tests {
+    use super::*;
+    use std::test::Fail;
+
+    /// An environment in which this was typed, each word on a line and the program's name first.
+    #[derive(Drop)]
+    struct Typed<'a> {
+        lines: &'a [u8],
+    }
+
+    impl<'a> Env for Typed<'a> {
+        fn arg(&self, number: usize, buf: &mut [u8]) -> Result<usize, FillError> {
+            let mut words = self.lines.split(|byte| *byte == b'\n');
+            let word = words.nth(number).ok_or(FillError::NotPresent)?;
+            if word.len() > buf.len() {
+                return Err(FillError::TooLong);
+            }
+            buf[..word.len()].copy_from_slice(word);
+            Ok(word.len())
+        }
+
+        fn var(&self, _name: &str, _buf: &mut [u8]) -> Result<usize, FillError> {
+            Err(FillError::NotPresent)
+        }
+
+        fn var_at(&self, _number: usize, _buf: &mut [u8]) -> Result<usize, FillError> {
+            Err(FillError::NotPresent)
+        }
+    }
+
+    /// The words that are taken, each with a bar behind it.
+    fn taken(alloc: Global, lines: &[u8]) -> Result<String, AllocError> {
+        let mut text = String::new(alloc);
+        for word in &all_words(&Typed { lines }, alloc)? {
+            text.push_str(word)?;
+            text.push('|')?;
+        }
+        Ok(text)
+    }
+
+    #[test]
+    fn takes_every_word(rt: HostRuntime) -> Result<(), Fail> {
+        let alloc = rt.alloc();
+        assert_eq!(rt; taken(alloc, b"reroute")?.as_str(), "");
+        assert_eq!(rt;
+            taken(alloc, b"reroute\ncheck\n\nd.gml")?.as_str(),
+            "check||d.gml|"
+        );
+        assert_eq!(rt;
+            taken(alloc, b"reroute\n\xff.gml\ncheck")?.as_str(),
+            "|check|"
+        );
+        let mut long = Vec::from_slice(alloc, b"reroute\n")?;
+        long.resize(308, b'x')?;
+        long.extend_from_slice(b"\ncheck")?;
+        let words = taken(alloc, &long)?;
+        assert_eq!(rt; words.len(), 300 + "|check|".len());
+        assert_eq!(rt; words.as_str().ends_with("x|check|"), true);
+        Ok(())
+    }
 }

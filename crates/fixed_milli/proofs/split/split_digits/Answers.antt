@@ -1,3 +1,4 @@
+-- The digits that stand first, one by one.
 use Rattle.std.proofs.Common.{◌≡◌, arith, take}
 use Rattle.std.specs.Str.Parse.{AllDigits}
 use Rattle.std.proofs.lemmas.Int.Digits.{digits_more}

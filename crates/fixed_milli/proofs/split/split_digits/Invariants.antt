@@ -1,3 +1,4 @@
+-- What holds while digits are counted.
 use Rattle.std.proofs.Common.{◌≡◌, take}
 use Rattle.std.specs.Str.Parse.{AllDigits}
 use Rattle.fixed_milli.proofs.split.split_digits.Given as goal

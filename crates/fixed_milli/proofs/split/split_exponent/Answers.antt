@@ -1,3 +1,4 @@
+-- An exponent is found exactly where there is one.
 use Rattle.std.proofs.Common.{◌≡◌, ◌⊎◌, ◌<◌, length, arith, inl, inr, sym, subst}
 use Rattle.std.proofs.lemmas.Bool.Decides.{nat_tests}
 use Rattle.fixed_milli.specs.Number.{IsExponent}

@@ -1,3 +1,4 @@
+-- The law that what is printed is read again.
 use Rattle.gml_text.proofs.Printing.{printed_is_spelling}
 use Rattle.gml_text.proofs.laws.printed_is_read.Goals as goal
 

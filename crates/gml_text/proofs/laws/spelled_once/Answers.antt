@@ -1,3 +1,4 @@
+-- The law that bytes spell one tree.
 use Rattle.std.proofs.Common.{sym, ◌∙◌}
 use Rattle.std.proofs.lemmas.Option.{same_Some}
 use Rattle.gml_text.proofs.Accepting.{spelled_is_accepted}

@@ -1,3 +1,4 @@
+-- The reader's states, and from them what the bytes are read as.
 use Rattle.std.proofs.Common.{◌<◌, length, get_or, Ok, sym, subst, arith}
 use Rattle.std.proofs.lemmas.List.{take_more}
 use Rattle.gml_text.specs.Parse.{IsDocument}

@@ -1,3 +1,4 @@
+-- What holds while bytes are read.
 use Rattle.std.proofs.Common.{take}
 use Rattle.gml_text.specs.Reader.{state_of}
 use Rattle.gml_text.proofs.Parsing.{LeadsWithinLimit}

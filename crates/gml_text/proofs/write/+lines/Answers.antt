@@ -1,3 +1,4 @@
+-- The lines of pairs, and how deep the calls go.
 use denote.Param.Weighed.{most, at_most}
 use Rattle.std.proofs.Common.{◌≤◌, subst, rules, [], ◌∷◌, ◌++◌, take, ap, sym, ◌∙◌, append_assoc, append-nil}
 use Rattle.gml_text.specs.Printed.{printed_inside}

@@ -1,3 +1,4 @@
+-- What holds while lines are written.
 use Rattle.std.proofs.Common.{◌≡◌, ◌++◌, take}
 use Rattle.gml_text.specs.Printed.{printed_inside}
 use Rattle.gml_text.specs.View.{pairs}

@@ -1,3 +1,4 @@
+-- The printed form is a spelling.
 use Rattle.std.proofs.Common.{sym, subst, rules}
 use Rattle.gml_text.specs.Grammar.{Spells}
 use Rattle.gml_text.specs.View.{tree}

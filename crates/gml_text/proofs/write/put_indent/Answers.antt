@@ -1,3 +1,4 @@
+-- Two spaces for each open list.
 use Rattle.std.proofs.Common.{◌++◌, ap, ◌∙◌, append_assoc, append-nil, sym}
 use Rattle.gml_text.specs.Printed.{indent}
 use Rattle.gml_text.proofs.Printing.{indent_more}

@@ -1,3 +1,4 @@
+-- What holds while spaces are written.
 use Rattle.std.proofs.Common.{◌≡◌, ◌++◌}
 use Rattle.gml_text.specs.Printed.{indent}
 use Rattle.gml_text.proofs.write.put_indent.Given as goal

@@ -1,3 +1,4 @@
+-- The first file with the name.
 use Rattle.std.proofs.Common.{rules, tests, string_bytes, bytes_eq}
 use Rattle.std.proofs.lemmas.Iterator.{YieldsList-from_slice}
 use Rattle.std.proofs.lemmas.Iterator.Search.{find_from_yields_List}

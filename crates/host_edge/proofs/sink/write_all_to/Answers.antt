@@ -1,3 +1,4 @@
+-- One more piece is written.
 use Rattle.std.proofs.Common.{ℕ, arith, ◌∙◌, length-take, length-drop}
 use Rattle.host_edge.proofs.SinkLemmas.{append_known_more, NeverFalls-trans}
 use Rattle.host_edge.proofs.sink.write_all_to.Goals as goal

@@ -1,3 +1,4 @@
+-- What holds while pieces are written.
 use Rattle.std.proofs.Common.{length, ◌-◌, ◌≡◌, ◌≤◌, take}
 use Rattle.std.specs.Io.KnownBytes.{append_known}
 use Rattle.host_edge.specs.Count.{NeverFalls}

@@ -1,3 +1,4 @@
+-- The point moved to the left.
 use Rattle.std.proofs.Common.{min, ap, sym}
 use Rattle.fixed_milli.specs.declared.digits.TheConstants.{LIMIT}
 use Rattle.fixed_milli.proofs.Rounding.{all_digits-take, moved_left, moved_far_left}

@@ -1,3 +1,4 @@
+-- The point moved to the right.
 use Rattle.fixed_milli.proofs.Rounding.{all_digits-take, moved_right}
 use Rattle.fixed_milli.proofs.numeral.Numeral.moved_right.Goals as goal
 

@@ -1,3 +1,4 @@
+-- The parts are those of the number that is spelled, if one is.
 use Rattle.std.proofs.Common.{◌≡◌, ◌+◌, ◌<◌, length, arith}
 use Rattle.std.proofs.lemmas.Bool.Decides.{nat_tests}
 use Rattle.fixed_milli.proofs.Splitting.{parts_of, no_digits, no_exponent, parts_spell}
@@ -18,9 +19,9 @@ returns-in_err-shrinks c =
 
 pub returns : goal.returns
 returns c =
-    let parts = parts_of _ _ _ _ _ _ _ c.split_sign-negative.ensures c.split_digits.ensures c.split_fraction.ensures in
     let some : 0 < length c.split_digits.result.0.now + length c.split_fraction.result.0.now = elim c.else-is_empty.branch [
       | else-is_empty-via-then-is_empty+else-is_empty-2 w ↦ grind (arith, nat_tests, w.if-is_empty-2.ensures)
       | else-is_empty-via-else-is_empty w ↦ grind (arith, nat_tests, w.if-is_empty.ensures)
     ] in
+    let parts = parts_of _ _ _ _ _ _ _ c.split_sign-negative.ensures c.split_digits.ensures c.split_fraction.ensures in
     parts_spell _ _ _ _ _ _ _ parts some c.in_ok-shrinks.ensures

@@ -1,3 +1,4 @@
+-- The exponent decides where the point moves.
 use Rattle.std.proofs.Common.{◌<◌, ◌^◌, length, rules}
 use Rattle.fixed_milli.proofs.Powers.{raised, lowered_little, lowered}
 use Rattle.fixed_milli.proofs.numeral.Numeral.thousandths.Goals as goal

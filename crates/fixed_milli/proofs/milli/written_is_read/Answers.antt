@@ -1,5 +1,0 @@
-use Rattle.fixed_milli.proofs.Reading.{text_reads}
-use Rattle.fixed_milli.proofs.milli.written_is_read.Goals as goal
-
-pub returns : goal.returns
-returns c = text_reads
