@@ -12,3 +12,4 @@ pub mod Verdicts
 pub mod PlainSizes
 pub mod Words
 pub mod Outcomes
+pub mod OneOutcome

@@ -16,27 +16,26 @@ use Rattle.route_check.specs.declared.verdict.Breach.{Breach}
 use Rattle.route_check.specs.Verdict.{IsLegalLine}
 use Rattle.reroute_app.specs.declared.diagram.Node.{Node}
 use Rattle.reroute_app.specs.declared.diagram.Edge.{Edge}
-use Rattle.reroute_app.specs.declared.outcome.TheConstants.{MOST_BYTES}
 use Rattle.reroute_app.specs.declared.status.Status.{Status}
 use Rattle.reroute_app.specs.declared.status.Status.TheVariants as status
 use Rattle.reroute_app.specs.Diagram.{node_with, choices, solid, IsTaskOf}
 use Rattle.reroute_app.specs.Plain.{IsPlain}
 use Rattle.reroute_app.specs.Verdict.{IsEdgeVerdict, HasLegalLine}
-use Rattle.reroute_app.specs.Outcome.{AsksFor, IsNoForm, HasRead, HasReadPlain, FailsToRead, FindsTooLong, FindsNoDiagram, FindsBadLine, FindsLegalLines, Outcome, NotUnderstood, ReadFault, TooLong, NotPlain, Checked, IsOutcome, status_of}
+use Rattle.reroute_app.specs.Outcome.{most_bytes, AsksFor, IsNoForm, HasRead, HasReadPlain, FailsToRead, FindsTooLong, FindsNoDiagram, FindsBadLine, FindsLegalLines, Outcome, NotUnderstood, ReadFault, TooLong, NotPlain, Checked, IsOutcome, status_of}
 use Rattle.reroute_app.proofs.PlainLaws.{lists_at-again}
 
 -- ---- one edge
 
-same_some : {X : Type 0} (o : Option X) (x y : X) → o ≡ Some x → o ≡ Some y → x ≡ y
+pub same_some : {X : Type 0} (o : Option X) (x y : X) → o ≡ Some x → o ≡ Some y → x ≡ y
 same_some o x y p q = cc
 
 same_legal : (nodes : List Node) (e : Edge) (t u : Task) (solids : List Solid) → IsTaskOf nodes e t → IsTaskOf nodes e u → IsLegalLine solids u e.line → IsLegalLine solids t e.line
 same_legal nodes e t u solids a b line =
     let source = same_some (node_with nodes e.source) b.source a.source b.is_source a.is_source in
     let target = same_some (node_with nodes e.target) b.target a.target b.is_target a.is_target in
-    let starts : u.starts.items ≡ t.starts.items = b.leads.starts ∙ ap choices source ∙ sym a.leads.starts in
-    let ends : u.ends.items ≡ t.ends.items = b.leads.ends ∙ ap choices target ∙ sym a.leads.ends in
-    let via : u.via.items ≡ t.via.items = b.leads.via ∙ sym a.leads.via in
+    let starts : u.starts ≡ t.starts = b.leads.starts ∙ ap choices source ∙ sym a.leads.starts in
+    let ends : u.ends ≡ t.ends = b.leads.ends ∙ ap choices target ∙ sym a.leads.ends in
+    let via : u.via ≡ t.via = b.leads.via ∙ sym a.leads.via in
     record {
       walk = line.walk;
       start = line.start;
@@ -98,12 +97,12 @@ pub record SameNote (m n : List ℕ) (t u : ℕ) (f g : Bool) : Type 0 where
   pub failed : f ≡ g
 
 abbrev note : List ℕ → ℕ → Bool → Note
-note name taken failed = record { name = name; limit = MOST_BYTES; taken = taken; failed = failed }
+note name taken failed = record { name = name; limit = most_bytes; taken = taken; failed = failed }
 
 head_is : (a b : Note) → ◌≡◌ {A = List Note} (a ∷ []) (b ∷ []) → a ≡ b
 head_is a b e = cc
 
-same_note : (words : List (List ℕ)) (old new : List Note) (m n : List ℕ) (t u : ℕ) (f g : Bool) →
+pub same_note : (words : List (List ℕ)) (old new : List Note) (m n : List ℕ) (t u : ℕ) (f g : Bool) →
     AsksFor words old new m t f → AsksFor words old new n u g → SameNote m n t u f g
 same_note words old new m n t u f g a b =
     let same = head_is (note m t f) (note n u g) (append_cancel_left old (note m t f ∷ []) (note n u g ∷ []) (sym a.noted ∙ b.noted)) in
@@ -116,12 +115,12 @@ same_bytes words (Some named) old new a b some p q =
     let same = (same_note words old new p.name q.name (length a) (length b) false false p.asked q.asked).name in
     same_some (file_named named q.name) a b (subst (λ (n : List ℕ). file_named named n ≡ Some a) same p.told) q.told
 
-not_failed : (words : List (List ℕ)) (files : Option ToldFiles) (old new : List Note) (bytes name : List ℕ) →
+pub not_failed : (words : List (List ℕ)) (files : Option ToldFiles) (old new : List Note) (bytes name : List ℕ) →
     HasRead words files old new bytes → FailsToRead words old new name → ⊥
 not_failed words files old new bytes name read failed =
     let same = (same_note words old new read.name name (length bytes) failed.0 false true read.asked failed.1).failed in absurd cc
 
-not_too_long : (words : List (List ℕ)) (files : Option ToldFiles) (old new : List Note) (bytes name : List ℕ) →
+pub not_too_long : (words : List (List ℕ)) (files : Option ToldFiles) (old new : List Note) (bytes name : List ℕ) →
     HasRead words files old new bytes → FindsTooLong words old new name → ⊥
 not_too_long words files old new bytes name read long =
     let same = (same_note words old new read.name name (length bytes) long.0 false false read.asked long.2).taken in
@@ -185,11 +184,11 @@ module _ (words : List (List ℕ)) (files : Option ToldFiles) (old new : List No
 -- ---- the statuses that a file's bytes tell
 
 module _ (words : List (List ℕ)) (files : Option ToldFiles) (old new : List Note) (some : IsSome files) where
-  no_diagram : (nodes : List Node) (edges : List Edge) → HasReadPlain words files old new nodes edges → FindsNoDiagram words files old new → ⊥
+  pub no_diagram : (nodes : List Node) (edges : List Edge) → HasReadPlain words files old new nodes edges → FindsNoDiagram words files old new → ⊥
   no_diagram nodes edges plain found =
       found.not_plain nodes edges (subst (λ (bs : List ℕ). IsPlain bs nodes edges) (same_bytes words files old new plain.bytes found.bytes some plain.read found.read) plain.plain)
 
-  same_plain : (ms ns : List Node) (es fs : List Edge) → HasReadPlain words files old new ms es → HasReadPlain words files old new ns fs → (ms ≡ ns) × (es ≡ fs)
+  pub same_plain : (ms ns : List Node) (es fs : List Edge) → HasReadPlain words files old new ms es → HasReadPlain words files old new ns fs → (ms ≡ ns) × (es ≡ fs)
   same_plain ms ns es fs p q =
       one_plain q.bytes ms ns es fs (subst (λ (bs : List ℕ). IsPlain bs ms es) (same_bytes words files old new p.bytes q.bytes some p.read q.read) p.plain) q.plain
 

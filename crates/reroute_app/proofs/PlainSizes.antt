@@ -5,7 +5,6 @@ use Rattle.std.proofs.lemmas.Int.{ints}
 use Rattle.std.proofs.lemmas.List.{length-map}
 use Rattle.std.proofs.lemmas.List.Elements.{All-nil, All-cons, All-head, All-tail, All-map}
 use Rattle.plane_geom.specs.Point.{PointIsOnSheet}
-use Rattle.walk_model.specs.declared.line.TheConstants.{MOST_POINTS}
 use Rattle.reroute_app.specs.declared.diagram.Node.{Node}
 use Rattle.reroute_app.specs.declared.diagram.Edge.{Edge}
 use Rattle.reroute_app.specs.Diagram.{IsSmallCoordinate, IsSmall, HasFairLine}
@@ -52,7 +51,7 @@ length-points e =
       within-pieces (codes " edge [ source ") (numeral e.source) (codes " target ") (numeral e.target) (codes " graphics [ Line [") texts (codes " ] ] ]"),
     )
 
-edges_fair : (es : List PlainEdge) → length (flat_map edge_text es) ≤ MOST_POINTS → All IsEdge es → All HasFairLine (map edge_of es)
+edges_fair : (es : List PlainEdge) → length (flat_map edge_text es) ≤ 40000000 → All IsEdge es → All HasFairLine (map edge_of es)
 edges_fair [] short is = All-nil HasFairLine
 edges_fair (e ∷ es) short is =
     let both = length-append (edge_text e) (flat_map edge_text es) in
@@ -69,7 +68,7 @@ pub nodes_small : (bytes : List ℕ) (nodes : List Node) (edges : List Edge) →
 nodes_small bytes nodes edges is =
     subst (All IsSmall) is.nodes_are (All-map IsSmall node_of is.text.nodes (λ k d lt. node_small (get_or is.text.nodes k d) (is.each_node k d lt)))
 
-pub lines_fair : (bytes : List ℕ) (nodes : List Node) (edges : List Edge) → length bytes ≤ MOST_POINTS → IsSpelled bytes nodes edges → All HasFairLine edges
+pub lines_fair : (bytes : List ℕ) (nodes : List Node) (edges : List Edge) → length bytes ≤ 40000000 → IsSpelled bytes nodes edges → All HasFairLine edges
 lines_fair bytes nodes edges short is =
     let t = is.text in
     let whole = ap length (is.spelled ∙ text-spread t) in

@@ -6,7 +6,7 @@ use Rattle.plane_geom.specs.declared.point.Dir.{Dir}
 use Rattle.plane_geom.specs.declared.point.Dir.TheVariants.{East, South, West, North}
 use Rattle.plane_geom.specs.declared.point.Point.{Point}
 use Rattle.plane_geom.specs.Point.{IsCoordinate, PointIsOnSheet}
-use Rattle.plane_geom.specs.Rect.{IsOnSheet}
+use Rattle.plane_geom.specs.Rect.{RectIsOnSheet}
 use Rattle.walk_model.specs.declared.task.Choice.{Choice}
 use Rattle.walk_model.specs.declared.task.Task.{Task}
 use Rattle.walk_model.specs.Choice.{IsChoice, AreChoices}
@@ -98,12 +98,14 @@ IsTask-leads t source target small_source small_target leads = record {
   starts = rw leads.starts (AreChoices-choices source small_source);
   ends = rw leads.ends (AreChoices-choices target small_target);
   via = rw leads.via (All-nil PointIsOnSheet);
+  few_starts = rw leads.starts (omega arith);
+  few_ends = rw leads.ends (omega arith);
   few = rw leads.via (omega arith);
   penalty = rw leads.penalty (omega arith);
 }
 
 -- the solids lie on the sheet
-solid_on_sheet : (n : Node) → IsSmall n → IsOnSheet (buffered_box n)
+solid_on_sheet : (n : Node) → IsSmall n → RectIsOnSheet (buffered_box n)
 solid_on_sheet n small = record {
   left = back_on_sheet n.centre.x n.w small.x small.w;
   top = back_on_sheet n.centre.y n.h small.y small.h;
@@ -111,5 +113,5 @@ solid_on_sheet n small = record {
   bottom = ahead_on_sheet n.centre.y n.h small.y small.h;
 }
 
-pub solids_on_sheet : (nodes : List Node) → All IsSmall nodes → All (λ s. IsOnSheet s.rect) (map solid nodes)
-solids_on_sheet nodes small = All-map (λ s. IsOnSheet s.rect) solid nodes (λ k d lt. solid_on_sheet (get_or nodes k d) (small k d lt))
+pub solids_on_sheet : (nodes : List Node) → All IsSmall nodes → All (λ s. RectIsOnSheet s.rect) (map solid nodes)
+solids_on_sheet nodes small = All-map (λ s. RectIsOnSheet s.rect) solid nodes (λ k d lt. solid_on_sheet (get_or nodes k d) (small k d lt))

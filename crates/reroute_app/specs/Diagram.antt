@@ -1,16 +1,15 @@
-use Rattle.std.specs.Prelude.{◌≡◌, ◌≢◌, ℕ, ◌+◌, ◌/◌, ◌≤◌, ◌^◌, ℤ, pos, neg_ℤ, ◌+ℤ◌, ◌-ℤ◌, ◌≤ℤ◌, List, [], ◌∷◌, map, length, Option, Some, find, IsSome, All, AllPairs}
+-- Plain diagrams: their nodes and edges, and what an edge asks of its line.
+use Rattle.std.specs.Prelude.{◌≡◌, ◌≢◌, ℕ, ◌+◌, ◌/◌, ◌≤◌, ◌^◌, ℤ, pos, neg_ℤ, ◌+ℤ◌, ◌-ℤ◌, ◌≤ℤ◌, List, [], ◌∷◌, map, Option, Some, find, IsSome, All, AllPairs}
 use Rattle.std.specs.Ordering.{int_eq}
 use Rattle.plane_geom.specs.declared.point.Dir.{Dir}
 use Rattle.plane_geom.specs.declared.point.Dir.TheVariants.{East, South, West, North}
 use Rattle.plane_geom.specs.declared.point.Point.{Point}
 use Rattle.plane_geom.specs.declared.rect.Rect.{Rect}
 use Rattle.plane_geom.specs.declared.rect.Solid.{Solid}
-use Rattle.plane_geom.specs.Point.{PointIsOnSheet}
 use Rattle.plane_geom.specs.Rect.{grown}
-use Rattle.walk_model.specs.declared.line.TheConstants.{MOST_POINTS}
+use Rattle.walk_model.specs.Line.{IsPolyline}
 use Rattle.walk_model.specs.declared.task.Choice.{Choice}
 use Rattle.walk_model.specs.declared.task.Task.{Task}
-use Rattle.reroute_app.specs.declared.diagram.TheConstants.{BUFFER, PENALTY}
 use Rattle.reroute_app.specs.declared.diagram.Node.{Node}
 use Rattle.reroute_app.specs.declared.diagram.Edge.{Edge}
 
@@ -42,8 +41,9 @@ box n = record {
   bottom = n.centre.y +ℤ pos (half n.h);
 }
 
+-- the box with the buffer of 4000 thousandths round it
 abbrev pub buffered_box : Node → Rect
-buffered_box n = grown (box n) BUFFER
+buffered_box n = grown (box n) (pos 4000)
 
 -- what no route may enter but the node's own
 abbrev pub solid : Node → Solid
@@ -63,12 +63,12 @@ choice n d = record { node = n.id; pin = n.centre; dir = d; port = port n d; cos
 abbrev pub choices : Node → List Choice
 choices n = map (choice n) (East ∷ South ∷ West ∷ North ∷ [])
 
--- from the choices of the one node to those of the other, with no checkpoint between
+-- from the choices of the one node to those of the other, with no checkpoint between; a bend costs 50000
 pub record Leads (t : Task) (source target : Node) : Type 0 where
-  pub starts : t.starts.items ≡ choices source
-  pub ends : t.ends.items ≡ choices target
-  pub via : t.via.items ≡ []
-  pub penalty : t.penalty ≡ PENALTY
+  pub starts : t.starts ≡ choices source
+  pub ends : t.ends ≡ choices target
+  pub via : t.via ≡ []
+  pub penalty : t.penalty ≡ 50000
 
 -- what the edge asks of its line
 pub record IsTaskOf (nodes : List Node) (e : Edge) (t : Task) : Type 0 where
@@ -91,6 +91,5 @@ pub record IsSmall (n : Node) : Type 0 where
   pub h : n.h ≤ 10 ^ 8
 
 -- the line lies on the sheet, and is not too long to be judged
-pub record HasFairLine (e : Edge) : Type 0 where
-  pub within : All PointIsOnSheet e.line
-  pub few : length e.line ≤ MOST_POINTS
+abbrev pub HasFairLine : Edge → Type 0
+HasFairLine e = IsPolyline e.line

@@ -8,12 +8,15 @@ use Rattle.host_edge.specs.Sink.{AppendsPart}
 use Rattle.route_check.specs.declared.verdict.Breach.{Breach}
 use Rattle.reroute_app.specs.declared.diagram.Node.{Node}
 use Rattle.reroute_app.specs.declared.diagram.Edge.{Edge}
-use Rattle.reroute_app.specs.declared.outcome.TheConstants.{MOST_BYTES}
 use Rattle.reroute_app.specs.declared.status.Status.{Status}
 use Rattle.reroute_app.specs.declared.status.Status.TheVariants as status
 use Rattle.reroute_app.specs.Plain.{IsPlain, IsNotPlain}
 use Rattle.reroute_app.specs.Report.{line_end, edge_lines}
 use Rattle.reroute_app.specs.Verdict.{IsEdgeVerdict, HasLegalLine}
+
+-- the greatest number of bytes of a file that is read
+abbrev pub most_bytes : ℕ
+most_bytes = 16777216
 
 -- the word names a file: it is not empty, and does not begin with a minus
 pub record NamesFile (word : List ℕ) : Type 0 where
@@ -32,7 +35,7 @@ IsNoForm words = (name : List ℕ) → IsCheck words name → ⊥
 -- the words ask for the file with this name, and this is the note of its read
 pub record AsksFor (words : List (List ℕ)) (old new : List Note) (name : List ℕ) (taken : ℕ) (failed : Bool) : Type 0 where
   pub form : IsCheck words name
-  pub noted : GainsNote old new name MOST_BYTES taken failed
+  pub noted : GainsNote old new name most_bytes taken failed
 
 -- nothing was read, or the file that the words ask for was, once
 abbrev pub ReadsAtMost : List (List ℕ) → List Note → List Note → Type 0
@@ -45,13 +48,13 @@ FailsToRead words old new name = (taken : ℕ) × AsksFor words old new name tak
 
 -- the file with this name has more bytes than are read
 abbrev pub FindsTooLong : List (List ℕ) → List Note → List Note → List ℕ → Type 0
-FindsTooLong words old new name = (taken : ℕ) × (MOST_BYTES < taken) × AsksFor words old new name taken false
+FindsTooLong words old new name = (taken : ℕ) × (most_bytes < taken) × AsksFor words old new name taken false
 
 -- the file that the words ask for was read, and these are its bytes
 pub record HasRead (words : List (List ℕ)) (files : Option ToldFiles) (old new : List Note) (bytes : List ℕ) : Type 0 where
   pub name : List ℕ
   pub asked : AsksFor words old new name (length bytes) false
-  pub short : length bytes ≤ MOST_BYTES
+  pub short : length bytes ≤ most_bytes
   pub told : IfSome files (λ named. file_named named name ≡ Some bytes)
 
 -- it is a plain diagram with these nodes and edges
@@ -99,9 +102,13 @@ abbrev pub IsOutcome : List (List ℕ) → Option ToldFiles → List Note → Li
 IsOutcome words files old new NotUnderstood = IsNoForm words × (new ≡ old)
 IsOutcome words files old new (ReadFault name) = FailsToRead words old new name
 IsOutcome words files old new (TooLong name) = FindsTooLong words old new name
-    × IfSome files (λ named. IsSomeAnd (file_named named name) (λ bytes. MOST_BYTES < length bytes))
+    × IfSome files (λ named. IsSomeAnd (file_named named name) (λ bytes. most_bytes < length bytes))
 IsOutcome words files old new NotPlain = FindsNoDiagram words files old new
 IsOutcome words files old new (Checked verdicts) = AreVerdicts words files old new verdicts
+
+-- one outcome at most comes of these
+abbrev pub HasOneOutcome : List (List ℕ) → Option ToldFiles → List Note → List Note → Type 0
+HasOneOutcome words files old new = (a b : Outcome) → IsOutcome words files old new a → IsOutcome words files old new b → a ≡ b
 
 abbrev pub status_of : Outcome → Status
 status_of NotUnderstood = status.Words
@@ -114,7 +121,7 @@ status_of (Checked verdicts) = if list_any is_err verdicts then status.BadLine e
 abbrev pub output : Outcome → List ℕ
 output NotUnderstood = codes "words: not understood" ++ line_end
 output (ReadFault name) = codes "read fault: " ++ name ++ line_end
-output (TooLong name) = codes "too long: " ++ name ++ codes " limit " ++ decimal MOST_BYTES ++ line_end
+output (TooLong name) = codes "too long: " ++ name ++ codes " limit " ++ decimal most_bytes ++ line_end
 output NotPlain = codes "diagram: NotYet" ++ line_end
 output (Checked verdicts) = edge_lines 1 verdicts
 

@@ -1,11 +1,11 @@
+//! Plain diagrams: their nodes and edges, and what an edge asks of its line.
 ghost use Rattle.std.specs.Prelude.{◌≡◌, ◌≢◌, ◌↔◌, ◌^◌, ◌≤◌, pos, IfOk, IsTrue, All, AllPairs, is_some, option_copied};
 ghost use Rattle.walk_model.specs.Legal.{IsTask};
 ghost use Rattle.reroute_app.specs.Diagram.{IsSmall, IsTaskOf, JoinsNodes, Leads, half, node_with};
 
 use plane_geom::{Dir, Point, Rect, Solid};
 use std::alloc::{AllocError, Global};
-use std::marker::Model;
-use walk_model::{Choice, Task};
+use walk_model::{Choice, Choices, Points, Task};
 
 /// How far routes keep from a node, in thousandths.
 pub(crate) const BUFFER: i64 = 4_000;
@@ -22,33 +22,12 @@ pub(crate) struct Node {
     pub(crate) h: u64,
 }
 
-/// The corner points of a drawn line.
-#[derive(Debug, Drop)]
-pub(crate) struct DrawnLine(pub(crate) Vec<Point>);
-
-impl Model for DrawnLine {
-    ghost use Rattle.std.specs.Prelude.{List};
-    ghost use Rattle.plane_geom.specs.declared.point.Point.{Point};
-
-    ghost Value = { List Point };
-
-    ghost view = { λ l. l.0.items };
-}
-
-impl DrawnLine {
-    pub(crate) fn points(&self) -> &[Point]
-        ensures { result.now ≡ self.now }
-    {
-        &self.0
-    }
-}
-
 /// An edge: the ids of its two nodes, and its line.
 #[derive(Debug, Drop)]
 pub(crate) struct Edge {
     pub(crate) source: i64,
     pub(crate) target: i64,
-    pub(crate) line: DrawnLine,
+    pub(crate) line: Points,
 }
 
 /// The nodes and edges of a diagram, in its order.
@@ -127,14 +106,15 @@ impl Node {
         }
     }
 
-    fn choices(&self, alloc: Global) -> Result<Vec<Choice>, AllocError>
+    fn choices(&self, alloc: Global) -> Result<Choices, AllocError>
         requires { IsSmall self.now }
-        ensures { IfOk result (λ made. made.items ≡ choices self.now) }
+        ensures { IfOk result (λ made. made ≡ choices self.now) }
     {
-        [Dir::East, Dir::South, Dir::West, Dir::North]
+        let all = [Dir::East, Dir::South, Dir::West, Dir::North]
             .iter()
             .map(|dir| self.choice(*dir))
-            .collect(alloc)
+            .collect(alloc)?;
+        Ok(Choices(all))
     }
 }
 
@@ -194,7 +174,7 @@ fn task_between(alloc: Global, source: &Node, target: &Node) -> Result<Task, All
     Ok(Task {
         starts: source.choices(alloc)?,
         ends: target.choices(alloc)?,
-        via: Vec::new(alloc),
+        via: Points(Vec::new(alloc)),
         penalty: PENALTY,
     })
 }

@@ -1,9 +1,11 @@
 //! The program's runs, from the words to the bytes that are written.
 #![tactic(auto)]
 
-ghost use Rattle.std.specs.Prelude.{◌≡◌, ◌≢◌, ◌↔◌, ℕ, ◌<◌, List, map, string_bytes, IsSome};
+ghost use Rattle.std.specs.Prelude.{◌≡◌, ◌≢◌, ◌↔◌, ℕ, ◌<◌, List, Option, map, string_bytes, IsSome};
 ghost use Rattle.host_edge.specs.Count.{NeverFalls, Rose};
-ghost use Rattle.reroute_app.specs.Outcome.{FailsToRead, FindsBadLine, FindsLegalLines, FindsNoDiagram, FindsTooLong, IsNoForm, ReadsAtMost, Writes, WritesPart};
+ghost use Rattle.host_edge.specs.Folder.{ToldFiles};
+ghost use Rattle.host_edge.specs.Note.{Note};
+ghost use Rattle.reroute_app.specs.Outcome.{FailsToRead, FindsBadLine, FindsLegalLines, FindsNoDiagram, FindsTooLong, HasOneOutcome, IsNoForm, ReadsAtMost, Writes, WritesPart};
 ghost use Rattle.reroute_app.specs.Status.{IsWritten};
 
 mod diagram;
@@ -69,6 +71,12 @@ pub fn run<F: Folder, O: Sink>(
         Err(WriteFailed) => Status::WriteFault,
     }
 }
+
+/// For given words, told files and notes there is one outcome, and so one output and one status.
+pub fn one_outcome()
+    ensures { (words : List (List ℕ)) (files : Option ToldFiles) (old new : List Note) → IsSome files →
+        HasOneOutcome words files old new }
+{}
 
 #[cfg(test)]
 mod tests;

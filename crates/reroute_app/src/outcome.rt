@@ -2,7 +2,7 @@
 
 ghost use Rattle.std.specs.Prelude.{◌≡◌, ◌≤◌, ◌↔◌, length, map, IfOk, IfNone, IfSome, IsTrue, is_err, string_bytes};
 ghost use Rattle.std.specs.List.{list_any};
-ghost use Rattle.reroute_app.specs.Outcome.{IsCheck, IsNoForm, IsOutcome, NamesFile, ReadsAtMost, output, status_of};
+ghost use Rattle.reroute_app.specs.Outcome.{most_bytes, IsCheck, IsNoForm, IsOutcome, NamesFile, ReadsAtMost, output, status_of};
 ghost use Rattle.reroute_app.specs.View.{view, IsJudged};
 
 use crate::plain::read_plain;
@@ -83,7 +83,7 @@ fn file_word(words: &[String]) -> Option<&str>
 
 /// What comes of a file with these bytes.
 fn judged<'a>(alloc: Global, bytes: &[u8]) -> Result<Outcome<'a>, AllocError>
-    requires { length bytes.now ≤ MOST_BYTES }
+    requires { length bytes.now ≤ most_bytes }
     ensures { IfOk result (λ o. IsJudged bytes.now (view o)) }
 {
     match read_plain(alloc, bytes)? {

@@ -3,7 +3,6 @@
 ghost use Rattle.std.specs.Prelude.{◌≡◌, ◌≤◌, List, length, All, IfOk, IfSome, IfNone};
 ghost use Rattle.reroute_app.specs.declared.diagram.Node.{Node};
 ghost use Rattle.reroute_app.specs.declared.diagram.Edge.{Edge};
-ghost use Rattle.walk_model.specs.declared.line.TheConstants.{MOST_POINTS};
 ghost use Rattle.reroute_app.specs.Diagram.{HasFairLine, IsSmall};
 ghost use Rattle.reroute_app.specs.Plain.{IsPlain, IsNotPlain};
 ghost use Rattle.reroute_app.specs.Reading.{Gives, is_end, lists_at};
@@ -55,7 +54,7 @@ pub(crate) fn read_plain(alloc: Global, bytes: &[u8]) -> Result<Option<Diagram>,
 
     // What a text stands for is small, and its lines are no longer than the text.
     ensures small { IfOk result (λ found. IfSome found (λ d. All IsSmall d.nodes.items)) }
-    ensures lines { length bytes.now ≤ MOST_POINTS →
+    ensures lines { length bytes.now ≤ 40000000 →
         IfOk result (λ found. IfSome found (λ d. All HasFairLine d.edges.items)) }
 
     // A text has one diagram.

@@ -4,6 +4,7 @@ ghost use Rattle.std.specs.Prelude.{◌≡◌, ◌++◌, Ok, IfOk, OnOk, string_
 ghost use Rattle.reroute_app.specs.Report.{edge_line, edge_lines, verdict_text};
 
 use crate::verdict::Verdict;
+use fixed_milli::push_milli;
 use route_check::Breach;
 use std::alloc::{AllocError, Global};
 
@@ -11,7 +12,8 @@ use std::alloc::{AllocError, Global};
 fn push_cost(text: &mut String, cost: u64) -> Result<(), AllocError>
     ensures { OnOk result (string_bytes text.new ≡ string_bytes text.old ++ verdict_text (Ok cost)) }
 {
-    write!(text, "cost {}.{:03}", cost / 1000, cost % 1000)
+    text.push_str("cost ")?;
+    push_milli(text, cost)
 }
 
 /// Appends what is said of a line.

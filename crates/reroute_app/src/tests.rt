@@ -1,3 +1,4 @@
+//! The worked diagrams, words of no form, and inputs at the limits.
 use super::*;
 use host_edge::{MemFolder, MemSink, NamedFile};
 use std::alloc::AllocError;
@@ -120,6 +121,41 @@ fn checks_lines(rt: HostRuntime) -> Result<(), Fail> {
         run_row(&rt, alloc, r)?;
     }
     Ok(())
+}
+
+/// Nodes in a row, and two edges between neighbours, each drawn through many equal points.
+#[test]
+fn checks_a_large_diagram(rt: HostRuntime) -> Result<(), Fail> {
+    let alloc = rt.alloc();
+    let mut file = String::from_str(alloc, "graph [")?;
+    let mut output = String::new(alloc);
+    for i in 0..256u32 {
+        write!(
+            file,
+            " node [ id {i} graphics [ x {} y 0 w 20 h 20 ] ]",
+            i * 300
+        )?;
+    }
+    for i in 0..510u32 {
+        let source = i / 2;
+        let at = source * 300;
+        write!(
+            file,
+            " edge [ source {source} target {} graphics [ Line [",
+            source + 1
+        )?;
+        for _ in 0..1000 {
+            write!(file, " point [ x {at} y 0 ]")?;
+        }
+        write!(file, " point [ x {} y 0 ] ] ] ]", at + 300)?;
+        write!(output, "edge {}: cost 300.000\n", i + 1)?;
+    }
+    file.push_str(" ]")?;
+    run_row(
+        &rt,
+        alloc,
+        &plain_row(file.as_str(), Status::Done, 0, output.as_str()),
+    )
 }
 
 #[test]

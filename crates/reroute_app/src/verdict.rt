@@ -1,32 +1,17 @@
 //! The verdicts on the lines of a diagram.
 
-ghost use Rattle.std.specs.Prelude.{◌≡◌, ◌≤◌, All, IfOk, length, map};
+ghost use Rattle.std.specs.Prelude.{◌≡◌, All, IfOk, map};
 ghost use Rattle.std.specs.List.{AllZip};
-ghost use Rattle.plane_geom.specs.Point.{PointIsOnSheet};
-ghost use Rattle.plane_geom.specs.Rect.{IsOnSheet};
-ghost use Rattle.walk_model.specs.Legal.{IsTask};
-ghost use Rattle.walk_model.specs.declared.line.TheConstants.{MOST_POINTS};
 ghost use Rattle.reroute_app.specs.Diagram.{HasFairLine, IsSmall, JoinsNodes, solid};
-ghost use Rattle.reroute_app.specs.Verdict.{IsEdgeVerdict, IsVerdict};
+ghost use Rattle.reroute_app.specs.Verdict.{IsEdgeVerdict};
 
 use crate::diagram::{Edge, Node, task};
-use plane_geom::{Point, Solid};
+use plane_geom::Solid;
 use route_check::{Breach, check};
 use std::alloc::{AllocError, Global};
-use walk_model::Task;
 
 /// The cost of a line, in thousandths, or the first rule that it breaks.
 pub(crate) type Verdict = Result<u64, Breach>;
-
-fn judge(solids: &[Solid], task: &Task, points: &[Point]) -> Verdict
-    requires solids { All (λ s. IsOnSheet s.rect) solids.now }
-    requires task { IsTask task.now }
-    requires within { All PointIsOnSheet points.now }
-    requires few { length points.now ≤ MOST_POINTS }
-    ensures { IsVerdict solids.now task.now points.now result }
-{
-    check(solids, task, points)
-}
 
 /// What no route may enter but its own node's, in the order of the nodes.
 fn solids(alloc: Global, nodes: &[Node]) -> Result<Vec<Solid>, AllocError>
@@ -50,7 +35,7 @@ fn verdict(
     ensures { IfOk result (IsEdgeVerdict nodes.now edge.now) }
 {
     let task = task(alloc, nodes, edge)?;
-    Ok(judge(solids, &task, edge.line.points()))
+    Ok(check(solids, &task, edge.line.as_slice()))
 }
 
 /// The verdicts on the lines of the edges, in order.

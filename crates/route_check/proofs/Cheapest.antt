@@ -1,3 +1,4 @@
+-- The cheaper of a cheapest choice and one more is a cheapest.
 use Rattle.std.proofs.Common.{◌≡◌, ◌<◌, ◌≤◌, pos, nat_le, if◌then◌else◌, MatchOption, Option, Some, None, List, [], ◌∷◌, ◌++◌, inl, inr, arith, Contains, subst, sym, ap}
 use Rattle.std.proofs.lemmas.Bool.{cond_both, leb-true, leb-false}
 use Rattle.std.proofs.lemmas.List.Elements.{Contains-append_left, Contains-push, Contains-push_cases}

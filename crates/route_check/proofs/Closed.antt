@@ -1,3 +1,4 @@
+-- Which steps may not meet the solid of a node.
 use Rattle.std.proofs.Common.{◌≡◌, ◌↔◌, ℕ, ◌-◌, ◌<◌, ◌≤◌, ◌⊎◌, ℤ, length, inl, inr, arith}
 use Rattle.std.proofs.lemmas.Bool.{cases_lt}
 use Rattle.walk_model.specs.declared.task.Choice.{Choice}

@@ -1,3 +1,4 @@
+-- Where the walk of a line stands at a corner.
 use Rattle.std.proofs.Common.{◌≡◌, ℕ, zero, suc, ◌+◌, ◌-◌, ◌*◌, ◌<◌, ◌≤◌, List, [], ◌∷◌, pos, length, take, drop, get_or, refl, sym, ap, ◌∙◌, arith, All, add-one, subst}
 use Rattle.std.proofs.lemmas.List.{length-append, length-replicate, drop_all, drop_more, get_or_default}
 use Rattle.plane_geom.specs.declared.point.Point.{Point}

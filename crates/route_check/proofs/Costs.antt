@@ -1,10 +1,10 @@
+-- What a line costs fits its type.
 use Rattle.std.proofs.Common.{◌≡◌, ℕ, ap, inl, inr, Option, Some, None, ◌*◌, ◌^◌, ◌≤◌, List, [], ◌∷◌, ◌++◌, length, replicate, arith, All}
 use Rattle.std.proofs.lemmas.Bool.{cases_lt}
 use Rattle.std.proofs.lemmas.Nat.{mul-le}
 use Rattle.plane_geom.specs.declared.point.Point.{Point}
 use Rattle.plane_geom.specs.declared.point.Dir.{Dir}
 use Rattle.plane_geom.specs.Point.{PointIsOnSheet, distance, heading}
-use Rattle.walk_model.specs.declared.line.TheConstants.{MOST_POINTS}
 use Rattle.walk_model.specs.Cost.{bends, walk_cost}
 use Rattle.walk_model.specs.Line.{AreStraight, steps_through}
 use Rattle.walk_model.proofs.Bends.{bends_from, bends_from-stretch, turn_from_bound}
@@ -23,10 +23,10 @@ bends_from-line last p (q ∷ qs) =
     ]
 
 -- what the walk of a line can cost
-pub cost_small : (first : Point) (rest : List Point) (penalty : ℕ) → AreStraight first rest → PointIsOnSheet first → All PointIsOnSheet rest → length rest ≤ MOST_POINTS → penalty ≤ 10 ^ 9
+pub cost_small : (first : Point) (rest : List Point) (penalty : ℕ) → AreStraight first rest → PointIsOnSheet first → All PointIsOnSheet rest → length rest ≤ 40000000 → penalty ≤ 10 ^ 9
     → walk_cost penalty (steps_through first rest) ≤ 400000000000000000
 cost_small first rest penalty straight begin on few small =
     let (k, p, at) = at_each first rest straight begin on (length rest) (omega arith) in
     let long = at_end first rest (length rest) k p at (omega arith) in
-    let turns = mul-le penalty (bends (steps_through first rest)) (10 ^ 9) (2 * MOST_POINTS) small (omega (arith, few, bends_from-line None first rest)) in
+    let turns = mul-le penalty (bends (steps_through first rest)) (10 ^ 9) (2 * 40000000) small (omega (arith, few, bends_from-line None first rest)) in
     omega (arith, at.small)

@@ -1,3 +1,4 @@
+-- A choice fits the steps at an end of a line where its stub does.
 use Rattle.std.proofs.Common.{◌≡◌, ℕ, suc, ◌-◌, ◌<◌, ◌≤◌, min, List, [], ◌∷◌, length, get_or, unwrap_or, slice_get, refl, sym, ap, ◌∙◌, inl, inr, arith, All}
 use Rattle.std.proofs.lemmas.Bool.{cases_lt}
 use Rattle.std.proofs.lemmas.List.{take_all}

@@ -1,3 +1,4 @@
+-- The choices of the tests.
 use Rattle.std.proofs.Common.{◌≡◌, ℤ, FitsSigned, w16, arith}
 use Rattle.std.proofs.lemmas.Int.{ints}
 use Rattle.plane_geom.specs.declared.point.Point.{Point}

@@ -1,3 +1,4 @@
+-- The first hit of a line, solid by solid.
 use Rattle.std.proofs.Common.{◌≡◌, ◌↔◌, ℕ, ◌<◌, ◌≤◌, pos, Option, Some, None, MatchOption, List, [], ◌∷◌, ◌++◌, length, refl, sym, inl, inr, arith, subst, Contains}
 use Rattle.std.proofs.lemmas.List.Elements.{Contains-push_cases}
 use Rattle.std.proofs.lemmas.Option.{slice_get_within}

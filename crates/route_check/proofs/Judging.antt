@@ -1,4 +1,5 @@
-use Rattle.std.proofs.Common.{◌≡◌, ℕ, ◌+◌, ◌-◌, ◌<◌, ◌≤◌, ℤ, None, List, ◌∷◌, length, take, Result, sym, ap, subst, refl, arith}
+-- What the parts of a check find.
+use Rattle.std.proofs.Common.{◌≡◌, ℕ, ◌+◌, ◌-◌, ◌<◌, ◌≤◌, ℤ, None, List, ◌∷◌, length, take, ap, subst, refl, arith}
 use Rattle.plane_geom.specs.declared.point.Point.{Point}
 use Rattle.plane_geom.specs.declared.rect.Solid.{Solid}
 use Rattle.walk_model.specs.declared.task.Choice.{Choice}
@@ -8,11 +9,10 @@ use Rattle.walk_model.specs.Line.{AreStraight, steps_through, walk_through}
 use Rattle.walk_model.specs.Choice.{stub_length}
 use Rattle.walk_model.specs.Cost.{walk_cost}
 use Rattle.walk_model.specs.Legal.{Leaves, Arrives, Passes, IsTask}
-use Rattle.route_check.specs.declared.verdict.Breach.{Breach}
 use Rattle.route_check.specs.Choices.{IsCheapest, IsCheapestIfAny}
 use Rattle.route_check.specs.Verdict.{HitsFirst, HitsNone, IsEndOff, IsFirstHit, IsLeastCost, IsMissed, IsStartOff, Joins}
 use Rattle.route_check.proofs.Stubs.{leaves_within, one_start}
-use Rattle.route_check.proofs.Verdicts.{IsVerdict, Says, clear_legal, says}
+use Rattle.route_check.proofs.Verdicts.{clear_legal}
 
 -- ---- what the parts of the check find of the line from the point through the others
 
@@ -21,11 +21,11 @@ abbrev pub ArrivesWithin : Walk → ℕ → Choice → Type 0
 ArrivesWithin w left c = Arrives w c × (stub_length c ≤ left)
 
 module _ (solids : List Solid) (task : Task) (first : Point) (rest : List Point) (straight : AreStraight first rest) where
-  pub start_off : IsCheapestIfAny (Leaves (walk_through first rest)) task.starts.items None → IsStartOff task (first ∷ rest)
+  pub start_off : IsCheapestIfAny (Leaves (walk_through first rest)) task.starts None → IsStartOff task (first ∷ rest)
   start_off none = record { straight = straight; none = λ w d s in' l. none s in' (subst (λ (v : Walk). Leaves v s) d.1 l) }
 
-  module _ (s : Choice) (start : IsCheapest (Leaves (walk_through first rest)) task.starts.items s) where
-    pub end_off : IsCheapestIfAny (ArrivesWithin (walk_through first rest) (length (steps_through first rest) - stub_length s)) task.ends.items None → IsEndOff task (first ∷ rest)
+  module _ (s : Choice) (start : IsCheapest (Leaves (walk_through first rest)) task.starts s) where
+    pub end_off : IsCheapestIfAny (ArrivesWithin (walk_through first rest) (length (steps_through first rest) - stub_length s)) task.ends None → IsEndOff task (first ∷ rest)
     end_off none = record {
       walk = walk_through first rest;
       start = s;
@@ -35,7 +35,7 @@ module _ (solids : List Solid) (task : Task) (first : Point) (rest : List Point)
       none = λ e in' a room. none e in' (a, omega arith);
     }
 
-    module _ (e : Choice) (end : IsCheapest (ArrivesWithin (walk_through first rest) (length (steps_through first rest) - stub_length s)) task.ends.items e) where
+    module _ (e : Choice) (end : IsCheapest (ArrivesWithin (walk_through first rest) (length (steps_through first rest) - stub_length s)) task.ends e) where
       joins : Joins task (first ∷ rest) s (walk_through first rest) e
       joins = record {
         draws = (straight, refl);
@@ -50,9 +50,9 @@ module _ (solids : List Solid) (task : Task) (first : Point) (rest : List Point)
       hit_first segment node h = record { walk = walk_through first rest; start = s; end = e; joins = joins; first = h }
 
       module _ (free : HitsNone solids s (walk_through first rest) e) where
-        pub missed : (n : ℕ) → n < length task.via.items
-            → Passes (walk_through first rest) (stub_length s) (length (steps_through first rest) - stub_length e) (take n task.via.items)
-            → (Passes (walk_through first rest) (stub_length s) (length (steps_through first rest) - stub_length e) (take (n + 1) task.via.items) → ⊥)
+        pub missed : (n : ℕ) → n < length task.via
+            → Passes (walk_through first rest) (stub_length s) (length (steps_through first rest) - stub_length e) (take n task.via)
+            → (Passes (walk_through first rest) (stub_length s) (length (steps_through first rest) - stub_length e) (take (n + 1) task.via) → ⊥)
             → IsMissed solids task (first ∷ rest) (n + 1)
         missed n some passed no_more =
             let e' : n + 1 - 1 ≡ n = omega arith in
@@ -68,7 +68,7 @@ module _ (solids : List Solid) (task : Task) (first : Point) (rest : List Point)
               missed = no_more;
             }
 
-        pub least : IsTask task → Passes (walk_through first rest) (stub_length s) (length (steps_through first rest) - stub_length e) task.via.items
+        pub least : IsTask task → Passes (walk_through first rest) (stub_length s) (length (steps_through first rest) - stub_length e) task.via
             → IsLeastCost solids task (first ∷ rest) (walk_cost task.penalty (steps_through first rest) + s.cost + e.cost)
         least is passes = record {
           line = record {
@@ -85,13 +85,8 @@ module _ (solids : List Solid) (task : Task) (first : Point) (rest : List Point)
               let walk : other.walk ≡ walk_through first rest = other.draws.1 in
               let leaves = subst (λ (v : Walk). Leaves v other.start) walk other.legal.leaves in
               let arrives = subst (λ (v : Walk). Arrives v other.end) walk other.legal.arrives in
-              let same = one_start task.starts.items is.starts s other.start start.is_choice other.is_start (walk_through first rest) start.holds leaves in
+              let same = one_start task.starts is.starts s other.start start.is_choice other.is_start (walk_through first rest) start.holds leaves in
               let cheaper_start = start.least other.start other.is_start leaves in
               let cheaper_end = end.least other.end other.is_end (arrives, omega (arith, same.length, other.legal.room, ap (λ (v : Walk). length v.steps) walk)) in
               omega (arith, ap (λ (v : Walk). walk_cost task.penalty v.steps) walk);
         }
-
--- a verdict on the line from the point through the others, clause by clause
-pub judged : (solids : List Solid) (task : Task) (points : List Point) (first : Point) (rest : List Point) → IsTask task → points ≡ first ∷ rest
-    → (r : Result ℕ Breach) → IsVerdict solids task (first ∷ rest) r → Says solids task points r
-judged solids task points first rest is whole r v = says solids task points is r (subst (λ (ps : List Point). IsVerdict solids task ps r) (sym whole) v)

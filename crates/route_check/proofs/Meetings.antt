@@ -1,3 +1,4 @@
+-- The first step of a line that meets a rectangle, segment by segment.
 use Rattle.std.proofs.Common.{◌↔◌, ℕ, ◌+◌, ◌-◌, ◌<◌, ◌≤◌, List, length, sym, inl, inr, arith, subst, All, add-one}
 use Rattle.std.proofs.lemmas.Bool.{cases_lt}
 use Rattle.plane_geom.specs.declared.point.Point.{Point}

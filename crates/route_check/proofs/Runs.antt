@@ -1,3 +1,4 @@
+-- The equal steps at the ends of a line, segment by segment.
 use Rattle.std.proofs.Common.{◌≡◌, ℕ, ◌+◌, ◌-◌, ◌<◌, ◌≤◌, ◌⊎◌, List, length, sym, ◌∙◌, inl, inr, arith, All, subst}
 use Rattle.std.proofs.lemmas.Bool.{cases_lt}
 use Rattle.plane_geom.specs.declared.point.Point.{Point}

@@ -1,3 +1,4 @@
+-- The first slanted segment, segment by segment.
 use Rattle.std.proofs.Common.{ℕ, zero, suc, ◌+◌, ◌<◌, ◌≤◌, List, length, drop, sym, arith, subst, zero-add}
 use Rattle.std.proofs.lemmas.List.{drop_all, drop_more}
 use Rattle.plane_geom.specs.declared.point.Point.{Point}

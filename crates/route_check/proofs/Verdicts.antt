@@ -1,4 +1,5 @@
-use Rattle.std.proofs.Common.{◌≡◌, ℕ, zero, suc, ◌+◌, ◌-◌, ◌<◌, ◌≤◌, ℤ, List, [], ◌∷◌, length, take, Result, Ok, Err, Some, None, refl, sym, ap, ◌∙◌, subst, zero-add, suc-add, inl, inr, arith, Contains, slice_get, get_or, IsOk, IfOk, ◌↔◌}
+-- A line has one verdict at most.
+use Rattle.std.proofs.Common.{◌≡◌, ℕ, zero, suc, ◌+◌, ◌-◌, ◌<◌, ◌≤◌, ℤ, List, [], ◌∷◌, length, take, Ok, Err, Some, None, refl, sym, ap, ◌∙◌, subst, zero-add, suc-add, inl, inr, arith, Contains, slice_get, get_or}
 use Rattle.std.proofs.lemmas.Bool.{cases_order, cases_lt}
 use Rattle.std.proofs.lemmas.List.{length-append, take-take}
 use Rattle.std.proofs.lemmas.Option.{same_Some}
@@ -13,7 +14,7 @@ use Rattle.walk_model.specs.Choice.{stub_length}
 use Rattle.walk_model.specs.Legal.{Leaves, Arrives, Passes, IsLegal, IsTask}
 use Rattle.route_check.specs.declared.verdict.Breach.{Breach}
 use Rattle.route_check.specs.declared.verdict.Breach.TheVariants.{Slanted, StartOff, EndOff, Hits as HitsAt, MissesVia}
-use Rattle.route_check.specs.Verdict.{FirstSlanted, Hits, HitsNone, IsEndOff, IsFirstHit, IsFirstSlanted, IsLeastCost, IsLegalLine, IsMissed, IsOnSegment, IsStartOff, Joins, MayMeet, at_start, at_end}
+use Rattle.route_check.specs.Verdict.{FirstSlanted, Hits, HitsNone, IsEndOff, HasOneVerdict, IsBreach, IsFirstHit, IsFirstSlanted, IsLegalLine, IsMissed, IsOnSegment, Joins, MayMeet, at_start, at_end}
 use Rattle.route_check.proofs.Places.{contains_at}
 use Rattle.route_check.proofs.Stubs.{SameStub, one_start, one_end}
 
@@ -127,12 +128,12 @@ legal_clear solids task points l = record {
   start = l.start;
   end = l.end;
   joins = legal_joins solids task points l;
-  free = legal_free solids task.via.items l.start l.walk l.end l.legal;
+  free = legal_free solids task.via l.start l.walk l.end l.legal;
 }
 
 -- a line without a breach is legal
 module _ (solids : List Solid) (task : Task) (points : List Point) (c : IsClear solids task points) where
-  pub clear_legal : Passes c.walk (stub_length c.start) (length c.walk.steps - stub_length c.end) task.via.items → IsLegal solids task.via.items c.start c.walk c.end
+  pub clear_legal : Passes c.walk (stub_length c.start) (length c.walk.steps - stub_length c.end) task.via → IsLegal solids task.via c.start c.walk c.end
   clear_legal passes =
       let j = c.joins in
       record {
@@ -159,8 +160,8 @@ module _ (solids : List Solid) (task : Task) (is : IsTask task) (points : List P
   one_walk s t w v e f j i =
       let walk : w ≡ v = draws_same points w v j.draws i.draws in (
         walk,
-        one_start task.starts.items is.starts s t j.is_start i.is_start v (subst (λ (u : Walk). Leaves u s) walk j.leaves) i.leaves,
-        one_end task.ends.items is.ends e f j.is_end i.is_end v (subst (λ (u : Walk). Arrives u e) walk j.arrives) i.arrives,
+        one_start task.starts is.starts s t j.is_start i.is_start v (subst (λ (u : Walk). Leaves u s) walk j.leaves) i.leaves,
+        one_end task.ends is.ends e f j.is_end i.is_end v (subst (λ (u : Walk). Arrives u e) walk j.arrives) i.arrives,
       )
 
   hits_same : (s t : Choice) (w v : Walk) (e f : Choice) → Joins task points s w e → Joins task points t v f → (k : ℕ) (o : Solid) → Hits s w e k o → Hits t v f k o
@@ -172,7 +173,7 @@ module _ (solids : List Solid) (task : Task) (is : IsTask task) (points : List P
   not_off : IsEndOff task points → (s : Choice) (w : Walk) (e : Choice) → Joins task points s w e → ⊥
   not_off o s w e j =
       let walk : w ≡ o.walk = draws_same points w o.walk j.draws o.draws in
-      let start = one_start task.starts.items is.starts s o.start j.is_start o.is_start o.walk (subst (λ (u : Walk). Leaves u s) walk j.leaves) o.leaves in
+      let start = one_start task.starts is.starts s o.start j.is_start o.is_start o.walk (subst (λ (u : Walk). Leaves u s) walk j.leaves) o.leaves in
       o.none e j.is_end (subst (λ (u : Walk). Arrives u e) walk j.arrives) (omega (arith, ap (λ (u : Walk). length u.steps) walk, start.length, j.room))
 
   -- the walk of a line that goes from stub to stub has the same steps in each account of it
@@ -222,7 +223,7 @@ module _ (solids : List Solid) (task : Task) (is : IsTask task) (points : List P
   module _ (k l : ℕ) (a : IsMissed solids task points k) (b : IsMissed solids task points l) where
     not_earlier_place : k < l → ⊥
     not_earlier_place h =
-        let via = task.via.items in
+        let via = task.via in
         let fewer : take k (take (l - 1) via) ≡ take k via = take-take k (l - 1) via (omega arith) in
         a.missed (passes_same b.start a.start b.walk a.walk b.end a.end b.joins a.joins (take k via)
         (rw fewer at (Passes-take _ _ _ (take (l - 1) via) k b.passed)))
@@ -232,21 +233,8 @@ module _ (solids : List Solid) (task : Task) (is : IsTask task) (points : List P
 
   not_missed : (k : ℕ) → IsMissed solids task points k → IsLegalLine solids task points → ⊥
   not_missed k m l =
-      m.missed (Passes-take _ _ _ task.via.items k
-      (passes_same l.start m.start l.walk m.walk l.end m.end (legal_joins solids task points l) m.joins task.via.items l.legal.checkpoints))
-
--- the line has this breach
-abbrev pub IsBreach : List Solid → Task → List Point → Breach → Type 0
-IsBreach solids task points (Slanted segment) = IsFirstSlanted points segment
-IsBreach solids task points StartOff = IsStartOff task points
-IsBreach solids task points EndOff = IsEndOff task points
-IsBreach solids task points (HitsAt segment node) = IsFirstHit solids task points segment node
-IsBreach solids task points (MissesVia place) = IsMissed solids task points place
-
--- the line has this verdict
-abbrev pub IsVerdict : List Solid → Task → List Point → Result ℕ Breach → Type 0
-IsVerdict solids task points (Ok cost) = IsLeastCost solids task points cost
-IsVerdict solids task points (Err breach) = IsBreach solids task points breach
+      m.missed (Passes-take _ _ _ task.via k
+      (passes_same l.start m.start l.walk m.walk l.end m.end (legal_joins solids task points l) m.joins task.via l.legal.checkpoints))
 
 -- the rules in the order in which they are tried, and the one that a breach breaks
 abbrev rule : Breach → ℕ
@@ -268,7 +256,7 @@ record Begins (task : Task) (points : List Point) : Type 0 where
   walk : Walk
   start : Choice
   draws : Draws points walk
-  is_start : Contains task.starts.items start
+  is_start : Contains task.starts start
   leaves : Leaves walk start
 
 -- what a line does that keeps the first rules
@@ -333,36 +321,9 @@ module _ (solids : List Solid) (task : Task) (points : List Point) where
   pub legal_without : IsTask task → IsLegalLine solids task points → (b : Breach) → IsBreach solids task points b → ⊥
   legal_without is l b f = keeps_no_more is b 5 (few_rules b) f l
 
--- the same, clause by clause
-pub record Says (solids : List Solid) (task : Task) (points : List Point) (r : Result ℕ Breach) : Type 0 where
-  pub legal : IsOk r ↔ IsLegalLine solids task points
-  pub cost : IfOk r (IsLeastCost solids task points)
-  pub slanted : (segment : ℕ) → (r ≡ Err (Slanted segment)) ↔ IsFirstSlanted points segment
-  pub start_off : (r ≡ Err StartOff) ↔ IsStartOff task points
-  pub end_off : (r ≡ Err EndOff) ↔ IsEndOff task points
-  pub hits : (segment : ℕ) (node : ℤ) → (r ≡ Err (HitsAt segment node)) ↔ IsFirstHit solids task points segment node
-  pub misses : (place : ℕ) → (r ≡ Err (MissesVia place)) ↔ IsMissed solids task points place
-
-module _ (solids : List Solid) (task : Task) (points : List Point) (is : IsTask task) where
-  says_breach : (r : Result ℕ Breach) (b : Breach) → IsVerdict solids task points r → (r ≡ Err b) ↔ IsBreach solids task points b
-  says_breach (Ok cost) b v = (λ e. cc, λ f. absurd (legal_without solids task points is v.line b f))
-  says_breach (Err a) b v = (λ e. let same : a ≡ b = cc in subst (IsBreach solids task points) same v, λ f. ap Err (one_breach solids task points is a b v f))
-
-  says_legal : (r : Result ℕ Breach) → IsVerdict solids task points r → IsOk r ↔ IsLegalLine solids task points
-  says_legal (Ok cost) v = (λ _. v.line, λ _. refl)
-  says_legal (Err b) v = (λ e. cc, λ l. absurd (legal_without solids task points is l b v))
-
-  says_cost : (r : Result ℕ Breach) → IsVerdict solids task points r → IfOk r (IsLeastCost solids task points)
-  says_cost (Ok cost) v = v
-  says_cost (Err b) v = tt
-
-  pub says : (r : Result ℕ Breach) → IsVerdict solids task points r → Says solids task points r
-  says r v = record {
-    legal = says_legal r v;
-    cost = says_cost r v;
-    slanted = λ segment. says_breach r (Slanted segment) v;
-    start_off = says_breach r StartOff v;
-    end_off = says_breach r EndOff v;
-    hits = λ segment node. says_breach r (HitsAt segment node) v;
-    misses = λ place. says_breach r (MissesVia place) v;
-  }
+-- a line has one verdict at most
+pub one_verdict : (solids : List Solid) (task : Task) (points : List Point) → IsTask task → HasOneVerdict solids task points
+one_verdict solids task points is (Ok m) (Ok n) v u = ap Ok (same_number m n (λ h. omega (arith, u.least v.line, v.reached)) (λ h. omega (arith, v.least u.line, u.reached)))
+one_verdict solids task points is (Ok m) (Err b) v u = absurd (u.0 v.line)
+one_verdict solids task points is (Err a) (Ok n) v u = absurd (v.0 u.line)
+one_verdict solids task points is (Err a) (Err b) v u = ap Err (one_breach solids task points is a b v.1 u.1)

@@ -1,3 +1,4 @@
+-- Where the steps of a line meet a rectangle. No public clause cites this module.
 use Rattle.std.specs.Prelude.{ℕ, ◌<◌, List, ◌∷◌, length}
 use Rattle.plane_geom.specs.declared.point.Point.{Point}
 use Rattle.plane_geom.specs.declared.rect.Rect.{Rect}

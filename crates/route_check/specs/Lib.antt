@@ -1,3 +1,4 @@
+pub mod Line
 pub mod Steps
 pub mod Run
 pub mod Choices

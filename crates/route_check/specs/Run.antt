@@ -1,3 +1,4 @@
+-- The equal steps at the ends of a walk. No public clause cites this module.
 use Rattle.std.specs.Prelude.{ℕ, ◌≡◌, ◌-◌, ◌<◌, ◌≤◌, length}
 use Rattle.walk_model.specs.Walk.{Walk, step_at}
 use Rattle.route_check.specs.declared.run.Run.{Run}

@@ -1,3 +1,4 @@
+-- Ranges of steps. No public clause cites this module.
 use Rattle.std.specs.Prelude.{ℕ, ◌<◌, ◌≤◌}
 use Rattle.route_check.specs.declared.steps.Steps.{Steps}
 

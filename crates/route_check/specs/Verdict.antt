@@ -1,4 +1,5 @@
-use Rattle.std.specs.Prelude.{ℕ, zero, suc, ◌≡◌, ◌+◌, ◌-◌, ◌<◌, ◌≤◌, ℤ, Some, List, [], ◌∷◌, take, length, slice_get, Contains}
+-- The verdict on a line: what it costs, or the first rule that it breaks.
+use Rattle.std.specs.Prelude.{ℕ, zero, suc, ◌≡◌, ◌+◌, ◌-◌, ◌<◌, ◌≤◌, ℤ, Some, List, [], ◌∷◌, take, length, slice_get, Contains, Result, Ok, Err}
 use Rattle.plane_geom.specs.declared.point.Point.{Point}
 use Rattle.plane_geom.specs.declared.rect.Solid.{Solid}
 use Rattle.plane_geom.specs.Point.{IsStraight}
@@ -8,6 +9,8 @@ use Rattle.walk_model.specs.Walk.{Walk, MeetsAt}
 use Rattle.walk_model.specs.Line.{Draws, IsStraightLine, steps_of}
 use Rattle.walk_model.specs.Choice.{stub_length}
 use Rattle.walk_model.specs.Legal.{Leaves, Arrives, Passes, IsLegal, cost_with}
+use Rattle.route_check.specs.declared.verdict.Breach.{Breach}
+use Rattle.route_check.specs.declared.verdict.Breach.TheVariants.{Slanted, StartOff, EndOff, Hits as HitsAt, MissesVia}
 
 -- the line draws a walk that is legal with a start choice and an end choice of the task
 pub record IsLegalLine (solids : List Solid) (task : Task) (points : List Point) : Type 0 where
@@ -15,9 +18,9 @@ pub record IsLegalLine (solids : List Solid) (task : Task) (points : List Point)
   pub start : Choice
   pub end : Choice
   pub draws : Draws points walk
-  pub is_start : Contains task.starts.items start
-  pub is_end : Contains task.ends.items end
-  pub legal : IsLegal solids task.via.items start walk end
+  pub is_start : Contains task.starts start
+  pub is_end : Contains task.ends end
+  pub legal : IsLegal solids task.via start walk end
 
 -- some choices with which the line is legal cost this, and none cost less
 pub record IsLeastCost (solids : List Solid) (task : Task) (points : List Point) (cost : ℕ) : Type 0 where
@@ -40,23 +43,23 @@ IsFirstSlanted (p ∷ ps) k = FirstSlanted p ps k
 -- all segments are straight, and the line begins with the stub of no start choice
 pub record IsStartOff (task : Task) (points : List Point) : Type 0 where
   pub straight : IsStraightLine points
-  pub none : (w : Walk) → Draws points w → (s : Choice) → Contains task.starts.items s → Leaves w s → ⊥
+  pub none : (w : Walk) → Draws points w → (s : Choice) → Contains task.starts s → Leaves w s → ⊥
 
 -- the line begins with the stub of a start choice, and its other steps end with the reversed stub of no end choice
 pub record IsEndOff (task : Task) (points : List Point) : Type 0 where
   pub walk : Walk
   pub start : Choice
   pub draws : Draws points walk
-  pub is_start : Contains task.starts.items start
+  pub is_start : Contains task.starts start
   pub leaves : Leaves walk start
-  pub none : (e : Choice) → Contains task.ends.items e → Arrives walk e →
+  pub none : (e : Choice) → Contains task.ends e → Arrives walk e →
       stub_length start + stub_length e ≤ length walk.steps → ⊥
 
 -- the line leads from the stub of the start choice to the reversed stub of the end choice
 pub record Joins (task : Task) (points : List Point) (s : Choice) (w : Walk) (e : Choice) : Type 0 where
   pub draws : Draws points w
-  pub is_start : Contains task.starts.items s
-  pub is_end : Contains task.ends.items e
+  pub is_start : Contains task.starts s
+  pub is_end : Contains task.ends e
   pub leaves : Leaves w s
   pub arrives : Arrives w e
   pub room : stub_length s + stub_length e ≤ length w.steps
@@ -108,6 +111,23 @@ pub record IsMissed (solids : List Solid) (task : Task) (points : List Point) (p
   pub joins : Joins task points start walk end
   pub free : HitsNone solids start walk end
   pub counted : 0 < place
-  pub within : place ≤ length task.via.items
-  pub passed : Passes walk (stub_length start) (length walk.steps - stub_length end) (take (place - 1) task.via.items)
-  pub missed : Passes walk (stub_length start) (length walk.steps - stub_length end) (take place task.via.items) → ⊥
+  pub within : place ≤ length task.via
+  pub passed : Passes walk (stub_length start) (length walk.steps - stub_length end) (take (place - 1) task.via)
+  pub missed : Passes walk (stub_length start) (length walk.steps - stub_length end) (take place task.via) → ⊥
+
+-- the breach is the first rule that the line breaks
+abbrev pub IsBreach : List Solid → Task → List Point → Breach → Type 0
+IsBreach solids task points (Slanted segment) = IsFirstSlanted points segment
+IsBreach solids task points StartOff = IsStartOff task points
+IsBreach solids task points EndOff = IsEndOff task points
+IsBreach solids task points (HitsAt segment node) = IsFirstHit solids task points segment node
+IsBreach solids task points (MissesVia place) = IsMissed solids task points place
+
+-- what a legal line costs at least, or the first rule that a line breaks which is not legal
+abbrev pub IsVerdict : List Solid → Task → List Point → Result ℕ Breach → Type 0
+IsVerdict solids task points (Ok cost) = IsLeastCost solids task points cost
+IsVerdict solids task points (Err breach) = (IsLegalLine solids task points → ⊥) × IsBreach solids task points breach
+
+-- a line has one verdict at most
+abbrev pub HasOneVerdict : List Solid → Task → List Point → Type 0
+HasOneVerdict solids task points = (a b : Result ℕ Breach) → IsVerdict solids task points a → IsVerdict solids task points b → a ≡ b

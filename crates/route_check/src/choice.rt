@@ -1,9 +1,10 @@
+//! The choices with whose stubs a line begins and ends.
 ghost use Rattle.std.specs.Prelude.{◌≡◌, ◌↔◌, ◌≤◌, length, nat_le, All, IsTrue, MatchOption, if◌then◌else◌};
 ghost use Rattle.plane_geom.specs.Point.{PointIsOnSheet};
 ghost use Rattle.walk_model.specs.Choice.{AreChoices, IsChoice, stub_length};
 ghost use Rattle.walk_model.specs.Legal.{Arrives, Leaves};
 ghost use Rattle.walk_model.specs.Line.{AreStraight, walk_through};
-ghost use Rattle.walk_model.specs.declared.line.TheConstants.{MOST_POINTS};
+ghost use Rattle.route_check.specs.Line.{IsLineFrom};
 ghost use Rattle.route_check.specs.Choices.{FitsRun, IsCheapestIfAny};
 
 use crate::run::{first_run, last_run};
@@ -13,10 +14,7 @@ use walk_model::Choice;
 /// A cheapest of the choices with whose stub the line begins.
 pub fn start_choice(choices: &[Choice], first: Point, rest: &[Point]) -> Option<Choice>
     requires choices { AreChoices choices.now }
-    requires straight { AreStraight first rest.now }
-    requires begin_within { PointIsOnSheet first }
-    requires within { All PointIsOnSheet rest.now }
-    requires few { length rest.now ≤ MOST_POINTS }
+    requires line { IsLineFrom first rest.now }
     ensures { IsCheapestIfAny (Leaves (walk_through first rest.now)) choices.now result }
 {
     let run = first_run(first, rest);
@@ -26,10 +24,7 @@ pub fn start_choice(choices: &[Choice], first: Point, rest: &[Point]) -> Option<
 /// A cheapest of the choices with whose reversed stub the line ends, within its last `left` steps.
 pub fn end_choice(choices: &[Choice], first: Point, rest: &[Point], left: u64) -> Option<Choice>
     requires choices { AreChoices choices.now }
-    requires straight { AreStraight first rest.now }
-    requires begin_within { PointIsOnSheet first }
-    requires within { All PointIsOnSheet rest.now }
-    requires few { length rest.now ≤ MOST_POINTS }
+    requires line { IsLineFrom first rest.now }
     ensures { IsCheapestIfAny (λ c. Arrives (walk_through first rest.now) c × (stub_length c ≤ left))
         choices.now result }
 {

@@ -1,10 +1,11 @@
+//! The first step of a line that meets a solid which it may not meet.
 ghost use Rattle.std.specs.Prelude.{◌≡◌, ◌↔◌, ℕ, pos, ◌<◌, ◌≤◌, ◌∷◌, ◌+ℤ◌, ◌≤ℤ◌, ◌<ℤ◌, length, All, MatchOption};
 ghost use Rattle.plane_geom.specs.Point.{PointIsOnSheet, forward};
-ghost use Rattle.plane_geom.specs.Rect.{IsOnSheet, StepMeets};
+ghost use Rattle.plane_geom.specs.Rect.{RectIsOnSheet, StepMeets};
 ghost use Rattle.walk_model.specs.Choice.{IsChoice, stub_length};
 ghost use Rattle.walk_model.specs.Line.{AreStraight, steps_through, walk_through};
 ghost use Rattle.walk_model.specs.Walk.{Walk};
-ghost use Rattle.walk_model.specs.declared.line.TheConstants.{MOST_POINTS};
+ghost use Rattle.route_check.specs.Line.{IsLineFrom};
 ghost use Rattle.route_check.specs.Hit.{IsFirstMeeting, MeetsNone};
 ghost use Rattle.route_check.specs.Steps.{IsAmong};
 ghost use Rattle.route_check.specs.Verdict.{HitsFirst, HitsNone, MayMeet};
@@ -39,13 +40,10 @@ pub fn first_hit(
     first: Point,
     rest: &[Point],
 ) -> Option<Hit>
-    requires solids_within { All (λ s. IsOnSheet s.rect) solids.now }
+    requires solids_within { All (λ s. RectIsOnSheet s.rect) solids.now }
     requires start { IsChoice start.now }
     requires end { IsChoice end.now }
-    requires straight { AreStraight first rest.now }
-    requires begin_within { PointIsOnSheet first }
-    requires within { All PointIsOnSheet rest.now }
-    requires few { length rest.now ≤ MOST_POINTS }
+    requires line { IsLineFrom first rest.now }
     requires counted { steps ≡ length (steps_through first rest.now) }
     requires room { stub_length end.now ≤ steps }
     ensures { let w = walk_through first rest.now in
@@ -94,11 +92,8 @@ fn closed_steps(start: &Choice, end: &Choice, steps: u64, node: i64) -> Steps
 
 /// The first of these steps of the line that meets the rectangle.
 fn first_meeting(rect: &Rect, among: Steps, first: Point, rest: &[Point]) -> Option<Meeting>
-    requires rect_within { IsOnSheet rect.now }
-    requires straight { AreStraight first rest.now }
-    requires begin_within { PointIsOnSheet first }
-    requires within { All PointIsOnSheet rest.now }
-    requires few { length rest.now ≤ MOST_POINTS }
+    requires rect_within { RectIsOnSheet rect.now }
+    requires line { IsLineFrom first rest.now }
     ensures { MatchOption result
         (MeetsNone rect.now among first rest.now)
         (IsFirstMeeting rect.now among first rest.now) }
@@ -125,7 +120,7 @@ fn first_meeting(rect: &Rect, among: Steps, first: Point, rest: &[Point]) -> Opt
 
 /// The steps from the point in the direction that meet the rectangle, however far they lead.
 fn steps_inside(rect: &Rect, from: Point, heading: Dir) -> Steps
-    requires rect_within { IsOnSheet rect.now }
+    requires rect_within { RectIsOnSheet rect.now }
     requires from_within { PointIsOnSheet from }
     ensures { (k : ℕ) → IsAmong result k ↔ StepMeets rect.now (forward heading k from) heading }
 {

@@ -8,4 +8,4 @@ mod steps;
 mod straight;
 mod verdict;
 
-pub use verdict::{Breach, check};
+pub use verdict::{Breach, check, one_verdict};

@@ -1,7 +1,8 @@
+//! The equal steps with which a line begins and ends.
 ghost use Rattle.std.specs.Prelude.{◌≤◌, length, All};
 ghost use Rattle.plane_geom.specs.Point.{PointIsOnSheet};
 ghost use Rattle.walk_model.specs.Line.{AreStraight, walk_through};
-ghost use Rattle.walk_model.specs.declared.line.TheConstants.{MOST_POINTS};
+ghost use Rattle.route_check.specs.Line.{IsLineFrom};
 ghost use Rattle.route_check.specs.Run.{IsFirstRun, IsLastRun};
 
 use plane_geom::{Dir, Point};
@@ -20,10 +21,7 @@ const NO_STEPS: Run = Run {
 
 /// The steps with which the line begins, as far as they go in one direction.
 pub fn first_run(first: Point, rest: &[Point]) -> Run
-    requires straight { AreStraight first rest.now }
-    requires begin_within { PointIsOnSheet first }
-    requires within { All PointIsOnSheet rest.now }
-    requires few { length rest.now ≤ MOST_POINTS }
+    requires line { IsLineFrom first rest.now }
     ensures { IsFirstRun (walk_through first rest.now) result }
 {
     let mut run = NO_STEPS;
@@ -47,10 +45,7 @@ pub fn first_run(first: Point, rest: &[Point]) -> Run
 
 /// The steps with which the line ends, as far as they go in one direction.
 pub fn last_run(first: Point, rest: &[Point]) -> Run
-    requires straight { AreStraight first rest.now }
-    requires begin_within { PointIsOnSheet first }
-    requires within { All PointIsOnSheet rest.now }
-    requires few { length rest.now ≤ MOST_POINTS }
+    requires line { IsLineFrom first rest.now }
     ensures { let w = walk_through first rest.now in IsLastRun w (length w.steps) result }
 {
     let mut run = NO_STEPS;

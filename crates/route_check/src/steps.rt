@@ -1,3 +1,4 @@
+//! Ranges of steps.
 ghost use Rattle.std.specs.Prelude.{ℕ, ◌+◌, ◌<◌, ◌↔◌};
 
 /// Unit steps of a line by their numbers, counted from 0: those from `begin` on and before `end`.

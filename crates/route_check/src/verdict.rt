@@ -1,9 +1,12 @@
-ghost use Rattle.std.specs.Prelude.{◌≡◌, ℕ, ℤ, ◌≤◌, ◌↔◌, length, All, IsOk, IfOk};
-ghost use Rattle.plane_geom.specs.Point.{PointIsOnSheet};
-ghost use Rattle.plane_geom.specs.Rect.{IsOnSheet};
+//! The verdict on a drawn line.
+ghost use Rattle.std.specs.Prelude.{List, All};
+ghost use Rattle.plane_geom.specs.Rect.{RectIsOnSheet};
+ghost use Rattle.plane_geom.specs.declared.point.Point.{Point};
+ghost use Rattle.plane_geom.specs.declared.rect.Solid.{Solid};
 ghost use Rattle.walk_model.specs.Legal.{IsTask};
-ghost use Rattle.walk_model.specs.declared.line.TheConstants.{MOST_POINTS};
-ghost use Rattle.route_check.specs.Verdict.{IsEndOff, IsFirstHit, IsFirstSlanted, IsLeastCost, IsLegalLine, IsMissed, IsStartOff};
+ghost use Rattle.walk_model.specs.Line.{IsPolyline};
+ghost use Rattle.walk_model.specs.declared.task.Task.{Task};
+ghost use Rattle.route_check.specs.Verdict.{HasOneVerdict, IsVerdict};
 
 use crate::choice::{end_choice, start_choice};
 use crate::hit::first_hit;
@@ -30,26 +33,13 @@ pub enum Breach {
 ///
 /// Costs and coordinates are in thousandths of a GML unit. The line goes straight from corner point to corner
 /// point; it may have equal neighbours, and corners at which it goes straight on. Where it is legal with several
-/// choices of pins and directions, it costs what it costs with the cheapest. The call takes no memory.
+/// choices of pins and directions, it costs what it costs with the cheapest. The call takes no memory. Solids and
+/// points lie on the sheet, and there are at most 40,000,000 points; a line without points is `StartOff`.
 pub fn check(solids: &[Solid], task: &Task, points: &[Point]) -> Result<u64, Breach>
-    requires solids_within { All (λ s. IsOnSheet s.rect) solids.now }
+    requires solids_within { All (λ s. RectIsOnSheet s.rect) solids.now }
     requires task { IsTask task.now }
-    requires within { All PointIsOnSheet points.now }
-    requires few { length points.now ≤ MOST_POINTS }
-
-    // A line is accepted exactly where it draws the walk of a legal triple, with the least cost of such a triple.
-    ensures legal { IsOk result ↔ IsLegalLine solids.now task.now points.now }
-    ensures cost { IfOk result (IsLeastCost solids.now task.now points.now) }
-
-    // Each breach comes exactly where it is the first of these.
-    ensures slanted { (segment : ℕ) →
-        (result ≡ Err (Breach.Slanted segment)) ↔ IsFirstSlanted points.now segment }
-    ensures start_off { (result ≡ Err Breach.StartOff) ↔ IsStartOff task.now points.now }
-    ensures end_off { (result ≡ Err Breach.EndOff) ↔ IsEndOff task.now points.now }
-    ensures hits { (segment : ℕ) (node : ℤ) → (result ≡ Err (Breach.Hits segment node)) ↔
-        IsFirstHit solids.now task.now points.now segment node }
-    ensures misses { (place : ℕ) → (result ≡ Err (Breach.MissesVia place)) ↔
-        IsMissed solids.now task.now points.now place }
+    requires line { IsPolyline points.now }
+    ensures { IsVerdict solids.now task.now points.now result }
 {
     let Some((&first, rest)) = points.split_first() else {
         return Err(Breach::StartOff);
@@ -59,11 +49,11 @@ pub fn check(solids: &[Solid], task: &Task, points: &[Point]) -> Result<u64, Bre
     }
     // A walk whose bends cost nothing costs its steps.
     let steps = cost_of(points, 0);
-    let Some(start) = start_choice(&task.starts, first, rest) else {
+    let Some(start) = start_choice(task.starts.as_slice(), first, rest) else {
         return Err(Breach::StartOff);
     };
     let leave = start.pin.distance(start.port);
-    let Some(end) = end_choice(&task.ends, first, rest, steps - leave) else {
+    let Some(end) = end_choice(task.ends.as_slice(), first, rest, steps - leave) else {
         return Err(Breach::EndOff);
     };
     let enter = steps - end.pin.distance(end.port);
@@ -73,14 +63,21 @@ pub fn check(solids: &[Solid], task: &Task, points: &[Point]) -> Result<u64, Bre
             node: hit.node,
         });
     }
-    let passed = passed_between(points, leave, enter, &task.via);
-    if passed < task.via.len() {
+    let via = task.via.as_slice();
+    let passed = passed_between(points, leave, enter, via);
+    if passed < via.len() {
         return Err(Breach::MissesVia {
             place: passed as u32 + 1,
         });
     }
     Ok(cost_of(points, task.penalty) + start.cost + end.cost)
 }
+
+/// A line has one verdict at most.
+pub fn one_verdict()
+    ensures { (solids : List Solid) (task : Task) (points : List Point) → IsTask task →
+        HasOneVerdict solids task points }
+{}
 
 #[cfg(test)]
 mod tests;

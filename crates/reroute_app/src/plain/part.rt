@@ -5,8 +5,8 @@ ghost use Rattle.reroute_app.specs.Reading.{Gives, place_after, point_at, node_a
 
 use super::lexeme::{coordinate_after, integer_after, size_after, skip};
 use super::unread::Unread;
-use crate::diagram::{DrawnLine, Edge, Node};
-use plane_geom::Point;
+use crate::diagram::{Edge, Node};
+use plane_geom::{Point, Points};
 use std::alloc::{AllocError, Global};
 
 /// What stands in a list of a plain text.
@@ -91,7 +91,7 @@ impl Part for Edge {
         let edge = Edge {
             source,
             target,
-            line: DrawnLine(points),
+            line: Points(points),
         };
         Ok((edge, rest))
     }

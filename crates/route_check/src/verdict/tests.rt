@@ -1,6 +1,7 @@
+//! Each verdict once.
 ghost use Rattle.std.specs.Prelude.{IfOk, vec_len, All, length, ◌≡◌, ◌≤◌};
 ghost use Rattle.plane_geom.specs.Point.{PointIsOnSheet, forward};
-ghost use Rattle.plane_geom.specs.Rect.{IsOnSheet};
+ghost use Rattle.plane_geom.specs.Rect.{RectIsOnSheet};
 ghost use Rattle.walk_model.specs.Choice.{AreChoices, IsChoice};
 ghost use Rattle.walk_model.specs.Legal.{IsTask};
 
@@ -8,7 +9,7 @@ use super::*;
 use plane_geom::{Dir, Rect};
 use std::alloc::{AllocError, Global};
 use std::test::Fail;
-use walk_model::{Choice, MOST_POINTS};
+use walk_model::{Choice, Choices, Points};
 
 /// How many steps each stub has.
 const STUB: u64 = 14;
@@ -280,7 +281,7 @@ fn points(alloc: Global, places: &[(i16, i16)]) -> Result<Vec<Point>, AllocError
 }
 
 fn solid(of: NodeBox) -> Solid
-    ensures { IsOnSheet result.rect }
+    ensures { RectIsOnSheet result.rect }
 {
     let (node, left, top, right, bottom) = of;
     Solid {
@@ -295,7 +296,7 @@ fn solid(of: NodeBox) -> Solid
 }
 
 fn solids(alloc: Global, boxes: &[NodeBox]) -> Result<Vec<Solid>, AllocError>
-    ensures { IfOk result (λ v. All (λ s. IsOnSheet s.rect) v.items) }
+    ensures { IfOk result (λ v. All (λ s. RectIsOnSheet s.rect) v.items) }
 {
     let mut all = Vec::new(alloc);
     for &of in boxes {
@@ -325,7 +326,8 @@ fn choices(
     node: i64,
     pins: &[(i16, i16, Dir, u16)],
 ) -> Result<Vec<Choice>, AllocError>
-    ensures { IfOk result (λ v. AreChoices v.items) }
+    ensures choices { IfOk result (λ v. AreChoices v.items) }
+    ensures len { IfOk result (λ v. vec_len v ≡ length pins.now) }
 {
     let mut all = Vec::new(alloc);
     for &(x, y, dir, cost) in pins {
@@ -354,9 +356,9 @@ fn task(alloc: Global, via: &[(i16, i16)]) -> Result<Task, AllocError>
         (20, 0, Dir::West, 0),
     ];
     Ok(Task {
-        starts: choices(alloc, 1, &starts)?,
-        ends: choices(alloc, 2, &ends)?,
-        via: points(alloc, via)?,
+        starts: Choices(choices(alloc, 1, &starts)?),
+        ends: Choices(choices(alloc, 2, &ends)?),
+        via: Points(points(alloc, via)?),
         penalty: 50,
     })
 }
@@ -365,7 +367,7 @@ fn task(alloc: Global, via: &[(i16, i16)]) -> Result<Task, AllocError>
 fn gives_each_verdict(rt: HostRuntime) -> Result<(), Fail> {
     let alloc = rt.alloc();
     for case in &CASES {
-        assert!(rt; case.via.len() <= 4 && case.line.len() <= MOST_POINTS);
+        assert!(rt; case.via.len() <= 4 && case.line.len() <= 40_000_000);
         let solids = solids(alloc, case.boxes)?;
         let task = task(alloc, case.via)?;
         let line = points(alloc, case.line)?;

@@ -17,7 +17,7 @@ returns c =
     let run = c.last_run-run.result in
     let is = c.last_run-run.ensures in
     let last : end_of w ≡ c.unwrap_or-last.result =
-    end_is_last c.args.first c.args.rest.now c.requires.straight c.requires.begin_within c.requires.within
+    end_is_last c.args.first c.args.rest.now c.requires.line.straight c.requires.line.begin_within c.requires.line.within
     ∙ sym (c.unwrap_or-last.ensures ∙ ap (λ (o : Option Point). unwrap_or o c.args.first) (c.copied.ensures ∙ c.last.ensures.value)) in
     let found : IsCheapestIfAny (FitsRun (end_of w) (opposite run.heading) (min run.length c.args.left)) c.args.choices.now c.cheapest.result =
     rw (last, ← c.opposite.ensures, ← c.min.ensures) c.cheapest.ensures in

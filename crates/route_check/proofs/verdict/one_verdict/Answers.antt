@@ -1,0 +1,5 @@
+use Rattle.route_check.proofs.Verdicts.{one_verdict}
+use Rattle.route_check.proofs.verdict.one_verdict.Goals as goal
+
+pub returns : goal.returns
+returns c = one_verdict
