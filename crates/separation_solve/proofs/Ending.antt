@@ -3,27 +3,27 @@ use Rattle.std.proofs.Common.{◌≡◌, ◌≢◌, ℕ, ◌+◌, ◌^◌, ◌<�
 use Rattle.std.proofs.lemmas.Int.{ints}
 use Rattle.std.proofs.lemmas.List.{append_assoc, get_or-append_right, get_or_append_left, get_or-map, get_or-take, length-drop, length-map, length-take-le, take-append-drop}
 use Rattle.std.proofs.lemmas.List.Elements.{All-from_get_or, All-get_or, All-map, All-weaker}
-use Rattle.separation_solve.specs.declared.bundle.Item.{Item}
-use Rattle.separation_solve.specs.declared.bundle.Bundle.{Bundle}
-use Rattle.separation_solve.specs.declared.bundle.Solution.{Solution}
+use Rattle.separation_model.specs.declared.bundle.Item.{Item}
+use Rattle.separation_model.specs.declared.bundle.Bundle.{Bundle}
+use Rattle.separation_model.specs.declared.bundle.Solution.{Solution}
 use Rattle.separation_solve.specs.declared.fraction.Fraction.{Fraction}
 use Rattle.separation_solve.specs.declared.network.Link.{Link}
 use Rattle.separation_solve.specs.declared.network.Network.{Network}
-use Rattle.separation_solve.specs.Bundle.{IsBundle, asked, int_at, item_at, rule_at, no_item, no_rule}
-use Rattle.separation_solve.specs.Checked.{IsMultiplier, KeepsLimitsAt, KeepsRule, KeepsRuleAt}
-use Rattle.separation_solve.specs.Certified.{IsAccepted, IsBalanced, IsSmall, all_multipliers, from_left, from_right}
-use Rattle.separation_solve.specs.Gap.{IsGap}
-use Rattle.separation_solve.specs.Sum.{sum_at}
+use Rattle.separation_model.specs.Bundle.{IsBundle, asked, int_at, item_at, rule_at, no_item, no_rule}
+use Rattle.separation_model.specs.Checked.{IsMultiplier, KeepsLimitsAt, KeepsRule, KeepsRuleAt}
+use Rattle.separation_model.specs.Certified.{IsAccepted, IsBalanced, IsSmall, all_multipliers, from_left, from_right}
+use Rattle.separation_model.specs.Gap.{IsGap}
+use Rattle.separation_model.specs.Sum.{sum_at}
 use Rattle.separation_solve.specs.Network.{IsKept, IsLink, IsNetworkOf, IsSound, IsSpot, IsTight, force, items_of, link_at, links_of, most_force, place_at, rule_link, total_size, turned_link, no_place}
-use Rattle.separation_solve.proofs.Accepted.{accepted}
-use Rattle.separation_solve.proofs.Frames.{are_links, item_count, length-lower_end, length-rule_part, length-links_of, lower_at_link, lower_part, rule_at_link, rule_count, rule_part, upper_at_link, upper_part}
-use Rattle.separation_solve.proofs.Leads.{total_size_sign}
-use Rattle.separation_solve.proofs.LinkLists.{lower_is, lower_link, numbered, upper_is, upper_link}
-use Rattle.separation_solve.proofs.PartSums.{both_ends, sum_at-append, sum_at-map, sum_at-numbered, sum_at-numbered_none}
-use Rattle.separation_solve.proofs.Order.{mul-nonneg}
-use Rattle.separation_solve.proofs.Ring.{ring, var, num, minus, ◌⊗◌, ◌⊖◌}
-use Rattle.separation_solve.proofs.Shifted.{wall_is}
-use Rattle.separation_solve.proofs.Spots.{spot_at, spot_num}
+use Rattle.separation_model.proofs.Verifying.Accepted.{accepted}
+use Rattle.separation_solve.proofs.Networks.Frames.{are_links, item_count, length-lower_end, length-rule_part, length-links_of, lower_at_link, lower_part, rule_at_link, rule_count, rule_part, upper_at_link, upper_part}
+use Rattle.separation_solve.proofs.Searches.Leads.{total_size_sign}
+use Rattle.separation_solve.proofs.Networks.LinkLists.{lower_is, lower_link, numbered, upper_is, upper_link}
+use Rattle.separation_solve.proofs.Lists.PartSums.{both_ends, sum_at-append, sum_at-map, sum_at-numbered, sum_at-numbered_none}
+use Rattle.separation_model.proofs.Arithmetic.Order.{mul-nonneg}
+use Rattle.separation_model.proofs.Arithmetic.Ring.{ring, var, num, minus, ◌⊗◌, ◌⊖◌}
+use Rattle.separation_solve.proofs.Blocks.Shifted.{wall_is}
+use Rattle.separation_solve.proofs.LightFractions.Spots.{spot_at, spot_num}
 
 -- the solution has the places and, in three parts, the flow of a balanced network of the bundle
 pub record IsEnding (b : Bundle) (gap : ℤ) (n : Network) (s : Solution) : Type 0 where

@@ -4,9 +4,9 @@ use Rattle.separation_solve.specs.declared.fraction.Fraction.{Fraction}
 use Rattle.separation_solve.specs.declared.network.Link.{Link}
 use Rattle.separation_solve.specs.declared.network.Network.{Network}
 use Rattle.separation_solve.specs.declared.reach.Reach.{Reach}
-use Rattle.separation_solve.specs.Sum.{sum_below}
-use Rattle.separation_solve.specs.Bundle.{int_at}
-use Rattle.separation_solve.specs.Least.{square}
+use Rattle.separation_model.specs.Sum.{sum_below}
+use Rattle.separation_model.specs.Bundle.{int_at}
+use Rattle.separation_model.specs.Least.{square}
 use Rattle.separation_solve.specs.Reduced.{IsReduced, IsWithin}
 use Rattle.separation_solve.specs.Fraction.{IsNotBeyond, most_weight}
 use Rattle.separation_solve.specs.Network.{items_of, place_at}
@@ -62,8 +62,8 @@ contact_of n r link =
     record { num = to.num -ℤ ((link.gap +ℤ member_offset r link.from) *ℤ pos to.den); den = to.den }
 
 -- with the start at the place, a link that leads out is kept
-abbrev pub LeavesRoom : Network → Reach → Fraction → Link → Type 0
-LeavesRoom n r place link = LeadsOut r link → IsNotBeyond place (contact_of n r link)
+abbrev pub StaysKept : Network → Reach → Fraction → Link → Type 0
+StaysKept n r place link = LeadsOut r link → IsNotBeyond place (contact_of n r link)
 
 -- the link leads out, and the place is an aim at which it is tight
 pub record IsContact (n : Network) (start : ℕ) (r : Reach) (link : Link) (place : Fraction) : Type 0 where

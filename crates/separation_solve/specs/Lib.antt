@@ -1,13 +1,13 @@
-pub mod Sum
-pub mod Apart
-pub mod Bundle
-pub mod Gap
-pub mod Latest
-pub mod Least
-pub mod Certified
+-- What a bundle, a gap, least positions and a certificate are (from below), and the definitions of the solver's parts.
+pub use Rattle.separation_model.specs.Sum
+pub use Rattle.separation_model.specs.Apart
+pub use Rattle.separation_model.specs.Bundle
+pub use Rattle.separation_model.specs.Gap
+pub use Rattle.separation_model.specs.Least
+pub use Rattle.separation_model.specs.Certified
+pub use Rattle.separation_model.specs.Rounded
 pub mod Reduced
 pub mod Fraction
-pub mod Checked
 pub mod Network
 pub mod Block
 pub mod Reach

@@ -1,15 +1,15 @@
 -- Networks: the places of a bundle's items, with the multipliers of its rules and limits as a flow.
 use Rattle.std.specs.Prelude.{◌≡◌, ◌≢◌, ℕ, ◌+◌, ◌<◌, ◌≤◌, ℤ, pos, neg_ℤ, ◌+ℤ◌, ◌-ℤ◌, ◌*ℤ◌, ◌≤ℤ◌, unsigned_abs, List, [], ◌∷◌, ◌++◌, map, length, All, EachIndex, Contains, slice_index, slice_index_or, if◌then◌else◌, Vec}
 use Rattle.std.specs.declared.alloc.Global.{Global}
-use Rattle.separation_solve.specs.declared.bundle.Item.{Item}
-use Rattle.separation_solve.specs.declared.bundle.Rule.{Rule}
-use Rattle.separation_solve.specs.declared.bundle.Bundle.{Bundle}
-use Rattle.separation_solve.specs.declared.bundle.TheConstants.{MOST_ITEMS}
+use Rattle.separation_model.specs.declared.bundle.Item.{Item}
+use Rattle.separation_model.specs.declared.bundle.Rule.{Rule}
+use Rattle.separation_model.specs.declared.bundle.Bundle.{Bundle}
 use Rattle.separation_solve.specs.declared.fraction.Fraction.{Fraction}
 use Rattle.separation_solve.specs.declared.network.Link.{Link}
 use Rattle.separation_solve.specs.declared.network.Network.{Network}
-use Rattle.separation_solve.specs.Sum.{sum_below, sum_at}
-use Rattle.separation_solve.specs.Bundle.{IsCoordinate, asked, int_at}
+use Rattle.separation_model.specs.Sum.{sum_below, sum_at}
+use Rattle.plane_geom.specs.Point.{IsCoordinate}
+use Rattle.separation_model.specs.Bundle.{asked, int_at, most_items}
 use Rattle.separation_solve.specs.Reduced.{IsReduced, IsWithin}
 use Rattle.separation_solve.specs.Fraction.{most_weight}
 
@@ -102,7 +102,7 @@ pub record IsLimited (items : ℕ) (links : List Link) (i : ℕ) : Type 0 where
 
 -- the parts of a network fit together
 pub record IsFrame (n : Network) : Type 0 where
-  pub few : items_of n ≤ MOST_ITEMS
+  pub few : items_of n ≤ most_items
   pub weights : length n.weights.items ≡ items_of n
   pub excess : length n.excess.items ≡ items_of n
   pub places : length n.places.items ≡ items_of n + 1

@@ -2,8 +2,8 @@
 use Rattle.std.specs.Prelude.{◌≡◌, ◌≢◌, ℕ, ℤ, pos, ◌+ℤ◌, ◌*ℤ◌, ◌≤ℤ◌, List, length, EachIndex}
 use Rattle.separation_solve.specs.declared.network.Network.{Network}
 use Rattle.separation_solve.specs.declared.reach.Reach.{Reach}
-use Rattle.separation_solve.specs.Sum.{here}
-use Rattle.separation_solve.specs.Bundle.{int_at}
+use Rattle.separation_model.specs.Sum.{here}
+use Rattle.separation_model.specs.Bundle.{int_at}
 use Rattle.separation_solve.specs.Network.{IsTight, items_of, link_at, net_flow, total_flow}
 use Rattle.separation_solve.specs.Reach.{step_at}
 

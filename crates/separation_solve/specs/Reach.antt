@@ -4,12 +4,12 @@ use Rattle.separation_solve.specs.declared.fraction.Fraction.{Fraction}
 use Rattle.separation_solve.specs.declared.network.Network.{Network}
 use Rattle.separation_solve.specs.declared.reach.Step.{Step}
 use Rattle.separation_solve.specs.declared.reach.Reach.{Reach}
-use Rattle.separation_solve.specs.Bundle.{int_at}
+use Rattle.separation_model.specs.Bundle.{int_at}
 use Rattle.separation_solve.specs.Network.{IsTight, items_of, link_at, place_at}
 
 -- what is read past the last step: one at the first node
 abbrev pub no_step : Step
-no_step = record { node = 0; via = None; offset = pos 0; room = pos 0 }
+no_step = record { node = 0; via = None; offset = pos 0; capacity = pos 0 }
 
 -- the step at the index
 abbrev pub step_at : List Step → ℕ → Step
@@ -30,8 +30,8 @@ IsLead n j a b =
 pub record IsAfter (n : Network) (j : ℕ) (step next : Step) : Type 0 where
   pub link : j < length n.links.items
   pub lead : IsLead n j step.node next.node
-  pub less : next.room ≤ℤ step.room
-  pub back : (link_at n.links.items j).from ≡ next.node → next.room ≤ℤ int_at n.flow.items j
+  pub less : next.capacity ≤ℤ step.capacity
+  pub back : (link_at n.links.items j).from ≡ next.node → next.capacity ≤ℤ int_at n.flow.items j
 
 -- the second place is so far to the right of the first one, over its denominator
 pub record StandsAt (offset : ℤ) (first second : Fraction) : Type 0 where
@@ -44,8 +44,8 @@ pub record IsStep (n : Network) (start : ℕ) (step : Step) : Type 0 where
   pub stands : StandsAt step.offset (place_at n.places.items start) (place_at n.places.items step.node)
   pub low : negsuc 3999999999 ≤ℤ step.offset
   pub high : step.offset ≤ℤ pos 4000000000
-  pub some : pos 0 <ℤ step.room
-  pub most : step.room ≤ℤ neg_ℤ (int_at n.excess.items start)
+  pub some : pos 0 <ℤ step.capacity
+  pub most : step.capacity ≤ℤ neg_ℤ (int_at n.excess.items start)
 
 -- how the step at the index was come by
 abbrev pub IsComeBy : Network → List Step → ℕ → Type 0

@@ -1,5 +1,7 @@
+//! Flow is pushed until each item is balanced, or a block is found that is free to move.
+
 ghost use Rattle.std.specs.Prelude.{◌≡◌, ◌<◌, pos, ◌≤ℤ◌, ◌<ℤ◌, IfOk, All, MatchOption, length};
-ghost use Rattle.separation_solve.specs.Bundle.{int_at};
+ghost use Rattle.separation_model.specs.Bundle.{int_at};
 
 use crate::network::Network;
 use crate::reach::Reach;

@@ -1,3 +1,5 @@
+//! Fractions in lowest terms.
+
 ghost use Rattle.std.specs.Prelude.{◌≡◌, ◌↔◌, IsTrue, pos, ◌+ℤ◌, ◌*ℤ◌, ◌<ℤ◌, ◌<◌, ◌≤◌, ◌⊎◌, unsigned_abs};
 ghost use Rattle.separation_solve.specs.Reduced.{IsGreatestDivisor, IsReduced, IsWithin};
 

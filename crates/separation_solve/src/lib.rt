@@ -1,19 +1,13 @@
-//! Separation constraints on one axis: positions with least weighted squares, and multipliers that show them to be least.
+//! The least positions of a bundle of separation constraints, with multipliers that show them to be least.
 //!
-//! Positions are exact fractions of a thousandth of a GML unit.
+//! What bundles and solutions are, the widest gap, the check of a solution and the laws are those of
+//! `separation_model`, and are passed on. Positions are exact fractions of a thousandth of a GML unit.
 #![tactic(auto)]
 
 mod balance;
-mod bundle;
-mod certificate;
-mod displacement;
 mod fraction;
-mod gap;
-mod latest;
-mod laws;
 mod mirror;
 mod network;
-mod place;
 mod push;
 mod reach;
 mod release;
@@ -22,10 +16,11 @@ mod solver;
 mod start;
 mod tight;
 
-pub use bundle::{Bundle, Item, MOST_ITEMS, Rule, Solution};
-pub use certificate::verify;
-pub use gap::widest_gap;
-pub use laws::{certified_is_least, least_positions_exist, one_least, one_widest_gap};
+pub use separation_model::{
+    Bundle, Item, MOST_ITEMS, Rule, Solution, certified_is_least, least_positions_exist,
+    met_positions_are_on_sheet, most_items_is_the_bound, one_least, one_rounded, one_widest_gap,
+    rounded_down_is_below, rounded_down_meets, verify, widest_gap,
+};
 pub use solver::solve;
 
 #[cfg(test)]

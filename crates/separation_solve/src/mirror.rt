@@ -1,5 +1,7 @@
+//! The mirror image of a network, in which left and right have changed sides.
+
 ghost use Rattle.std.specs.Prelude.{◌≡◌, ◌≤◌, map, neg_ℤ, not, All, unsigned_abs};
-ghost use Rattle.separation_solve.specs.Bundle.{IsCoordinate};
+ghost use Rattle.plane_geom.specs.Point.{IsCoordinate};
 ghost use Rattle.separation_solve.specs.Network.{IsSameBundle, IsSound, IsSpot, most_force, turned_link, turned_place, upright_places};
 
 use crate::fraction::Fraction;

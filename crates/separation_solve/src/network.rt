@@ -1,11 +1,13 @@
+//! The network of a bundle: its links, where its nodes stand, and the flow along the links.
+
 ghost use Rattle.std.specs.Prelude.{◌≡◌, IfOk, length, map, All, OnOk, ◌++◌};
-ghost use Rattle.separation_solve.specs.Bundle.{IsBundle, IsItem};
-ghost use Rattle.separation_solve.specs.Gap.{IsGap};
+ghost use Rattle.separation_model.specs.Bundle.{IsBundle, IsItem};
+ghost use Rattle.separation_model.specs.Gap.{IsGap};
 ghost use Rattle.separation_solve.specs.Network.{IsNetworkOf, links_of, lower_links, upper_links, rule_link};
 
-use crate::bundle::{Bundle, Item, Rule};
 use crate::fraction::Fraction;
 use crate::start::start_places;
+use separation_model::{Bundle, Item, Rule};
 use std::alloc::{AllocError, Global};
 
 /// The node `to` stands at least the gap to the right of the node `from`.

@@ -1,3 +1,5 @@
+//! Flow that is sent along a way which a search has found.
+
 ghost use Rattle.std.specs.Prelude.{◌≡◌, ◌<◌, pos, ◌<ℤ◌, ◌≤ℤ◌, length};
 ghost use Rattle.separation_solve.specs.Reach.{IsReach, IsWay, start_of, step_at};
 
@@ -32,14 +34,14 @@ impl Network {
         requires sound { IsSound self.now }
         requires way { IsWay self.now (start_of reach.now) reach.now target }
         ensures some { pos 0 <ℤ result }
-        ensures room { result ≤ℤ (step_at reach.now.steps.items target).room }
+        ensures capacity { result ≤ℤ (step_at reach.now.steps.items target).capacity }
         ensures taken { TakesAmount self.now (step_at reach.now.steps.items target).node result }
     {
         let step = reach.steps[target];
         if step.node == self.wall() {
-            step.room
+            step.capacity
         } else {
-            step.room.min(self.excess[step.node])
+            step.capacity.min(self.excess[step.node])
         }
     }
 
@@ -49,7 +51,7 @@ impl Network {
         requires reach { IsReach self.old (start_of reach.now) reach.now }
         requires target { target < length reach.now.steps.items }
         requires some { pos 0 <ℤ amount }
-        requires room { amount ≤ℤ (step_at reach.now.steps.items target).room }
+        requires capacity { amount ≤ℤ (step_at reach.now.steps.items target).capacity }
         ensures sent { IsSent self.old reach.now target 0 amount self.new.flow.items }
         ensures rest { KeepsRest self.old self.new }
     {

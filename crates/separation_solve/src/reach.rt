@@ -1,5 +1,7 @@
+//! Searches, breadth first, for a way on which flow can go.
+
 ghost use Rattle.std.specs.Prelude.{◌≡◌, ◌↔◌, ℕ, ◌+◌, ◌<◌, ◌≤◌, pos, ◌<ℤ◌, IsTrue, IfOk, OnOk, MatchOption, IsSome, Some, None, [], replicate, length};
-ghost use Rattle.separation_solve.specs.Bundle.{int_at};
+ghost use Rattle.separation_model.specs.Bundle.{int_at};
 ghost use Rattle.separation_solve.specs.Network.{IsSound, IsTightAt, items_of};
 ghost use Rattle.separation_solve.specs.Reach.{AddsLeads, IsFollowing, IsLedTo, IsBlock, IsNoLead, IsReach, IsStep, IsTable, IsWay, KeepsSteps, TakesFlow, found_at, start_of, step_at};
 
@@ -22,7 +24,7 @@ pub struct Step {
     /// How far to the right of the start it stands.
     pub offset: i64,
     /// How much flow can go there from the start.
-    pub room: i128,
+    pub capacity: i128,
 }
 
 /// Nodes to which flow can go from the first one: forward over a tight link, or back over a link with flow.
@@ -82,7 +84,7 @@ impl Reach {
             node: start,
             via: None,
             offset: 0,
-            room: -network.excess[start],
+            capacity: -network.excess[start],
         })?;
         self.found[start] = Some(0);
         Ok(())
@@ -165,14 +167,14 @@ impl Network {
                 node: link.to,
                 via,
                 offset: step.offset + link.gap,
-                room: step.room,
+                capacity: step.capacity,
             })
         } else if link.to == step.node && self.flow[index] > 0 {
             Some(Step {
                 node: link.from,
                 via,
                 offset: step.offset - link.gap,
-                room: step.room.min(self.flow[index]),
+                capacity: step.capacity.min(self.flow[index]),
             })
         } else {
             None

@@ -1,8 +1,10 @@
+//! All flow taken away, and the excess that each item then has.
+
 ghost use Rattle.std.specs.Prelude.{◌≡◌, ◌<◌, length};
 ghost use Rattle.separation_solve.specs.Network.{AreKept, IsFrame, IsSound, KeepsBundle, ListsTight, force};
 
-use crate::displacement::weighted_displacement;
 use crate::network::Network;
+use separation_model::weighted_displacement;
 
 impl Network {
     /// Takes all flow away.

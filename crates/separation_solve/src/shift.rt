@@ -1,9 +1,11 @@
+//! A block that moves to the right: to its weighted mean, or to the first contact.
+
 ghost use Rattle.std.specs.Prelude.{◌≡◌, ◌≤◌, ◌<◌, ◌≤ℤ◌, ◌+ℤ◌, ◌-ℤ◌, ◌*ℤ◌, EachIndex, MatchOption, OnOk, pos, negsuc, length, unsigned_abs};
 ghost use Rattle.separation_solve.specs.Fraction.{IsLight, IsNotBeyond};
-ghost use Rattle.separation_solve.specs.Bundle.{IsCoordinate};
+ghost use Rattle.plane_geom.specs.Point.{IsCoordinate};
 ghost use Rattle.separation_solve.specs.Network.{IsSound, KeepsBundle, items_of, link_at};
 ghost use Rattle.separation_solve.specs.Reach.{IsBlock, IsReach, start_of};
-ghost use Rattle.separation_solve.specs.Block.{ChangesPlaces, IsAim, IsContact, IsFound, LeadsOut, LeavesRoom, PlacesBlock, block_moment, block_weight, objective, offset_of};
+ghost use Rattle.separation_solve.specs.Block.{ChangesPlaces, IsAim, IsContact, IsFound, LeadsOut, StaysKept, PlacesBlock, block_moment, block_weight, objective, offset_of};
 
 use crate::fraction::Fraction;
 use crate::network::Network;
@@ -77,8 +79,8 @@ impl Network {
         requires best { IsAim self.now (start_of block.now) best }
         ensures aim { IsAim self.now (start_of block.now) result }
         ensures not_beyond { IsNotBeyond result best }
-        ensures room { EachIndex self.now.links.items (λ j.
-            LeavesRoom self.now block.now result (link_at self.now.links.items j)) }
+        ensures stays { EachIndex self.now.links.items (λ j.
+            StaysKept self.now block.now result (link_at self.now.links.items j)) }
     {
         let mut place = best;
         for index in 0..self.links.len() {

@@ -1,12 +1,14 @@
-ghost use Rattle.std.specs.Prelude.{◌≡◌, false, pos, All, IfOk, map};
-ghost use Rattle.separation_solve.specs.Bundle.{IsBundle};
-ghost use Rattle.separation_solve.specs.Certified.{IsAccepted};
-ghost use Rattle.separation_solve.specs.Gap.{IsGap};
-ghost use Rattle.separation_solve.specs.Least.{IsLeast};
+//! The public call: balances and moves in turn, and the balanced network as a solution.
 
-use crate::bundle::{Bundle, Solution};
+ghost use Rattle.std.specs.Prelude.{◌≡◌, false, pos, All, IfOk, map};
+ghost use Rattle.separation_model.specs.Bundle.{IsBundle};
+ghost use Rattle.separation_model.specs.Certified.{IsAccepted};
+ghost use Rattle.separation_model.specs.Gap.{IsGap};
+ghost use Rattle.separation_model.specs.Least.{IsLeast};
+
 use crate::fraction::Fraction;
 use crate::network::Network;
+use separation_model::{Bundle, Solution};
 use std::alloc::{AllocError, Global};
 
 /// The least positions of the bundle for a gap in thousandths, from 0 to the widest, with multipliers that show it.

@@ -1,15 +1,18 @@
+//! The places at which the solver begins: whole ones that meet the bundle.
+
 ghost use Rattle.std.specs.Prelude.{◌≡◌, ◌≤◌, ◌≤ℤ◌, pos, All, EachIndex, IfOk, length, map, ◌++◌, ◌∷◌, []};
 ghost use Rattle.std.specs.Int.{int_min};
 ghost use Rattle.std.specs.List.Sorted.{IsNonDecreasingBy};
-ghost use Rattle.separation_solve.specs.Bundle.{IsBundle, IsCoordinate, int_at};
-ghost use Rattle.separation_solve.specs.Gap.{IsGap};
+ghost use Rattle.plane_geom.specs.Point.{IsCoordinate};
+ghost use Rattle.separation_model.specs.Bundle.{IsBundle, int_at, most_items, IsGapUpTo};
+ghost use Rattle.separation_model.specs.Gap.{IsGap};
 ghost use Rattle.separation_solve.specs.Fraction.{whole};
-ghost use Rattle.separation_solve.specs.Start.{AreAtMost, AreStartPlaces, IsForward, IsRuleKept};
+ghost use Rattle.separation_model.specs.Latest.{IsRuleKept};
+ghost use Rattle.separation_solve.specs.Start.{AreAtMost, AreStartPlaces, IsForward};
 
-use crate::bundle::{Bundle, MOST_ITEMS, Rule};
 use crate::fraction::Fraction;
-use crate::latest::{latest, rules_by_left};
 use crate::network::wants_of;
+use separation_model::{Bundle, Rule, latest_positions, rules_by_left};
 use std::alloc::{AllocError, Global};
 
 /// Whole places that meet the bundle with the gap, and last the wall's.
@@ -22,7 +25,7 @@ pub fn start_places(alloc: Global, bundle: &Bundle, gap: i64) -> Result<Vec<Frac
     ensures { IfOk result (λ places. AreStartPlaces bundle.now gap places.items) }
 {
     let by_left = rules_by_left(alloc, &bundle.rules)?;
-    let Some(latest) = latest(alloc, bundle, &by_left, gap)? else {
+    let Some(latest) = latest_positions(alloc, bundle, &by_left, gap)? else {
         unreachable!()
     };
     let mut places = wants_of(alloc, &bundle.items)?;
@@ -35,9 +38,8 @@ pub fn start_places(alloc: Global, bundle: &Bundle, gap: i64) -> Result<Vec<Frac
 fn press_on(places: &mut [i64], by_left: &[Rule], gap: i64)
     requires rules { All (IsForward (length places.old)) by_left.now }
     requires sorted { IsNonDecreasingBy (λ rule. rule.left) by_left.now }
-    requires gap_low { pos 0 ≤ℤ gap }
-    requires gap_high { gap ≤ℤ pos 1000000 }
-    requires few { length places.old ≤ MOST_ITEMS }
+    requires gap { IsGapUpTo (pos 1000000) gap }
+    requires few { length places.old ≤ most_items }
     requires on_sheet { EachIndex places.old (λ i. IsCoordinate (int_at places.old i)) }
     ensures on { AreAtMost places.new places.old }
     ensures keeps { All (IsRuleKept gap places.new) by_left.now }

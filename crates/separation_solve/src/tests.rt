@@ -1,10 +1,10 @@
-ghost use Rattle.std.specs.Prelude.{◌≡◌, pos, ◌≤ℤ◌, IfOk};
-ghost use Rattle.separation_solve.specs.Bundle.{IsBundle, IsItem};
+//! Rows that were worked by hand, with all multipliers.
 
-use crate::{
-    Bundle, Item, Rule, Solution, certified_is_least, least_positions_exist, one_least,
-    one_widest_gap, solve, verify, widest_gap,
-};
+ghost use Rattle.std.specs.Prelude.{◌≡◌, ◌≤◌, pos, ◌≤ℤ◌, IfOk, All};
+ghost use Rattle.separation_solve.specs.Start.{IsForward};
+ghost use Rattle.separation_model.specs.Bundle.{IsBundle, IsItem};
+
+use crate::{Bundle, Item, Rule, Solution, solve, verify, widest_gap};
 use std::alloc::{AllocError, Global};
 use std::test::Fail;
 
@@ -37,25 +37,31 @@ fn pair(
     })
 }
 
-/// Three items like this one, each two in turn apart.
-fn row(alloc: Global, item: Item, wanted: i64) -> Result<Bundle, AllocError>
+/// Rules from each of so many items to the next, all spaced.
+fn chain(alloc: Global, count: u32) -> Result<Vec<Rule>, AllocError>
+    ensures { IfOk result (λ rules. All (IsForward count) rules.items) }
+{
+    let mut rules = Vec::new(alloc);
+    for right in 1..count {
+        rules.push(Rule {
+            left: right - 1,
+            right,
+            spaced: true,
+        })?;
+    }
+    Ok(rules)
+}
+
+/// So many items like this one, each two in turn apart.
+fn row(alloc: Global, item: Item, count: u32, wanted: i64) -> Result<Bundle, AllocError>
     requires item { IsItem item }
+    requires count { count ≤ 1000 }
     requires wanted_low { pos 0 ≤ℤ wanted }
     requires wanted_high { wanted ≤ℤ pos 1000000 }
     ensures { IfOk result IsBundle }
 {
-    let items = vec![in alloc; item, item, item]?;
-    let first = Rule {
-        left: 0,
-        right: 1,
-        spaced: true,
-    };
-    let second = Rule {
-        left: 1,
-        right: 2,
-        spaced: true,
-    };
-    let rules = vec![in alloc; first, second]?;
+    let items = vec![in alloc; item; count as usize]?;
+    let rules = chain(alloc, count)?;
     Ok(Bundle {
         items,
         rules,
@@ -94,58 +100,6 @@ fn solution(
         low: vec![in alloc; low[0], low[1]]?,
         high: vec![in alloc; high[0], high[1]]?,
     })
-}
-
-#[test]
-fn finds_the_widest_gap(rt: HostRuntime) -> Result<(), Fail> {
-    let alloc = rt.alloc();
-    let within = item(0, 5000, 0, false);
-    assert_eq!(rt;
-        widest_gap(alloc, &pair(alloc, within, within, true, 8000)?)?,
-        5000
-    );
-    assert_eq!(rt;
-        widest_gap(alloc, &pair(alloc, within, within, false, 8000)?)?,
-        8000
-    );
-    let fixed = item(0, 0, 0, false);
-    assert_eq!(rt;
-        widest_gap(alloc, &pair(alloc, fixed, fixed, true, 8000)?)?,
-        0
-    );
-    assert_eq!(rt;
-        widest_gap(alloc, &pair(alloc, within, within, true, 4000)?)?,
-        4000
-    );
-    Ok(())
-}
-
-#[test]
-fn verifies_multipliers(rt: HostRuntime) -> Result<(), Fail> {
-    let alloc = rt.alloc();
-    let edge = item(-24000, 40000, 0, false);
-    let bundle = pair(alloc, edge, edge, true, 4000)?;
-    let none = [0, 0];
-    for (places, mult, high, want) in [
-        ([-28000, -24000], 8000, [0, 8000], true),
-        ([-24000, -24000], 0, none, false),
-        ([-32000, -24000], 0, none, false),
-        ([-28000, -24000], -8000, [0, -8000], false),
-        ([-28000, -24000], 8000, none, false),
-    ] {
-        let solution = solution(alloc, 4000, 1, places, mult, none, high)?;
-        assert_eq!(rt; verify(&bundle, &solution), want, "multiplier {mult}");
-    }
-    let far = item(0, 30000, 0, false);
-    let right = item(0, 0, 30000, false);
-    let halves = solution(alloc, 1, 2, [-1, 1], 2, none, none)?;
-    assert!(rt; verify(&pair(alloc, far, right, true, 1)?, &halves));
-    let heavy = item(0, 30000, 30000, true);
-    let light = item(0, 30000, 30000, false);
-    let weighed = solution(alloc, 4000, 1, [-1000, 3000], 6000, none, none)?;
-    assert!(rt; verify(&pair(alloc, heavy, light, true, 4000)?, &weighed));
-    assert!(rt; !verify(&pair(alloc, light, light, true, 4000)?, &weighed));
-    Ok(())
 }
 
 /// Whether the least positions for the widest gap are these, and verified.
@@ -198,7 +152,7 @@ fn solves_between_limits(rt: HostRuntime) -> Result<(), Fail> {
 #[test]
 fn solves_a_row(rt: HostRuntime) -> Result<(), Fail> {
     let alloc = rt.alloc();
-    let bundle = row(alloc, item(0, 5000, 0, false), 4000)?;
+    let bundle = row(alloc, item(0, 5000, 0, false), 3, 4000)?;
     let want = Solution {
         gap: 2500,
         den: vec![in alloc; 1, 1, 1]?,
@@ -212,9 +166,15 @@ fn solves_a_row(rt: HostRuntime) -> Result<(), Fail> {
 }
 
 #[test]
-fn laws_run() {
-    one_widest_gap();
-    certified_is_least();
-    one_least();
-    least_positions_exist();
+fn solves_a_long_row(rt: HostRuntime) -> Result<(), Fail> {
+    let alloc = rt.alloc();
+    let bundle = row(alloc, item(0, 30000, 30000, false), 1000, 4000)?;
+    let gap = widest_gap(alloc, &bundle)?;
+    assert_eq!(rt; gap, 60);
+    let solution = solve(alloc, &bundle, gap)?;
+    assert!(rt; verify(&bundle, &solution));
+    assert!(rt; solution.den.iter().all(|den| *den == 1));
+    assert_eq!(rt; solution.pos.first().copied(), Some(-29970));
+    assert_eq!(rt; solution.pos.last().copied(), Some(29970));
+    Ok(())
 }

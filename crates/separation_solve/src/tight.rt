@@ -1,3 +1,5 @@
+//! Which links are tight, listed at each node.
+
 ghost use Rattle.std.specs.Prelude.{◌≡◌, ◌↔◌, IsTrue, OnOk, [], All, length};
 ghost use Rattle.separation_solve.specs.Network.{AreKept, IsFrame, IsLink, IsSpot, IsTight, KeepsBundle, ListsTight};
 

@@ -1,4 +1,5 @@
-use Rattle.separation_solve.proofs.Fractions.{divisor_of_zero, divisor_of_rest}
+-- The goals of `greatest_common_divisor` that the check leaves.
+use Rattle.separation_solve.proofs.LightFractions.Fractions.{divisor_of_zero, divisor_of_rest}
 use Rattle.separation_solve.proofs.fraction.+greatest_common_divisor.Goals as goal
 
 pub returns-then-b-eq0 : goal.returns-then-b-eq0

@@ -1,7 +1,8 @@
+-- The goals of `turn_excess` that the check leaves.
 use Rattle.std.proofs.Common.{◌<◌, ◌≤◌, ◌^◌, pos, neg_ℤ, ◌-ℤ◌, FitsSigned, unsigned_abs, length, get_or, arith, lit<}
 use mir.Syntax.{w128}
 use Rattle.std.proofs.lemmas.Int.{ints, fits_signed_from_abs}
-use Rattle.separation_solve.proofs.Turning.{negated, turned_all, turned_more, unturned}
+use Rattle.separation_solve.proofs.Lists.Turning.{negated, turned_all, turned_more, unturned}
 use Rattle.separation_solve.proofs.mirror.turn_excess.Goals as goal
 
 pub loop-index-preserved : goal.loop-index-preserved

@@ -1,6 +1,7 @@
+-- The goals of `turn_links` that the check leaves.
 use Rattle.std.proofs.Common.{arith}
 use Rattle.separation_solve.specs.Network.{turned_link, no_link}
-use Rattle.separation_solve.proofs.Turning.{turned_all}
+use Rattle.separation_solve.proofs.Lists.Turning.{turned_all}
 use Rattle.separation_solve.proofs.mirror.turn_links.Goals as goal
 
 pub returns : goal.returns

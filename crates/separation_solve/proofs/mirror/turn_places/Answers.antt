@@ -1,10 +1,11 @@
+-- The goals of `turn_places` that the check leaves.
 use Rattle.std.proofs.Common.{◌<◌, ◌^◌, pos, ◌-ℤ◌, FitsSigned, length, get_or, arith, ap, lit<}
 use mir.Syntax.{w128}
 use Rattle.std.proofs.lemmas.Int.{ints, fits_signed_from_abs}
 use Rattle.separation_solve.specs.declared.fraction.Fraction.{Fraction}
 use Rattle.separation_solve.specs.Network.{IsSpot, turned_place, no_place}
-use Rattle.separation_solve.proofs.Spots.{num_fits, spot_num}
-use Rattle.separation_solve.proofs.Turning.{negated, turned_all, turned_more, unturned}
+use Rattle.separation_solve.proofs.LightFractions.Spots.{num_fits, spot_num}
+use Rattle.separation_solve.proofs.Lists.Turning.{negated, turned_all, turned_more, unturned}
 use Rattle.separation_solve.proofs.mirror.turn_places.Goals as goal
 
 pub loop-index-preserved : goal.loop-index-preserved

@@ -1,5 +1,6 @@
+-- What the loop of `turn_places` keeps.
 use Rattle.separation_solve.specs.Network.{turned_place}
-use Rattle.separation_solve.proofs.Turning.{IsTurned}
+use Rattle.separation_solve.proofs.Lists.Turning.{IsTurned}
 use Rattle.separation_solve.proofs.mirror.turn_places.Given as goal
 
 abbrev pub invariant-loop-index : goal.invariant-loop-index

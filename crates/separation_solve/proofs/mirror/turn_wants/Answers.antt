@@ -1,8 +1,9 @@
+-- The goals of `turn_wants` that the check leaves.
 use Rattle.std.proofs.Common.{◌<◌, ◌^◌, pos, neg_ℤ, ◌-ℤ◌, FitsSigned, length, get_or, arith, w64, lit<}
 use Rattle.std.proofs.lemmas.Int.{ints, fits_signed_from_abs}
-use Rattle.separation_solve.specs.Bundle.{IsCoordinate}
-use Rattle.separation_solve.proofs.Spots.{coordinate_size, gap_narrow}
-use Rattle.separation_solve.proofs.Turning.{negated, turned_all, turned_more, unturned}
+use Rattle.plane_geom.specs.Point.{IsCoordinate}
+use Rattle.separation_solve.proofs.LightFractions.Spots.{coordinate_size, gap_narrow}
+use Rattle.separation_solve.proofs.Lists.Turning.{negated, turned_all, turned_more, unturned}
 use Rattle.separation_solve.proofs.mirror.turn_wants.Goals as goal
 
 pub loop-index-preserved : goal.loop-index-preserved

@@ -1,5 +1,6 @@
+-- What the loop of `turn_wants` keeps.
 use Rattle.std.proofs.Common.{neg_ℤ}
-use Rattle.separation_solve.proofs.Turning.{IsTurned}
+use Rattle.separation_solve.proofs.Lists.Turning.{IsTurned}
 use Rattle.separation_solve.proofs.mirror.turn_wants.Given as goal
 
 abbrev pub invariant-loop-index : goal.invariant-loop-index

@@ -1,3 +1,4 @@
+-- What the loop of `empty_lists` keeps.
 use Rattle.std.proofs.Common.{◌≡◌, length}
 use Rattle.separation_solve.proofs.network.empty_lists.Given as goal
 

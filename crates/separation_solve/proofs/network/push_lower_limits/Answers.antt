@@ -1,9 +1,10 @@
+-- The goals of `push_lower_limits` that the check leaves.
 use Rattle.std.proofs.Common.{length, refl, get_or, take, to_z, of_z, w64}
 use Rattle.std.proofs.lemmas.Slice.{pushed}
-use Rattle.separation_solve.specs.Bundle.{no_item}
+use Rattle.separation_model.specs.Bundle.{no_item}
 use Rattle.separation_solve.specs.Network.{lower_links}
-use Rattle.separation_solve.proofs.LinkLists.{lower-more, link_more}
-use Rattle.separation_solve.proofs.Spots.{cast_is, gap_narrow}
+use Rattle.separation_solve.proofs.Networks.LinkLists.{lower-more, link_more}
+use Rattle.separation_solve.proofs.LightFractions.Spots.{cast_is, gap_narrow}
 use Rattle.separation_solve.proofs.network.push_lower_limits.Goals as goal
 
 pub loop-index-preserved : goal.loop-index-preserved

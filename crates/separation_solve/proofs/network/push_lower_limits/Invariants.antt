@@ -1,3 +1,4 @@
+-- What the loop of `push_lower_limits` keeps.
 use Rattle.std.proofs.Common.{◌≡◌, ◌++◌, take}
 use Rattle.separation_solve.specs.Network.{lower_links}
 use Rattle.separation_solve.proofs.network.push_lower_limits.Given as goal

@@ -1,3 +1,4 @@
+-- What the loop of `push_rules` keeps.
 use Rattle.std.proofs.Common.{◌≡◌, ◌++◌, map, take}
 use Rattle.separation_solve.specs.Network.{rule_link}
 use Rattle.separation_solve.proofs.network.push_rules.Given as goal

@@ -1,11 +1,12 @@
+-- The goals of `push_upper_limits` that the check leaves.
 use Rattle.std.proofs.Common.{◌≡◌, length, get_or, take, to_z, of_z, w64, pos, neg_ℤ, ◌-ℤ◌, arith, refl}
 use Rattle.std.proofs.lemmas.Int.{ints}
 use Rattle.std.proofs.lemmas.Slice.{pushed}
-use Rattle.separation_solve.specs.Bundle.{no_item}
+use Rattle.separation_model.specs.Bundle.{no_item}
 use Rattle.separation_solve.specs.Network.{upper_links}
-use Rattle.separation_solve.proofs.LinkLists.{upper-more, link_more}
-use Rattle.separation_solve.proofs.Mirrored.{coordinate_turned}
-use Rattle.separation_solve.proofs.Spots.{cast_is, gap_narrow}
+use Rattle.separation_solve.proofs.Networks.LinkLists.{upper-more, link_more}
+use Rattle.separation_solve.proofs.Networks.Mirrored.{coordinate_turned}
+use Rattle.separation_solve.proofs.LightFractions.Spots.{cast_is, gap_narrow}
 use Rattle.separation_solve.proofs.network.push_upper_limits.Goals as goal
 
 pub loop-index-preserved : goal.loop-index-preserved

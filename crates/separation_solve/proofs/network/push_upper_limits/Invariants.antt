@@ -1,3 +1,4 @@
+-- What the loop of `push_upper_limits` keeps.
 use Rattle.std.proofs.Common.{◌≡◌, ◌++◌, take}
 use Rattle.separation_solve.specs.Network.{upper_links}
 use Rattle.separation_solve.proofs.network.push_upper_limits.Given as goal

@@ -1,3 +1,4 @@
+-- The goals of `moment_of` that the check leaves.
 use Rattle.std.proofs.Common.{pos, ◌-ℤ◌, ◌*ℤ◌, FitsSigned, arith}
 use Rattle.std.proofs.lemmas.Int.{ints, to_z-of_z, fits_signed_mul}
 use mir.Syntax.{w64, w128}

@@ -1,11 +1,12 @@
+-- Each move lowers the sum of squares, and a balanced network is a solution.
 use Rattle.std.proofs.Common.{◌<◌, unsigned_abs, subst}
 use Rattle.std.proofs.lemmas.Result.{IfOk-weaker}
-use Rattle.separation_solve.specs.declared.bundle.Solution.{Solution}
+use Rattle.separation_model.specs.declared.bundle.Solution.{Solution}
 use Rattle.separation_solve.specs.Block.{objective}
-use Rattle.separation_solve.specs.Certified.{IsAccepted}
-use Rattle.separation_solve.specs.Least.{IsLeast}
-use Rattle.separation_solve.proofs.Certificates.{certified_least}
-use Rattle.separation_solve.proofs.Upright.{same_objective}
+use Rattle.separation_model.specs.Certified.{IsAccepted}
+use Rattle.separation_model.specs.Least.{IsLeast}
+use Rattle.separation_model.proofs.Optimum.Certificates.{certified_least}
+use Rattle.separation_solve.proofs.Networks.Upright.{same_objective}
 use Rattle.separation_solve.proofs.solver.solve.Goals as goal
 
 pub loop-network-smaller : goal.loop-network-smaller

@@ -1,3 +1,4 @@
+-- What the loop of `solve` keeps.
 use Rattle.std.proofs.Common.{unsigned_abs}
 use Rattle.separation_solve.specs.Block.{objective}
 use Rattle.separation_solve.specs.Network.{IsNetworkOf, IsSound}

@@ -1,4 +1,5 @@
-use Rattle.separation_solve.proofs.Pressing.{IsPressed}
+-- What the loop of `press_on` keeps.
+use Rattle.separation_solve.proofs.Starting.Pressing.{IsPressed}
 use Rattle.separation_solve.proofs.start.press_on.Given as goal
 
 abbrev pub invariant-loop-index : goal.invariant-loop-index

@@ -1,19 +1,20 @@
+-- Places that are pressed on and drawn back meet the bundle.
 use Rattle.std.proofs.Common.{◌≡◌, ℕ, ◌<◌, List, length, map, take, ◌++◌, All, MatchOption, FitsSigned, arith, sym, ap, subst, ◌∙◌}
 use Rattle.std.proofs.lemmas.Int.{to_z-of_z}
 use mir.Syntax.{w64}
 use Rattle.std.specs.Int.{int_min}
 use Rattle.std.specs.List.Sorted.{IsPermutation}
-use Rattle.separation_solve.specs.Start.{AreStartPlaces, IsForward, IsRuleKept}
+use Rattle.separation_solve.specs.Start.{AreStartPlaces, IsForward}
 use Rattle.std.proofs.lemmas.Result.{IfOk-weaker}
 use Rattle.std.proofs.lemmas.Option.{MatchOption-at_none, MatchOption-at_some}
 use Rattle.std.proofs.lemmas.List.{length-map}
 use Rattle.std.proofs.Math.Seq.{take-append_seam}
 use Rattle.std.proofs.lemmas.List.Sorted.{All-permutation}
-use Rattle.separation_solve.specs.declared.bundle.Item.{Item}
-use Rattle.separation_solve.specs.Bundle.{IsRule, int_at}
-use Rattle.separation_solve.specs.Latest.{HasNoRoom, IsLatest}
-use Rattle.separation_solve.proofs.Widest.{narrower_meets}
-use Rattle.separation_solve.proofs.StartPlaces.{AreDrawn, are_start, drawn_whole, walled, want_coordinate}
+use Rattle.separation_model.specs.declared.bundle.Item.{Item}
+use Rattle.separation_model.specs.Bundle.{IsRule, int_at}
+use Rattle.separation_model.specs.Latest.{HasNoRoom, IsLatest, IsRuleKept}
+use Rattle.separation_model.proofs.Gaps.Widest.{narrower_meets}
+use Rattle.separation_solve.proofs.Starting.StartPlaces.{AreDrawn, are_start, drawn_whole, walled, want_coordinate}
 use Rattle.separation_solve.proofs.start.start_places.Goals as goal
 
 pub unreachable-requires : goal.unreachable-requires

@@ -1,7 +1,8 @@
+-- The goals of `pair` that the check leaves.
 use Rattle.std.proofs.Common.{arith, rules, refl}
 use Rattle.std.proofs.lemmas.Int.{ints}
-use Rattle.separation_solve.specs.declared.bundle.Rule.{Rule}
-use Rattle.separation_solve.proofs.Pairs.{pair_is_bundle}
+use Rattle.separation_model.specs.declared.bundle.Rule.{Rule}
+use Rattle.separation_model.proofs.Fixtures.{pair_is_bundle}
 use Rattle.separation_solve.proofs.tests.pair.Goals as goal
 
 pub returns : goal.returns

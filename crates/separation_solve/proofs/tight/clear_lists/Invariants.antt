@@ -1,3 +1,4 @@
+-- What the loop of `clear_lists` keeps.
 use Rattle.std.proofs.Common.{◌≡◌, [], Vec, ℕ}
 use Rattle.std.specs.List.{AllWithin}
 use Rattle.std.specs.declared.alloc.Global.{Global}

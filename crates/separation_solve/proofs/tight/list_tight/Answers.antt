@@ -1,7 +1,8 @@
+-- The goals of `list_tight` that the check leaves.
 use Rattle.std.proofs.Common.{◌<◌, length, set, arith, sym, ◌∙◌, true≢false}
 use Rattle.std.proofs.lemmas.List.Elements.{All-get_or}
 use Rattle.separation_solve.specs.Network.{IsTightAt, IsLink, link_at, no_link}
-use Rattle.separation_solve.proofs.Listing.{added, listing_kept, listing_more, listing_none}
+use Rattle.separation_solve.proofs.Networks.Listing.{added, listing_kept, listing_more, listing_none}
 use Rattle.separation_solve.proofs.tight.list_tight.Goals as goal
 use Rattle.separation_solve.proofs.tight.list_tight.Goals.{then-is_tight+in_ok-push+in_ok-push-2, else-is_tight}
 

@@ -1,4 +1,5 @@
-use Rattle.separation_solve.proofs.Listing.{IsListing}
+-- What the loop of `list_tight` keeps.
+use Rattle.separation_solve.proofs.Networks.Listing.{IsListing}
 use Rattle.separation_solve.proofs.tight.list_tight.Given as goal
 
 abbrev pub invariant-loop-index : goal.invariant-loop-index

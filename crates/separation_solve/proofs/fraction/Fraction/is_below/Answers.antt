@@ -1,7 +1,8 @@
+-- The goals of `Fraction::is_below` that the check leaves.
 use Rattle.std.proofs.Common.{pos, ◌*ℤ◌, FitsSigned, arith}
 use Rattle.std.proofs.lemmas.Int.{ints, to_z-of_z}
 use mir.Syntax.{w128}
-use Rattle.separation_solve.proofs.Fractions.{light_num, light_product}
+use Rattle.separation_solve.proofs.LightFractions.Fractions.{light_num, light_product}
 use Rattle.separation_solve.proofs.fraction.Fraction.is_below.Goals as goal
 
 pub overflow_mul-result : goal.overflow_mul-result

@@ -1,7 +1,8 @@
+-- The goals of `Fraction::moved` that the check leaves.
 use Rattle.std.proofs.Common.{pos, ◌+ℤ◌, ◌*ℤ◌, FitsSigned, arith}
 use Rattle.std.proofs.lemmas.Int.{ints, to_z-of_z}
 use mir.Syntax.{w64, w128}
-use Rattle.separation_solve.proofs.Fractions.{light_num, light_move, light_step}
+use Rattle.separation_solve.proofs.LightFractions.Fractions.{light_num, light_move, light_step}
 use Rattle.separation_solve.proofs.fraction.Fraction.moved.Goals as goal
 
 pub returns-clause-num : goal.returns-clause-num

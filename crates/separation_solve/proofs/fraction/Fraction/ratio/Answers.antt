@@ -1,8 +1,10 @@
+-- The goals of `Fraction::ratio` that the check leaves.
 use Rattle.std.proofs.Common.{◌≡◌, pos, ◌+ℤ◌, ◌*ℤ◌, FitsSigned, arith, unsigned_abs, ap, sym, ◌∙◌}
 use Rattle.std.proofs.lemmas.Int.{ints, to_z-of_z}
 use Rattle.std.specs.Int.{int_div_euclid, int_rem_euclid}
 use mir.Syntax.{w128}
-use Rattle.separation_solve.proofs.Fractions.{euclid, whole_bound}
+use Rattle.separation_solve.proofs.LightFractions.Fractions.{whole_bound}
+use Rattle.separation_model.proofs.Rounding.{euclid}
 use Rattle.separation_solve.proofs.fraction.Fraction.ratio.Goals as goal
 
 pub mixed-requires-clause-within : goal.mixed-requires-clause-within

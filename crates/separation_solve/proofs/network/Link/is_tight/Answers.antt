@@ -1,10 +1,11 @@
+-- The test of the code is the condition, in whole numbers.
 use Rattle.std.proofs.Common.{◌≡◌, ◌<◌, ℕ, pos, List, All, length, get_or, FitsSigned, ◌∙◌, w64, to_z-of_z}
 use mir.Syntax.{w128}
 use Rattle.std.proofs.lemmas.List.{get_or_default}
 use Rattle.std.proofs.lemmas.List.Elements.{All-get_or}
 use Rattle.separation_solve.specs.declared.fraction.Fraction.{Fraction}
 use Rattle.separation_solve.specs.Network.{IsSpot, place_at}
-use Rattle.separation_solve.proofs.Spots.{cast_is, gap_wide, den_wide, gap_narrow, apart_fits, gap_fits, num_fits, tight_test}
+use Rattle.separation_solve.proofs.LightFractions.Spots.{cast_is, gap_wide, den_wide, gap_narrow, apart_fits, gap_fits, num_fits, tight_test}
 use Rattle.separation_solve.proofs.network.Link.is_tight.Goals as goal
 
 -- a place as it is read

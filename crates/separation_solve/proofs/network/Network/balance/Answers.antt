@@ -1,8 +1,9 @@
+-- The goals of `Network::balance` that the check leaves.
 use Rattle.std.proofs.Common.{◌≡◌, ◌+◌, length, arith, ap, subst}
 use Rattle.separation_solve.specs.Network.{items_of, total_size}
 use Rattle.separation_solve.specs.Reach.{IsTable}
-use Rattle.separation_solve.proofs.Balancing.{fewer}
-use Rattle.separation_solve.proofs.Leads.{total_size_sign}
+use Rattle.separation_solve.proofs.Networks.Balancing.{fewer}
+use Rattle.separation_solve.proofs.Searches.Leads.{total_size_sign}
 use Rattle.separation_solve.proofs.network.Network.balance.Goals as goal
 
 pub search-requires-clause-table : goal.search-requires-clause-table

@@ -1,3 +1,4 @@
+-- What the loop of `Network::balance` keeps.
 use Rattle.std.proofs.Common.{◌≡◌, ◌+◌, unsigned_abs}
 use Rattle.separation_solve.specs.Network.{IsSameBundle, IsSound, items_of, total_size, upright_places}
 use Rattle.separation_solve.specs.Reach.{IsTable}

@@ -1,11 +1,12 @@
+-- The sums over the members are the block's weight and moment, and their quotient is an aim.
 use Rattle.std.proofs.Common.{◌≡◌, ℕ, suc, ◌<◌, ◌≤◌, ℤ, pos, negsuc, ◌+ℤ◌, ◌-ℤ◌, ◌*ℤ◌, ◌≤ℤ◌, add-one, FitsSigned, to_z, of_z, arith, sym, ap, subst, ◌∙◌}
 use Rattle.std.proofs.lemmas.Int.{ints, to_z-of_z}
 use Rattle.std.proofs.lemmas.List.{get_or_read}
 use mir.Syntax.{w64, w128}
-use Rattle.separation_solve.specs.Bundle.{IsCoordinate}
+use Rattle.plane_geom.specs.Point.{IsCoordinate}
 use Rattle.separation_solve.specs.Network.{items_of}
 use Rattle.separation_solve.specs.Reach.{start_of}
-use Rattle.separation_solve.proofs.Mean.{MeanSoFar, IsNear, mean_other, mean_aim, mean_balance, mean_step, mean_fits, moment_bound, block_heavy, want_within, share_light, offset_near}
+use Rattle.separation_solve.proofs.Blocks.Mean.{MeanSoFar, IsNear, mean_other, mean_aim, mean_balance, mean_step, mean_fits, moment_bound, block_heavy, want_within, share_light, offset_near}
 use Rattle.separation_solve.proofs.network.Network.best_place.Goals as goal
 use Rattle.separation_solve.proofs.network.Network.best_place.Goals.{in-Some, in_default}
 

@@ -1,4 +1,5 @@
-use Rattle.separation_solve.proofs.Mean.{MeanSoFar}
+-- What the loop of `Network::best_place` keeps.
+use Rattle.separation_solve.proofs.Blocks.Mean.{MeanSoFar}
 use Rattle.separation_solve.proofs.network.Network.best_place.Given as goal
 
 abbrev pub invariant-loop-item : goal.invariant-loop-item

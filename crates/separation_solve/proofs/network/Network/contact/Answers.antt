@@ -1,9 +1,10 @@
+-- The place at which a link that leads out would be tight is an aim.
 use Rattle.std.proofs.Common.{◌≡◌, pos, ◌+ℤ◌, ◌-ℤ◌, ◌*ℤ◌, FitsSigned, is_some, arith, sym, ap, ◌∙◌}
 use Rattle.std.proofs.lemmas.Int.{ints, to_z-of_z}
 use mir.Syntax.{w64}
 use Rattle.separation_solve.specs.Reach.{start_of}
-use Rattle.separation_solve.proofs.Mean.{offset_near}
-use Rattle.separation_solve.proofs.Contacts.{contact_is, read_link, read_place, spot_light}
+use Rattle.separation_solve.proofs.Blocks.Mean.{offset_near}
+use Rattle.separation_solve.proofs.Blocks.Contacts.{contact_is, read_link, read_place, spot_light}
 use Rattle.separation_solve.proofs.network.Network.contact.Goals as goal
 
 pub offset-requires-clause-node : goal.offset-requires-clause-node

@@ -1,10 +1,11 @@
+-- The goals of `Network::first_contact` that the check leaves.
 use Rattle.std.proofs.Common.{◌≡◌, ◌+◌, ⊎_elim, sym, subst, ◌∙◌}
 use Rattle.separation_solve.specs.declared.fraction.Fraction.{Fraction}
 use Rattle.separation_solve.specs.Fraction.{IsNotBeyond}
 use Rattle.separation_solve.specs.Network.{link_at}
 use Rattle.separation_solve.specs.Block.{IsContact}
 use Rattle.separation_solve.specs.Reach.{start_of}
-use Rattle.separation_solve.proofs.Contacts.{FirstSoFar, first_other, first_later, first_nearer}
+use Rattle.separation_solve.proofs.Blocks.Contacts.{FirstSoFar, first_other, first_later, first_nearer}
 use Rattle.separation_solve.proofs.network.Network.first_contact.Goals as goal
 use Rattle.separation_solve.proofs.network.Network.first_contact.Goals.{in-Some, in_default}
 

@@ -1,5 +1,6 @@
+-- What the loop of `Network::first_contact` keeps.
 use Rattle.separation_solve.specs.Reach.{start_of}
-use Rattle.separation_solve.proofs.Contacts.{FirstSoFar}
+use Rattle.separation_solve.proofs.Blocks.Contacts.{FirstSoFar}
 use Rattle.separation_solve.proofs.network.Network.first_contact.Given as goal
 
 abbrev pub invariant-loop-index : goal.invariant-loop-index

@@ -1,11 +1,13 @@
+-- The goals of `Network::force` that the check leaves.
 use Rattle.std.proofs.Common.{◌≡◌, ◌<◌, pos, ◌*ℤ◌, ◌-ℤ◌, slice_index, arith, sym, ap, subst, ◌∙◌, to_z, of_z, to_z-of_z, w64}
 use mir.Syntax.{w128}
 use Rattle.std.proofs.lemmas.List.{get_or_read}
-use Rattle.separation_solve.specs.Bundle.{IsCoordinate, int_at}
+use Rattle.plane_geom.specs.Point.{IsCoordinate}
+use Rattle.separation_model.specs.Bundle.{int_at}
 use Rattle.separation_solve.specs.declared.fraction.Fraction.{Fraction}
 use Rattle.separation_solve.specs.Network.{IsSpot, force, items_of, no_place}
-use Rattle.separation_solve.proofs.Forces.{force_at_fits, want_at}
-use Rattle.separation_solve.proofs.Spots.{cast_is, gap_narrow, num_fits, spot_at}
+use Rattle.separation_solve.proofs.Networks.Forces.{force_at_fits, want_at}
+use Rattle.separation_solve.proofs.LightFractions.Spots.{cast_is, gap_narrow, num_fits, spot_at}
 use Rattle.separation_solve.proofs.network.Network.force.Goals as goal
 
 pub returns : goal.returns

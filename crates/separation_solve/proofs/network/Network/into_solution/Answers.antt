@@ -1,3 +1,4 @@
+-- The goals of `Network::into_solution` that the check leaves.
 use Rattle.std.proofs.Common.{All, pos, ◌≡◌, sym, subst}
 use Rattle.separation_solve.specs.declared.network.Network.{Network}
 use Rattle.separation_solve.proofs.Ending.{balanced-negated}

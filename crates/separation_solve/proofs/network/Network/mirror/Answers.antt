@@ -1,3 +1,4 @@
+-- The mirror image is sound, and is of the same bundle.
 use Rattle.std.proofs.Common.{◌≡◌, ◌≤◌, ℤ, pos, neg_ℤ, Vec, List, All, map, length, unsigned_abs, arith, refl, sym, ap, ◌∙◌, subst}
 use Rattle.std.specs.Vec.{with_items}
 use Rattle.std.specs.declared.alloc.Global.{Global}
@@ -5,8 +6,8 @@ use Rattle.std.proofs.Math.IntN.{neg_ℤ-neg_ℤ}
 use Rattle.std.proofs.lemmas.List.{with_items_is, length-map}
 use Rattle.std.proofs.lemmas.List.Elements.{All-from_get_or}
 use Rattle.separation_solve.specs.Network.{IsSpot, turned_link, turned_place, no_place}
-use Rattle.separation_solve.proofs.Leads.{excess_size}
-use Rattle.separation_solve.proofs.Mirrored.{turned_link_twice, turned_place_twice, turned_sound, upright-turned}
+use Rattle.separation_solve.proofs.Searches.Leads.{excess_size}
+use Rattle.separation_solve.proofs.Networks.Mirrored.{turned_link_twice, turned_place_twice, turned_sound, upright-turned}
 use Rattle.separation_solve.proofs.network.Network.mirror.Goals as goal
 
 -- a list that was turned in its vector

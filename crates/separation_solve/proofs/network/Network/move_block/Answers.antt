@@ -1,3 +1,4 @@
+-- The members are put to their new places one by one.
 use Rattle.std.proofs.Common.{◌≡◌, ◌+◌, FitsSigned, arith, sym, ◌∙◌, subst}
 use Rattle.std.proofs.lemmas.Int.{ints, to_z-of_z}
 use mir.Syntax.{w64}
@@ -5,8 +6,8 @@ use Rattle.separation_solve.specs.declared.network.Network.{Network}
 use Rattle.separation_solve.specs.Network.{items_of}
 use Rattle.separation_solve.specs.Block.{PlacesBlock}
 use Rattle.separation_solve.specs.Reach.{start_of}
-use Rattle.separation_solve.proofs.Members.{member_is, member_place}
-use Rattle.separation_solve.proofs.Moving.{SoFarPlaced, placed_member, placed_other}
+use Rattle.separation_solve.proofs.Blocks.Members.{member_is, member_place}
+use Rattle.separation_solve.proofs.Blocks.Moving.{SoFarPlaced, placed_member, placed_other}
 use Rattle.separation_solve.proofs.network.Network.move_block.Goals as goal
 use Rattle.separation_solve.proofs.network.Network.move_block.Goals.{in-Some, in_default}
 

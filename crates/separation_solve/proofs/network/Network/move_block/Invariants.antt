@@ -1,4 +1,5 @@
-use Rattle.separation_solve.proofs.Moving.{SoFarPlaced}
+-- What the loop of `Network::move_block` keeps.
+use Rattle.separation_solve.proofs.Blocks.Moving.{SoFarPlaced}
 use Rattle.separation_solve.proofs.network.Network.move_block.Given as goal
 
 abbrev pub invariant-loop-item : goal.invariant-loop-item

@@ -1,9 +1,10 @@
+-- The parts of a new network fit together.
 use Rattle.std.proofs.Common.{false, arith, ap, sym, subst, ◌∙◌, map, to_z, of_z, to_z-of_z}
 use Rattle.std.specs.Int.{w64}
-use Rattle.separation_solve.specs.declared.bundle.Item.{Item}
+use Rattle.separation_model.specs.declared.bundle.Item.{Item}
 use Rattle.separation_solve.specs.declared.network.Network.{Network}
-use Rattle.separation_solve.specs.Gap.{IsGap}
-use Rattle.separation_solve.proofs.Frames.{IsMade, made_frame, made_kept}
+use Rattle.separation_model.specs.Gap.{IsGap}
+use Rattle.separation_solve.proofs.Networks.Frames.{IsMade, made_frame, made_kept}
 use Rattle.separation_solve.proofs.network.Network.new.Goals as goal
 
 pub relist-requires : goal.relist-requires

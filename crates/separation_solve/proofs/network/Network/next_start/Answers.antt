@@ -1,10 +1,11 @@
+-- The goals of `Network::next_start` that the check leaves.
 use Rattle.std.proofs.Common.{◌≡◌, ◌<◌, pos, ◌≤ℤ◌, ◌<ℤ◌, All, length, arith, sym, ap, ◌∙◌}
 use Rattle.std.proofs.lemmas.Option.{MatchOption-at_none}
-use Rattle.separation_solve.specs.Bundle.{int_at}
+use Rattle.separation_model.specs.Bundle.{int_at}
 use Rattle.separation_solve.specs.Network.{items_of, total_size}
-use Rattle.separation_solve.proofs.Balancing.{all_zero}
-use Rattle.separation_solve.proofs.Mirrored.{total_size-negated}
-use Rattle.separation_solve.proofs.Optional.{match_option, none_is}
+use Rattle.separation_solve.proofs.Networks.Balancing.{all_zero}
+use Rattle.separation_solve.proofs.Networks.Mirrored.{total_size-negated}
+use Rattle.separation_solve.proofs.Lists.Optional.{match_option, none_is}
 use Rattle.separation_solve.proofs.network.Network.next_start.Goals as goal
 
 pub returns-clause-size : goal.returns-clause-size

@@ -1,20 +1,29 @@
-use Rattle.std.proofs.Common.{◌≡◌, ◌≢◌, ℕ, ◌<◌, ◌≤◌, ◌^◌, ℤ, pos, neg_ℤ, ◌+ℤ◌, ◌-ℤ◌, ◌<ℤ◌, ◌≤ℤ◌, FitsSigned, Vec, length, get_or, set, arith, sym, ap, subst, ◌∙◌, to_z, of_z, to_z-of_z, lit<, get_or-set_other}
+-- The flow is sent, and the excess is changed at the start and, where an item takes the flow, at the end.
+use Rattle.std.proofs.Common.{◌≡◌, ◌≢◌, ℕ, ◌<◌, ◌≤◌, ◌^◌, ℤ, pos, neg_ℤ, ◌+ℤ◌, ◌-ℤ◌, ◌<ℤ◌, ◌≤ℤ◌, FitsSigned, Vec, List, length, get_or, set, arith, sym, ap, subst, ◌∙◌, to_z, of_z, to_z-of_z, lit<, get_or-set_other}
 use Rattle.std.specs.declared.alloc.Global.{Global}
 use mir.Syntax.{w128}
 use Rattle.std.proofs.lemmas.Int.{ints, fits_signed_from_abs}
 use Rattle.std.proofs.lemmas.List.{get_or_read}
-use Rattle.separation_solve.specs.Bundle.{int_at}
+use Rattle.separation_model.specs.Bundle.{int_at}
 use Rattle.separation_solve.specs.declared.network.Network.{Network}
 use Rattle.separation_solve.specs.declared.reach.Reach.{Reach}
 use Rattle.separation_solve.specs.declared.reach.Step.{Step}
-use Rattle.separation_solve.specs.Network.{IsSound, items_of, total_size}
+use Rattle.separation_solve.specs.Network.{IsSound, items_of}
 use Rattle.separation_solve.specs.Push.{IsSent, KeepsRest, TakesAmount}
 use Rattle.separation_solve.specs.Reach.{IsWay, start_of, step_at}
-use Rattle.separation_solve.proofs.Leads.{excess_size}
-use Rattle.separation_solve.proofs.Pushing.{IsSettled, pushed, rest_is, settled_at_item, settled_at_wall}
-use Rattle.separation_solve.proofs.Sending.{amount_size, change_fits}
-use Rattle.separation_solve.proofs.Spots.{cast_is}
+use Rattle.separation_solve.proofs.Searches.Leads.{excess_size}
+use Rattle.separation_solve.proofs.Searches.Pushing.{IsSettled, pushed, rest_is, settled_at_item, settled_at_wall}
+use Rattle.separation_solve.proofs.Searches.Sending.{amount_size, change_fits}
+use Rattle.separation_solve.proofs.LightFractions.Spots.{cast_is}
 use Rattle.separation_solve.proofs.network.Network.push.Goals as goal
+use Rattle.separation_solve.proofs.network.Network.push.Goals.{After-send, After-index_mut, Then-end-wall, Else-end-wall, After-index_mut-then-end-wall}
+
+-- the list with the amount added at the index, and taken away there, as the code does it
+abbrev raised_at : List ℤ → ℕ → ℤ → ℤ → List ℤ
+raised_at zs i x a = set zs i (to_z w128 (of_z w128 (to_z w128 (of_z w128 x) +ℤ to_z w128 (of_z w128 a))))
+
+abbrev lowered_at : List ℤ → ℕ → ℤ → ℤ → List ℤ
+lowered_at zs i x a = set zs i (to_z w128 (of_z w128 (to_z w128 (of_z w128 x) -ℤ to_z w128 (of_z w128 a))))
 
 -- what is known when the flow has been sent
 record Sent (n now : Network) (r : Reach) (k : ℕ) (a : ℤ) : Type 0 where
@@ -22,12 +31,12 @@ record Sent (n now : Network) (r : Reach) (k : ℕ) (a : ℤ) : Type 0 where
   sent : IsSent n r k 0 a now.flow.items
   excess : now.excess.items ≡ n.excess.items
   start_in : start_of r < length n.excess.items
-  room : a ≤ℤ neg_ℤ (int_at n.excess.items (start_of r))
+  capacity : a ≤ℤ neg_ℤ (int_at n.excess.items (start_of r))
   start_fits : FitsSigned w128 (int_at n.excess.items (start_of r)) × FitsSigned w128 (int_at n.excess.items (start_of r) +ℤ a)
 
-sent_known : (n now : Network) (r : Reach) (k : ℕ) (a : ℤ) → IsSound n → IsWay n (start_of r) r k → pos 0 <ℤ a → a ≤ℤ (step_at r.steps.items k).room → IsSent n r k 0 (to_z w128 (of_z w128 a)) now.flow.items → KeepsRest n now → Sent n now r k a
-sent_known n now r k a sound way some room sent rest =
-    let size = amount_size n (start_of r) r k a sound way.reach way.target some room in
+sent_known : (n now : Network) (r : Reach) (k : ℕ) (a : ℤ) → IsSound n → IsWay n (start_of r) r k → pos 0 <ℤ a → a ≤ℤ (step_at r.steps.items k).capacity → IsSent n r k 0 (to_z w128 (of_z w128 a)) now.flow.items → KeepsRest n now → Sent n now r k a
+sent_known n now r k a sound way some capacity sent rest =
+    let size = amount_size n (start_of r) r k a sound way.reach way.target some capacity in
     let fits : FitsSigned w128 a = fits_signed_from_abs w128 a (omega (arith, size, lit< {m = 92480000000000000000000000000} {n = 2 ^ 127} tt)) in
     let small = excess_size n (start_of r) sound in
     let both = change_fits (int_at n.excess.items (start_of r)) a (omega (arith, small)) size in
@@ -36,9 +45,15 @@ sent_known n now r k a sound way some room sent rest =
       sent = subst (λ z. IsSent n r k 0 z now.flow.items) (to_z-of_z fits) sent;
       excess = ap (λ (v : Vec ℤ Global). v.items) rest.excess;
       start_in = omega (arith, way.reach.start_item, sound.frame.excess);
-      room = omega (arith, ints, room, (way.reach.steps k way.target).most);
+      capacity = omega (arith, ints, capacity, (way.reach.steps k way.target).most);
       start_fits = (both.0, both.1);
     }
+
+-- here
+sent_here : (c : After-send) → Sent c.args.self.now c.send.new.self c.args.reach.now c.args.target c.sendable-amount.result
+sent_here c =
+    let amount = c.sendable-amount.ensures in
+    sent_known c.args.self.now c.send.new.self c.args.reach.now c.args.target c.sendable-amount.result c.requires.sound c.requires.way amount.some amount.capacity c.send.ensures.sent c.send.ensures.rest
 
 -- the start that was read
 first_is : (r : Reach) (s : Step) → 0 < length r.steps.items → s ≡ get_or r.steps.items 0 s → s.node ≡ start_of r
@@ -52,7 +67,7 @@ at_start n now r k a s x way sent e read =
 
 -- the excess with the amount added at the start
 raised : (n now : Network) (r : Reach) (k : ℕ) (a : ℤ) (s : Step) (x : ℤ) → IsWay n (start_of r) r k → Sent n now r k a → s ≡ get_or r.steps.items 0 s → x ≡ get_or now.excess.items s.node x →
-    set now.excess.items s.node (to_z w128 (of_z w128 (to_z w128 (of_z w128 x) +ℤ to_z w128 (of_z w128 a)))) ≡ set n.excess.items (start_of r) (int_at n.excess.items (start_of r) +ℤ a)
+    raised_at now.excess.items s.node x a ≡ set n.excess.items (start_of r) (int_at n.excess.items (start_of r) +ℤ a)
 raised n now r k a s x way sent e read =
     let z = at_start n now r k a s x way sent e read in
     ap (λ zs. set zs s.node (to_z w128 (of_z w128 (to_z w128 (of_z w128 x) +ℤ to_z w128 (of_z w128 a))))) sent.excess
@@ -63,7 +78,7 @@ raised n now r k a s x way sent e read =
 
 pub overflow_add-index_mut : goal.overflow_add-index_mut
 overflow_add-index_mut c =
-    let k = sent_known c.args.self.now c.send.new.self c.args.reach.now c.args.target c.sendable-amount.result c.requires.sound c.requires.way c.sendable-amount.ensures.some c.sendable-amount.ensures.room c.send.ensures.sent c.send.ensures.rest in
+    let k = sent_here (goal.at.overflow_add-index_mut c).After-send in
     let z = at_start c.args.self.now c.send.new.self c.args.reach.now c.args.target c.sendable-amount.result c.index.result.now c.index_mut.result.now c.requires.way k c.index.ensures c.index_mut.ensures.value in
     rw (z, to_z-of_z k.fits) k.start_fits.1
 
@@ -72,29 +87,36 @@ record AtEnd (n : Network) (r : Reach) (k : ℕ) (a : ℤ) (t : Step) : Type 0 w
   is : t.node ≡ (step_at r.steps.items k).node
   inside : (step_at r.steps.items k).node < length n.excess.items
   apart : start_of r ≢ (step_at r.steps.items k).node
-  room : a ≤ℤ int_at n.excess.items (step_at r.steps.items k).node
+  capacity : a ≤ℤ int_at n.excess.items (step_at r.steps.items k).node
   fits : FitsSigned w128 (int_at n.excess.items (step_at r.steps.items k).node) × FitsSigned w128 (int_at n.excess.items (step_at r.steps.items k).node -ℤ a)
 
-at_end : (n : Network) (r : Reach) (k : ℕ) (a : ℤ) (t : Step) → IsSound n → IsWay n (start_of r) r k → pos 0 <ℤ a → a ≤ℤ (step_at r.steps.items k).room → TakesAmount n (step_at r.steps.items k).node a → t ≡ get_or r.steps.items k t → (t.node ≡ items_of n → ⊥) → AtEnd n r k a t
-at_end n r k a t sound way some room taken e other =
+at_end : (n : Network) (r : Reach) (k : ℕ) (a : ℤ) (t : Step) → IsSound n → IsWay n (start_of r) r k → pos 0 <ℤ a → a ≤ℤ (step_at r.steps.items k).capacity → TakesAmount n (step_at r.steps.items k).node a → t ≡ get_or r.steps.items k t → (t.node ≡ items_of n → ⊥) → AtEnd n r k a t
+at_end n r k a t sound way some capacity taken e other =
     let is : t.node ≡ (step_at r.steps.items k).node = ap (λ (u : Step). u.node) (get_or_read r.steps.items k t way.target e _) in
     let end = (step_at r.steps.items k).node in
     let within : end ≤ items_of n = (way.reach.steps k way.target).node in
     let ne : end ≢ items_of n = λ q. other (is ∙ q) in
     let takes = taken ne in
-    let size = amount_size n (start_of r) r k a sound way.reach way.target some room in
+    let size = amount_size n (start_of r) r k a sound way.reach way.target some capacity in
     let both = change_fits (int_at n.excess.items end) a (omega (arith, excess_size n end sound)) size in
     record {
       is = is;
       inside = omega (arith, within, ne, sound.frame.excess);
       apart = λ q. absurd (let h = ap (int_at n.excess.items) q in omega (arith, ints, h, takes, way.reach.start_short));
-      room = takes;
+      capacity = takes;
       fits = (both.0, both.2);
     }
 
+-- here
+end_here : (c : Then-end-wall) → AtEnd c.args.self.now c.args.reach.now c.args.target c.sendable-amount.result c.index-2.result.now
+end_here c =
+    let amount = c.sendable-amount.ensures in
+    at_end c.args.self.now c.args.reach.now c.args.target c.sendable-amount.result c.index-2.result.now c.requires.sound c.requires.way amount.some amount.capacity amount.taken c.index-2.ensures
+    (λ e. c.if-end-wall.true (e ∙ sym (c.wall.ensures ∙ ap (λ (v : Vec ℤ Global). length v.items) c.send.ensures.rest.wants)))
+
 -- its excess, as it was read
 end_is : (n now : Network) (r : Reach) (k : ℕ) (a : ℤ) (s t : Step) (x y : ℤ) → IsWay n (start_of r) r k → Sent n now r k a → s ≡ get_or r.steps.items 0 s → x ≡ get_or now.excess.items s.node x → AtEnd n r k a t →
-    y ≡ get_or (set now.excess.items s.node (to_z w128 (of_z w128 (to_z w128 (of_z w128 x) +ℤ to_z w128 (of_z w128 a))))) t.node y → to_z w128 (of_z w128 y) ≡ int_at n.excess.items (step_at r.steps.items k).node
+    y ≡ get_or (raised_at now.excess.items s.node x a) t.node y → to_z w128 (of_z w128 y) ≡ int_at n.excess.items (step_at r.steps.items k).node
 end_is n now r k a s t x y way sent e read end last =
     let zs = n.excess.items in
     let i = (step_at r.steps.items k).node in
@@ -104,19 +126,16 @@ end_is n now r k a s t x y way sent e read end last =
 
 pub overflow_sub-index_mut : goal.overflow_sub-index_mut
 overflow_sub-index_mut c =
-    let n = c.args.self.now in
-    let now = c.send.new.self in
-    let r = c.args.reach.now in
-    let a = c.sendable-amount.result in
-    let k = sent_known c.args.self.now c.send.new.self c.args.reach.now c.args.target c.sendable-amount.result c.requires.sound c.requires.way c.sendable-amount.ensures.some c.sendable-amount.ensures.room c.send.ensures.sent c.send.ensures.rest in
-    let end = at_end n r c.args.target a c.index-2.result.now c.requires.sound c.requires.way c.sendable-amount.ensures.some c.sendable-amount.ensures.room c.sendable-amount.ensures.taken c.index-2.ensures (λ e. c.if-end-wall.true (e ∙ sym (c.wall.ensures ∙ ap (λ (v : Vec ℤ Global). length v.items) c.send.ensures.rest.wants))) in
-    let y = end_is n now r c.args.target a c.index.result.now c.index-2.result.now c.index_mut.result.now c.index_mut-then-end-wall.result.now c.requires.way k c.index.ensures c.index_mut.ensures.value end c.index_mut-then-end-wall.ensures.value in
+    let here = goal.at.overflow_sub-index_mut c in
+    let k = sent_here here.After-send in
+    let end = end_here here.Then-end-wall in
+    let y = end_is c.args.self.now c.send.new.self c.args.reach.now c.args.target c.sendable-amount.result c.index.result.now c.index-2.result.now c.index_mut.result.now c.index_mut-then-end-wall.result.now c.requires.way k c.index.ensures c.index_mut.ensures.value end c.index_mut-then-end-wall.ensures.value in
     rw (y, to_z-of_z k.fits) end.fits.1
 
 -- the excess with the amount taken away at the end too
 lowered : (n now : Network) (r : Reach) (k : ℕ) (a : ℤ) (s t : Step) (x y : ℤ) → IsWay n (start_of r) r k → Sent n now r k a → s ≡ get_or r.steps.items 0 s → x ≡ get_or now.excess.items s.node x → AtEnd n r k a t →
-    y ≡ get_or (set now.excess.items s.node (to_z w128 (of_z w128 (to_z w128 (of_z w128 x) +ℤ to_z w128 (of_z w128 a))))) t.node y →
-    set (set now.excess.items s.node (to_z w128 (of_z w128 (to_z w128 (of_z w128 x) +ℤ to_z w128 (of_z w128 a))))) t.node (to_z w128 (of_z w128 (to_z w128 (of_z w128 y) -ℤ to_z w128 (of_z w128 a))))
+    y ≡ get_or (raised_at now.excess.items s.node x a) t.node y →
+    lowered_at (raised_at now.excess.items s.node x a) t.node y a
     ≡ set (set n.excess.items (start_of r) (int_at n.excess.items (start_of r) +ℤ a)) (step_at r.steps.items k).node (int_at n.excess.items (step_at r.steps.items k).node -ℤ a)
 lowered n now r k a s t x y way sent e read end last =
     let zs = n.excess.items in
@@ -141,50 +160,54 @@ at_wall n r k t sound way e wall = sym (ap (λ (u : Step). u.node) (get_or_read 
 falls : (t u a : ℤ) → pos 0 <ℤ a → (t +ℤ a) ≤ℤ u → t <ℤ u
 falls t u a some less = omega (arith, ints)
 
-pub returns-then-end-wall-clause-sound : goal.returns-then-end-wall-clause-sound
-returns-then-end-wall-clause-sound c =
+-- the excess that is left where an item takes the flow
+settled_then : (c : After-index_mut-then-end-wall) → IsSettled c.args.self.now.excess.items
+    (lowered_at (raised_at c.send.new.self.excess.items c.index.result.now.node c.index_mut.result.now c.sendable-amount.result) c.index-2.result.now.node c.index_mut-then-end-wall.result.now c.sendable-amount.result)
+    (start_of c.args.reach.now) (step_at c.args.reach.now.steps.items c.args.target).node c.sendable-amount.result
+settled_then c =
     let n = c.args.self.now in
-    let now = c.send.new.self in
     let r = c.args.reach.now in
     let a = c.sendable-amount.result in
-    let k = sent_known c.args.self.now c.send.new.self c.args.reach.now c.args.target c.sendable-amount.result c.requires.sound c.requires.way c.sendable-amount.ensures.some c.sendable-amount.ensures.room c.send.ensures.sent c.send.ensures.rest in
-    let end = at_end n r c.args.target a c.index-2.result.now c.requires.sound c.requires.way c.sendable-amount.ensures.some c.sendable-amount.ensures.room c.sendable-amount.ensures.taken c.index-2.ensures (λ e. c.if-end-wall.true (e ∙ sym (c.wall.ensures ∙ ap (λ (v : Vec ℤ Global). length v.items) c.send.ensures.rest.wants))) in
-    let is = lowered n now r c.args.target a c.index.result.now c.index-2.result.now c.index_mut.result.now c.index_mut-then-end-wall.result.now c.requires.way k c.index.ensures c.index_mut.ensures.value end c.index_mut-then-end-wall.ensures.value in
-    let settled = settled_at_item n.excess.items (start_of r) (step_at r.steps.items c.args.target).node a k.start_in end.inside end.apart c.sendable-amount.ensures.some k.room end.room in
-    left n now _ r c.args.target a c.requires.sound c.requires.way c.sendable-amount.ensures.some k c.send.ensures.rest (subst (λ es. IsSettled n.excess.items es (start_of r) (step_at r.steps.items c.args.target).node a) (sym is) settled)
+    let here = goal.at.After-index_mut-then-end-wall c in
+    let k = sent_here here.After-send in
+    let end = end_here here.Then-end-wall in
+    let node = (step_at r.steps.items c.args.target).node in
+    let is = lowered n c.send.new.self r c.args.target a c.index.result.now c.index-2.result.now c.index_mut.result.now c.index_mut-then-end-wall.result.now c.requires.way k c.index.ensures c.index_mut.ensures.value end c.index_mut-then-end-wall.ensures.value in
+    subst (λ es. IsSettled n.excess.items es (start_of r) node a) (sym is)
+    (settled_at_item n.excess.items (start_of r) node a k.start_in end.inside end.apart c.sendable-amount.ensures.some k.capacity end.capacity)
+
+-- and where the wall takes it
+settled_else : (c : Else-end-wall) → IsSettled c.args.self.now.excess.items
+    (raised_at c.send.new.self.excess.items c.index.result.now.node c.index_mut.result.now c.sendable-amount.result)
+    (start_of c.args.reach.now) (step_at c.args.reach.now.steps.items c.args.target).node c.sendable-amount.result
+settled_else c =
+    let n = c.args.self.now in
+    let r = c.args.reach.now in
+    let a = c.sendable-amount.result in
+    let k = sent_here (goal.at.Else-end-wall c).After-send in
+    let node = (step_at r.steps.items c.args.target).node in
+    let is = raised n c.send.new.self r c.args.target a c.index.result.now c.index_mut.result.now c.requires.way k c.index.ensures c.index_mut.ensures.value in
+    let end : node ≡ length n.excess.items = at_wall n r c.args.target c.index-2.result.now c.requires.sound c.requires.way c.index-2.ensures
+    (c.if-end-wall.false ∙ c.wall.ensures ∙ ap (λ (v : Vec ℤ Global). length v.items) c.send.ensures.rest.wants) in
+    subst (λ es. IsSettled n.excess.items es (start_of r) node a) (sym is)
+    (settled_at_wall n.excess.items (start_of r) node a k.start_in end c.sendable-amount.ensures.some k.capacity)
+
+pub returns-then-end-wall-clause-sound : goal.returns-then-end-wall-clause-sound
+returns-then-end-wall-clause-sound c =
+    let here = goal.at.returns-then-end-wall-clause-sound c in
+    left c.args.self.now c.send.new.self _ c.args.reach.now c.args.target c.sendable-amount.result c.requires.sound c.requires.way c.sendable-amount.ensures.some
+    (sent_here here.After-send) c.send.ensures.rest (settled_then here.After-index_mut-then-end-wall)
 
 pub returns-then-end-wall-clause-less : goal.returns-then-end-wall-clause-less
 returns-then-end-wall-clause-less c =
-    let n = c.args.self.now in
-    let now = c.send.new.self in
-    let r = c.args.reach.now in
-    let a = c.sendable-amount.result in
-    let k = sent_known c.args.self.now c.send.new.self c.args.reach.now c.args.target c.sendable-amount.result c.requires.sound c.requires.way c.sendable-amount.ensures.some c.sendable-amount.ensures.room c.send.ensures.sent c.send.ensures.rest in
-    let end = at_end n r c.args.target a c.index-2.result.now c.requires.sound c.requires.way c.sendable-amount.ensures.some c.sendable-amount.ensures.room c.sendable-amount.ensures.taken c.index-2.ensures (λ e. c.if-end-wall.true (e ∙ sym (c.wall.ensures ∙ ap (λ (v : Vec ℤ Global). length v.items) c.send.ensures.rest.wants))) in
-    let is = lowered n now r c.args.target a c.index.result.now c.index-2.result.now c.index_mut.result.now c.index_mut-then-end-wall.result.now c.requires.way k c.index.ensures c.index_mut.ensures.value end c.index_mut-then-end-wall.ensures.value in
-    let settled = settled_at_item n.excess.items (start_of r) (step_at r.steps.items c.args.target).node a k.start_in end.inside end.apart c.sendable-amount.ensures.some k.room end.room in
-    subst (λ es. total_size es <ℤ total_size n.excess.items) (sym is) (falls _ _ a c.sendable-amount.ensures.some settled.less)
+    falls _ _ c.sendable-amount.result c.sendable-amount.ensures.some (settled_then (goal.at.returns-then-end-wall-clause-less c).After-index_mut-then-end-wall).less
 
 pub returns-else-end-wall-clause-sound : goal.returns-else-end-wall-clause-sound
 returns-else-end-wall-clause-sound c =
-    let n = c.args.self.now in
-    let now = c.send.new.self in
-    let r = c.args.reach.now in
-    let a = c.sendable-amount.result in
-    let k = sent_known c.args.self.now c.send.new.self c.args.reach.now c.args.target c.sendable-amount.result c.requires.sound c.requires.way c.sendable-amount.ensures.some c.sendable-amount.ensures.room c.send.ensures.sent c.send.ensures.rest in
-    let is = raised n now r c.args.target a c.index.result.now c.index_mut.result.now c.requires.way k c.index.ensures c.index_mut.ensures.value in
-    let end : (step_at r.steps.items c.args.target).node ≡ length n.excess.items = at_wall n r c.args.target c.index-2.result.now c.requires.sound c.requires.way c.index-2.ensures (c.if-end-wall.false ∙ c.wall.ensures ∙ ap (λ (v : Vec ℤ Global). length v.items) c.send.ensures.rest.wants) in
-    let settled = settled_at_wall n.excess.items (start_of r) (step_at r.steps.items c.args.target).node a k.start_in end c.sendable-amount.ensures.some k.room in
-    left n now _ r c.args.target a c.requires.sound c.requires.way c.sendable-amount.ensures.some k c.send.ensures.rest (subst (λ es. IsSettled n.excess.items es (start_of r) (step_at r.steps.items c.args.target).node a) (sym is) settled)
+    let here = goal.at.returns-else-end-wall-clause-sound c in
+    left c.args.self.now c.send.new.self _ c.args.reach.now c.args.target c.sendable-amount.result c.requires.sound c.requires.way c.sendable-amount.ensures.some
+    (sent_here here.After-send) c.send.ensures.rest (settled_else here.Else-end-wall)
 
 pub returns-else-end-wall-clause-less : goal.returns-else-end-wall-clause-less
 returns-else-end-wall-clause-less c =
-    let n = c.args.self.now in
-    let now = c.send.new.self in
-    let r = c.args.reach.now in
-    let a = c.sendable-amount.result in
-    let k = sent_known c.args.self.now c.send.new.self c.args.reach.now c.args.target c.sendable-amount.result c.requires.sound c.requires.way c.sendable-amount.ensures.some c.sendable-amount.ensures.room c.send.ensures.sent c.send.ensures.rest in
-    let is = raised n now r c.args.target a c.index.result.now c.index_mut.result.now c.requires.way k c.index.ensures c.index_mut.ensures.value in
-    let end : (step_at r.steps.items c.args.target).node ≡ length n.excess.items = at_wall n r c.args.target c.index-2.result.now c.requires.sound c.requires.way c.index-2.ensures (c.if-end-wall.false ∙ c.wall.ensures ∙ ap (λ (v : Vec ℤ Global). length v.items) c.send.ensures.rest.wants) in
-    let settled = settled_at_wall n.excess.items (start_of r) (step_at r.steps.items c.args.target).node a k.start_in end c.sendable-amount.ensures.some k.room in
-    subst (λ es. total_size es <ℤ total_size n.excess.items) (sym is) (falls _ _ a c.sendable-amount.ensures.some settled.less)
+    falls _ _ c.sendable-amount.result c.sendable-amount.ensures.some (settled_else (goal.at.returns-else-end-wall-clause-less c).Else-end-wall).less

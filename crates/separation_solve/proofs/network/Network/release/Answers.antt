@@ -1,8 +1,9 @@
+-- With no flow, each item's excess is its force.
 use Rattle.std.proofs.Common.{◌<◌, length, arith, refl}
 use mir.Syntax.{w128}
 use Rattle.separation_solve.specs.Network.{items_of}
-use Rattle.separation_solve.proofs.Forces.{force_at_fits, released, releasing_frame, releasing_kept, releasing_more}
-use Rattle.separation_solve.proofs.Spots.{cast_is}
+use Rattle.separation_solve.proofs.Networks.Forces.{force_at_fits, released, releasing_frame, releasing_kept, releasing_more}
+use Rattle.separation_solve.proofs.LightFractions.Spots.{cast_is}
 use Rattle.separation_solve.proofs.network.Network.release.Goals as goal
 
 pub loop-item-preserved : goal.loop-item-preserved

@@ -1,4 +1,5 @@
-use Rattle.separation_solve.proofs.Forces.{IsReleasing}
+-- What the loop of `Network::release` keeps.
+use Rattle.separation_solve.proofs.Networks.Forces.{IsReleasing}
 use Rattle.separation_solve.proofs.network.Network.release.Given as goal
 
 abbrev pub invariant-loop-item : goal.invariant-loop-item

@@ -1,8 +1,9 @@
+-- One link of the way at a time: the flow on it rises or falls by the amount.
 use Rattle.std.proofs.Common.{Vec, ◌≡◌, ℕ, ◌<◌, ◌<ℤ◌, ℤ, pos, ◌+ℤ◌, ◌-ℤ◌, FitsSigned, Some, None, length, get_or, arith, refl, sym, ap, ◌∙◌, subst, to_z, of_z, to_z-of_z}
 use mir.Syntax.{w128}
 use Rattle.std.specs.declared.alloc.Global.{Global}
 use Rattle.std.proofs.lemmas.List.{get_or_read}
-use Rattle.separation_solve.specs.Bundle.{int_at}
+use Rattle.separation_model.specs.Bundle.{int_at}
 use Rattle.separation_solve.specs.declared.network.Link.{Link}
 use Rattle.separation_solve.specs.declared.network.Network.{Network}
 use Rattle.separation_solve.specs.declared.reach.Reach.{Reach}
@@ -11,9 +12,9 @@ use Rattle.separation_solve.specs.declared.reach.Via.{Via}
 use Rattle.separation_solve.specs.Network.{IsSound, link_at}
 use Rattle.separation_solve.specs.Push.{IsSent, KeepsRest}
 use Rattle.separation_solve.specs.Reach.{IsAfter, IsReach, start_of, step_at}
-use Rattle.separation_solve.proofs.Sending.{IsSending, amount_size, change_fits, sending_back, sending_forward, sending_none, sending_size, via_at, first_at}
-use Rattle.separation_solve.proofs.Spots.{cast_is}
-use Rattle.separation_solve.proofs.Optional.{none_if_not_some}
+use Rattle.separation_solve.proofs.Searches.Sending.{IsSending, amount_size, change_fits, sending_back, sending_forward, sending_none, sending_size, via_at, first_at}
+use Rattle.separation_solve.proofs.LightFractions.Spots.{cast_is}
+use Rattle.separation_solve.proofs.Lists.Optional.{none_if_not_some}
 use Rattle.separation_solve.proofs.network.Network.send.Goals as goal
 
 -- the step that was read, and its link
@@ -24,7 +25,7 @@ link_is : (n now : Network) (j : ℕ) (l : Link) → KeepsRest n now → j < len
 link_is n now j l rest h e = get_or_read n.links.items j l h (e ∙ ap (λ (ls : Vec Link Global). get_or ls.items j l) rest.links) _
 
 pub loop-via-init : goal.loop-via-init
-loop-via-init c = rw (to_z-of_z c.ranges.amount) (sending_none c.args.self.now c.args.reach.now c.args.target c.args.amount c.requires.sound c.requires.some c.requires.room)
+loop-via-init c = rw (to_z-of_z c.ranges.amount) (sending_none c.args.self.now c.args.reach.now c.args.target c.args.amount c.requires.sound c.requires.some c.requires.capacity)
 
 -- what a round knows
 record Round (n now : Network) (r : Reach) (target at : ℕ) (a : ℤ) (v : Via) : Type 0 where
@@ -48,7 +49,7 @@ round n now r target at a v s fits sound reach h some sending e via =
     let known = via_at n (start_of r) r at v reach inside is in
     record {
       flow_in = omega (arith, known.1.link, was.sent.links, sound.frame.flow);
-      fits = change_fits (int_at now.flow.items v.link) a (sending_size n now (start_of r) r target at a v.link sound reach h some was known.1.link) (amount_size n (start_of r) r at a sound reach inside some was.room);
+      fits = change_fits (int_at now.flow.items v.link) a (sending_size n now (start_of r) r target at a v.link sound reach h some was known.1.link) (amount_size n (start_of r) r at a sound reach inside some was.capacity);
       sound = sound;
       reach = reach;
       target_in = h;

@@ -1,4 +1,5 @@
-use Rattle.separation_solve.proofs.Sending.{IsSending}
+-- What the loop of `Network::send` keeps.
+use Rattle.separation_solve.proofs.Searches.Sending.{IsSending}
 use Rattle.separation_solve.proofs.network.Network.send.Given as goal
 
 abbrev pub invariant-loop-via : goal.invariant-loop-via

@@ -1,6 +1,7 @@
+-- The block has moved: all links are kept, and the sum of squares has fallen.
 use Rattle.std.proofs.Common.{unsigned_abs, ap, arith, ◌∙◌}
 use Rattle.separation_solve.specs.Reach.{start_of}
-use Rattle.separation_solve.proofs.Shifted.{IsMove, moved, objective-same}
+use Rattle.separation_solve.proofs.Blocks.Shifted.{IsMove, moved, objective-same}
 use Rattle.separation_solve.proofs.network.Network.shift.Goals as goal
 
 pub relist-requires-clause-kept : goal.relist-requires-clause-kept
@@ -12,7 +13,7 @@ relist-requires-clause-kept c =
       not_beyond = c.first_contact-place.ensures.not_beyond;
       best_reduced = c.best_place-best.ensures.aim.reduced;
       mean = c.best_place-best.ensures.mean;
-      room = c.first_contact-place.ensures.room;
+      stays = c.first_contact-place.ensures.stays;
       placed = c.move_block.ensures.placed;
     } in
     (moved c.args.self.now c.move_block.new.self (start_of c.args.block.now) c.args.block.now c.best_place-best.result c.first_contact-place.result move c.move_block.ensures.rest).kept
@@ -26,7 +27,7 @@ returns-clause-falls c =
       not_beyond = c.first_contact-place.ensures.not_beyond;
       best_reduced = c.best_place-best.ensures.aim.reduced;
       mean = c.best_place-best.ensures.mean;
-      room = c.first_contact-place.ensures.room;
+      stays = c.first_contact-place.ensures.stays;
       placed = c.move_block.ensures.placed;
     } in
     let falls = (moved c.args.self.now c.move_block.new.self (start_of c.args.block.now) c.args.block.now c.best_place-best.result c.first_contact-place.result move c.move_block.ensures.rest).falls in

@@ -1,3 +1,4 @@
+-- The goals of `Network::solution` that the check leaves.
 use Rattle.std.proofs.Common.{arith, ap, ◌∙◌, to_z-of_z, ◌≡◌, map, take, drop, length}
 use Rattle.separation_solve.specs.declared.fraction.Fraction.{Fraction}
 use Rattle.separation_solve.proofs.Ending.{flow_long, read_accepted}

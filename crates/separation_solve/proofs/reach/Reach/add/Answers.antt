@@ -1,7 +1,8 @@
+-- The goals of `Reach::add` that the check leaves.
 use Rattle.std.proofs.Common.{◌≡◌, Some, None, length, arith, ap, set}
 use Rattle.std.proofs.lemmas.List.{get_or_read}
 use Rattle.separation_solve.specs.Reach.{found_at, start_of}
-use Rattle.separation_solve.proofs.Reaches.{not_found_is, reach_added}
+use Rattle.separation_solve.proofs.Searches.Reaches.{not_found_is, reach_added}
 use Rattle.separation_solve.proofs.reach.Reach.add.Goals as goal
 
 pub returns-in_ok-push-clause-reach : goal.returns-in_ok-push-clause-reach

@@ -1,10 +1,11 @@
+-- The goals of `Reach::begin` that the check leaves.
 use Rattle.std.proofs.Common.{◌<◌, ◌++◌, ◌∷◌, [], Some, None, length, set, replicate, arith, refl, ap, ◌∙◌, to_z, of_z, to_z-of_z, pos, ◌-ℤ◌}
 use mir.Syntax.{w128}
 use Rattle.std.proofs.lemmas.List.{get_or_read}
-use Rattle.separation_solve.specs.Bundle.{int_at}
+use Rattle.separation_model.specs.Bundle.{int_at}
 use Rattle.separation_solve.specs.declared.reach.Step.{Step}
-use Rattle.separation_solve.proofs.Spots.{cast_is}
-use Rattle.separation_solve.proofs.Searching.{excess_fits, reach_new, short_fits}
+use Rattle.separation_solve.proofs.LightFractions.Spots.{cast_is}
+use Rattle.separation_solve.proofs.Searches.Searching.{excess_fits, reach_new, short_fits}
 use Rattle.separation_solve.proofs.reach.Reach.begin.Goals as goal
 
 pub overflow_sub-index : goal.overflow_sub-index
@@ -20,7 +21,7 @@ returns c =
     let sound = c.requires.sound in
     let inside : c.args.start < length n.excess.items = omega (arith, c.requires.item, sound.frame.excess) in
     let e = cast_is w128 c.index.result.now (int_at n.excess.items c.args.start) (get_or_read n.excess.items c.args.start c.index.result.now inside c.index.ensures (pos 0)) (excess_fits n c.args.start sound) in
-    let room = ap (λ z. to_z w128 (of_z w128 (pos 0 -ℤ z))) e ∙ to_z-of_z (short_fits n c.args.start sound) in
-    let first : Step = record { node = c.args.start; via = None; offset = pos 0; room = to_z w128 (of_z w128 (pos 0 -ℤ to_z w128 (of_z w128 c.index.result.now))) } in
-    reach_new n c.args.start _ first sound c.requires.item c.requires.short refl refl refl room (c.in_ok-push.ensures.items ∙ ap (λ l. l ++ first ∷ []) c.clear.ensures.steps)
+    let capacity = ap (λ z. to_z w128 (of_z w128 (pos 0 -ℤ z))) e ∙ to_z-of_z (short_fits n c.args.start sound) in
+    let first : Step = record { node = c.args.start; via = None; offset = pos 0; capacity = to_z w128 (of_z w128 (pos 0 -ℤ to_z w128 (of_z w128 c.index.result.now))) } in
+    reach_new n c.args.start _ first sound c.requires.item c.requires.short refl refl refl capacity (c.in_ok-push.ensures.items ∙ ap (λ l. l ++ first ∷ []) c.clear.ensures.steps)
     (ap (λ l. set l c.args.start (Some 0)) (c.clear.ensures.found ∙ ap (λ k. replicate k None) c.requires.table.nodes))

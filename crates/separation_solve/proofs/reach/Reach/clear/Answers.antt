@@ -1,5 +1,6 @@
+-- The goals of `Reach::clear` that the check leaves.
 use Rattle.std.proofs.Common.{arith}
-use Rattle.separation_solve.proofs.Searching.{cleared}
+use Rattle.separation_solve.proofs.Searches.Searching.{cleared}
 use Rattle.separation_solve.proofs.reach.Reach.clear.Goals as goal
 
 pub returns-clause-found : goal.returns-clause-found

@@ -1,4 +1,5 @@
-use Rattle.separation_solve.proofs.Searching.{IsClearing}
+-- What the loop of `Reach::clear` keeps.
+use Rattle.separation_solve.proofs.Searches.Searching.{IsClearing}
 use Rattle.separation_solve.proofs.reach.Reach.clear.Given as goal
 
 abbrev pub invariant-loop-index : goal.invariant-loop-index

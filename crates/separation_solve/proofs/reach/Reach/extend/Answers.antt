@@ -1,3 +1,4 @@
+-- Each listed link adds its lead, or has none.
 use Rattle.std.proofs.Common.{All, ◌≡◌, ℕ, ◌<◌, ◌≤◌, length, get_or, arith, sym, ap, subst}
 use Rattle.std.proofs.lemmas.List.Elements.{All-get_or}
 use Rattle.separation_solve.specs.declared.network.Network.{Network}
@@ -5,8 +6,8 @@ use Rattle.separation_solve.specs.declared.reach.Reach.{Reach}
 use Rattle.separation_solve.specs.declared.reach.Step.{Step}
 use Rattle.separation_solve.specs.Network.{IsSound, IsTightAt, items_of}
 use Rattle.separation_solve.specs.Reach.{AddsLeads, IsLead, IsReach, IsStep, start_of, step_at}
-use Rattle.separation_solve.proofs.Extending.{added_here, adds_more, all_added, following, keeps_all, keeps_itself, listed_tight, old_start, own_start}
-use Rattle.separation_solve.proofs.Reaches.{step_read}
+use Rattle.separation_solve.proofs.Searches.Extending.{added_here, adds_more, all_added, following, keeps_all, keeps_itself, listed_tight, old_start, own_start}
+use Rattle.separation_solve.proofs.Searches.Reaches.{step_read}
 use Rattle.separation_solve.proofs.reach.Reach.extend.Goals as goal
 use Rattle.separation_solve.proofs.reach.Reach.extend.Goals.{in-Some+in_ok-add, in_default}
 

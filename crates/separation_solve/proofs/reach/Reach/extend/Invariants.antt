@@ -1,3 +1,4 @@
+-- What the loop of `Reach::extend` keeps.
 use Rattle.std.proofs.Common.{ℕ, ◌<◌, get_or, IsSome}
 use Rattle.separation_solve.specs.Reach.{IsLead, IsReach, KeepsSteps, found_at, start_of}
 use Rattle.separation_solve.proofs.reach.Reach.extend.Given as goal

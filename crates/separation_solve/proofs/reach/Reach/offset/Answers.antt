@@ -1,3 +1,4 @@
+-- The goals of `Reach::offset` that the check leaves.
 use Rattle.std.proofs.Common.{◌<◌, length, None, sym, ◌∙◌, arith}
 use Rattle.std.proofs.lemmas.List.{get_or_read}
 use Rattle.separation_solve.proofs.reach.Reach.offset.Goals as goal

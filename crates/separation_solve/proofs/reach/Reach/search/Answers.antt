@@ -1,8 +1,9 @@
+-- The search ends at a step that takes flow, or the steps are a block.
 use Rattle.std.proofs.Common.{◌<◌, ◌≤◌, length, arith, sym, ap, ◌∙◌, subst, true≢false}
 use Rattle.separation_solve.specs.Network.{items_of}
 use Rattle.separation_solve.specs.Reach.{IsReach, TakesFlow, start_of, step_at}
-use Rattle.separation_solve.proofs.Extending.{block_of, closed_more, takes_more}
-use Rattle.separation_solve.proofs.Reaches.{step_read}
+use Rattle.separation_solve.proofs.Searches.Extending.{block_of, closed_more, takes_more}
+use Rattle.separation_solve.proofs.Searches.Reaches.{step_read}
 use Rattle.separation_solve.proofs.reach.Reach.search.Goals as goal
 
 pub takes_flow-requires-clause-node : goal.takes_flow-requires-clause-node

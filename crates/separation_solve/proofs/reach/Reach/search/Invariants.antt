@@ -1,3 +1,4 @@
+-- What the loop of `Reach::search` keeps.
 use Rattle.std.proofs.Common.{ℕ, ◌<◌, ◌≤◌, ◌-◌, length}
 use Rattle.separation_solve.specs.Reach.{AddsLeads, IsReach, TakesFlow, step_at}
 use Rattle.separation_solve.proofs.reach.Reach.search.Given as goal

@@ -1,0 +1,7 @@
+-- Sums, products and the order of whole numbers, and lists put in order: nothing here knows of bundles.
+pub mod Ring
+pub mod Order
+pub mod Sums
+pub mod Exchange
+pub mod Sorting
+pub mod Bits

@@ -1,0 +1,8 @@
+-- The laws of least positions: multipliers show them, there is one list of them at most, and there is one.
+pub mod Positions
+pub mod Duality
+pub mod Certificates
+pub mod Middle
+pub mod Projection
+pub mod Nearest
+pub mod Existence

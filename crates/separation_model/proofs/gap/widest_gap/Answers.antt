@@ -1,0 +1,33 @@
+-- Between a gap that is met and one from which on none is.
+use Rattle.std.proofs.Common.{pos, arith, refl, to_z, of_z}
+use Rattle.std.specs.Int.{w64}
+use Rattle.std.proofs.lemmas.Bool.Decides.{when_true, when_false}
+use Rattle.separation_model.specs.Gap.{HasRoom}
+use Rattle.separation_model.specs.Latest.{HasNoRoom}
+use Rattle.std.proofs.lemmas.Int.{ints}
+use Rattle.separation_model.proofs.Gaps.Widest.{between_none, between_met, between_unmet, between_all}
+use Rattle.separation_model.proofs.gap.widest_gap.Goals as goal
+
+pub loop-met-init : goal.loop-met-init
+loop-met-init c = between_none c.args.bundle.now (pos 0) _ c.requires refl (omega (arith, ints, c.requires.wanted_low, c.requires.wanted_high))
+
+pub loop-met-preserved-then-branch : goal.loop-met-preserved-then-branch
+loop-met-preserved-then-branch c =
+    let inv = c.loop-met.invariant in
+    let b = c.args.bundle.now in
+    let half = c.halfway-middle.ensures in
+    let middle = to_z w64 (of_z w64 c.halfway-middle.result) in
+    between_met b _ _ middle inv (omega (arith, ints, half.low, half.high, inv.low, inv.high, c.requires.wanted_high)) (omega (arith, ints, half.low, half.high, inv.low, inv.high, c.requires.wanted_high))
+    (when_true (HasRoom b middle) (HasNoRoom b middle) c.if-branch.true c.in_ok-has_room.ensures)
+
+pub loop-met-preserved : goal.loop-met-preserved
+loop-met-preserved c =
+    let inv = c.loop-met.invariant in
+    let b = c.args.bundle.now in
+    let half = c.halfway-middle.ensures in
+    let middle = to_z w64 (of_z w64 c.halfway-middle.result) in
+    between_unmet b _ _ middle inv (omega (arith, ints, half.low, half.high, inv.low, inv.high, c.requires.wanted_high)) (omega (arith, ints, half.low, half.high, inv.low, inv.high, c.requires.wanted_high))
+    (when_false (HasRoom b middle) (HasNoRoom b middle) c.if-branch.false c.in_ok-has_room.ensures)
+
+pub returns : goal.returns
+returns c = let inv = c.loop-met.invariant in between_all c.args.bundle.now _ _ inv (omega (arith, ints, c.loop-met-test.false, inv.low, inv.apart, inv.high, c.requires.wanted_high))

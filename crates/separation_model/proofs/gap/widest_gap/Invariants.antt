@@ -1,0 +1,11 @@
+-- What the loop of `widest_gap` keeps.
+use Rattle.std.proofs.Common.{◌-ℤ◌}
+use Rattle.std.specs.Prelude.{unsigned_abs}
+use Rattle.separation_model.proofs.Gaps.Widest.{IsBetween}
+use Rattle.separation_model.proofs.gap.widest_gap.Given as goal
+
+abbrev pub invariant-loop-met : goal.invariant-loop-met
+invariant-loop-met l = IsBetween l.bundle l.met l.unmet
+
+abbrev pub decreases-loop-met : goal.decreases-loop-met
+decreases-loop-met l = unsigned_abs (l.unmet -ℤ l.met)

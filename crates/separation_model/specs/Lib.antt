@@ -1,0 +1,10 @@
+-- The definitions that contracts cite, and those of private parts.
+pub mod Sum
+pub mod Apart
+pub mod Bundle
+pub mod Gap
+pub mod Least
+pub mod Certified
+pub mod Rounded
+pub mod Latest
+pub mod Checked

@@ -1,0 +1,101 @@
+//! Bundles and solutions: what is handed in, and what is answered.
+
+ghost use Rattle.std.specs.Prelude.{◌≡◌};
+ghost use Rattle.separation_model.specs.Bundle.{asked};
+
+use crate::position::{Position, rounded_down};
+
+/// The most items that a bundle may have. The law `most_items_is_the_bound` says that it is the definitions' number.
+pub const MOST_ITEMS: usize = 850_000_000;
+
+/// Something that wants to stand at `want` and has to stand from `lo` to `hi`, all in thousandths of a GML unit.
+///
+/// The limits are on the sheet, and the want is within them. The weight, from 1 to 4, counts its squared displacement
+/// so many times.
+#[derive(Clone, Copy, Debug, PartialEq, Eq)]
+pub struct Item {
+    pub want: i64,
+    pub lo: i64,
+    pub hi: i64,
+    pub weight: u32,
+}
+
+/// The left item stays before the right one: by the gap at least where the rule is spaced, else by nothing.
+///
+/// Items are named by their indices in the bundle, from 0. A rule goes forward: `left` is below `right`, and `right`
+/// is an item of the bundle, which wants to stand at the left one's want or to the right of it.
+#[derive(Clone, Copy, Debug, PartialEq, Eq)]
+pub struct Rule {
+    pub left: u32,
+    pub right: u32,
+    pub spaced: bool,
+}
+
+impl Rule {
+    /// How far apart the rule asks its items to stand, for a gap.
+    pub fn asked(&self, gap: i64) -> i64
+        ensures { result ≡ asked gap self.now }
+    {
+        if self.spaced { gap } else { 0 }
+    }
+}
+
+/// Items that rules join, and the gap that they want, from 0 to 1,000,000 thousandths.
+///
+/// There are at most 850,000,000 items (`MOST_ITEMS`), each as `Item` says, and any number of rules, each as `Rule`
+/// says. All calls ask for these conditions.
+#[derive(Debug, PartialEq, Eq, Drop)]
+pub struct Bundle {
+    pub items: Vec<Item>,
+    pub rules: Vec<Rule>,
+    pub wanted: i64,
+}
+
+/// Positions of a bundle's items for a gap, with the multipliers of its rules and limits.
+///
+/// The item at an index stands at `pos / den` thousandths. `mult` has the multipliers of the rules, in their order, and
+/// `low` and `high` those of the items' limits.
+/// A multiplier of a limit is a numerator over the item's `den`, one of a rule over the `den` of both its items.
+#[derive(Debug, PartialEq, Eq, Drop)]
+pub struct Solution {
+    pub gap: i64,
+    pub den: Vec<u64>,
+    pub pos: Vec<i128>,
+    pub mult: Vec<i128>,
+    pub low: Vec<i128>,
+    pub high: Vec<i128>,
+}
+
+impl Solution {
+    ghost use Rattle.std.specs.Prelude.{◌<◌, length, slice_index};
+    ghost use Rattle.plane_geom.specs.Point.{IsCoordinate};
+    ghost use Rattle.separation_model.specs.Bundle.{SolutionIsOnSheet, int_at};
+    ghost use Rattle.separation_model.specs.Rounded.{rounded_down};
+
+    /// Where the item stands.
+    pub(crate) fn position(&self, item: usize) -> Position
+        requires den { item < length self.now.den.items }
+        requires pos { item < length self.now.pos.items }
+        ensures pos { result.pos ≡ int_at self.now.pos.items item }
+        ensures den { result.den ≡ slice_index self.now.den.items item }
+    {
+        Position {
+            pos: self.pos[item],
+            den: self.den[item],
+        }
+    }
+
+    /// The item's position in whole thousandths, rounded down, also left of 0.
+    ///
+    /// All positions have to be on the sheet. Those that meet a bundle are (`met_positions_are_on_sheet`).
+    pub fn rounded_down(&self, item: usize) -> i64
+        requires item { item < length self.now.pos.items }
+        requires on_sheet { SolutionIsOnSheet self.now }
+        ensures value { result ≡
+            rounded_down (int_at self.now.pos.items item) (slice_index self.now.den.items item) }
+        ensures coordinate { IsCoordinate result }
+    {
+        let position = self.position(item);
+        rounded_down(position.pos, position.den)
+    }
+}

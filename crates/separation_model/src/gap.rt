@@ -1,0 +1,59 @@
+//! The widest gap of a bundle, by bisection.
+
+ghost use Rattle.std.specs.Prelude.{pos, ◌+ℤ◌, ◌≤ℤ◌, ◌<ℤ◌, IfOk};
+ghost use Rattle.std.specs.Bool.{MatchBool};
+ghost use Rattle.std.specs.List.Sorted.{IsNonDecreasingBy, IsPermutation};
+ghost use Rattle.separation_model.specs.Bundle.{IsBundle, IsGapUpTo};
+ghost use Rattle.separation_model.specs.Gap.{HasRoom, IsWidestGap};
+ghost use Rattle.separation_model.specs.Latest.{HasNoRoom};
+
+use crate::bundle::{Bundle, Rule};
+use crate::latest::{latest_positions, rules_by_left};
+use std::alloc::{AllocError, Global};
+
+/// Whether some positions meet the bundle with the gap. The rules are handed in by their left items.
+fn has_room(alloc: Global, bundle: &Bundle, by_left: &[Rule], gap: i64) -> Result<bool, AllocError>
+    requires bundle { IsBundle bundle.now }
+    requires same { IsPermutation bundle.now.rules.items by_left.now }
+    requires sorted { IsNonDecreasingBy (λ rule. rule.left) by_left.now }
+    requires gap { IsGapUpTo (pos 1000000) gap }
+    ensures { IfOk result (λ met. MatchBool met (HasRoom bundle.now gap) (HasNoRoom bundle.now gap)) }
+{
+    match latest_positions(alloc, bundle, by_left, gap)? {
+        Some(_) => Ok(true),
+        None => Ok(false),
+    }
+}
+
+/// A gap between the two, as far from the one as from the other.
+fn halfway(met: i64, unmet: i64) -> i64
+    requires low { pos 0 ≤ℤ met }
+    requires apart { (met +ℤ pos 1) <ℤ unmet }
+    requires high { unmet ≤ℤ pos 1000001 }
+    ensures low { met <ℤ result }
+    ensures high { result <ℤ unmet }
+{
+    met + (unmet - met) / 2
+}
+
+/// The largest gap, in whole thousandths from 0 to the wanted one, for which some positions meet all rules and limits.
+///
+/// By bisection: at most twenty passes over items and rules, and the rules are sorted once. The only error is want of
+/// memory.
+pub fn widest_gap(alloc: Global, bundle: &Bundle) -> Result<i64, AllocError>
+    requires { IsBundle bundle.now }
+    ensures { IfOk result (IsWidestGap bundle.now) }
+{
+    let by_left = rules_by_left(alloc, &bundle.rules)?;
+    let mut met = 0;
+    let mut unmet = bundle.wanted + 1;
+    while met + 1 < unmet {
+        let middle = halfway(met, unmet);
+        if has_room(alloc, bundle, &by_left, middle)? {
+            met = middle;
+        } else {
+            unmet = middle;
+        }
+    }
+    Ok(met)
+}

@@ -1,0 +1,72 @@
+//! The laws of the definitions, as functions with no body: a caller cites one by a call.
+
+ghost use Rattle.std.specs.Prelude.{◌≡◌, ◌↔◌, ℕ, ◌<◌, ℤ, ◌*ℤ◌, pos, List, EachIndex, length, replicate, slice_index};
+ghost use Rattle.separation_model.specs.declared.bundle.TheConstants.{MOST_ITEMS};
+ghost use Rattle.separation_model.specs.declared.bundle.Bundle.{Bundle};
+ghost use Rattle.separation_model.specs.declared.bundle.Solution.{Solution};
+ghost use Rattle.separation_model.specs.Bundle.{IsBundle, Meets, SolutionIsOnSheet, int_at, most_items};
+ghost use Rattle.separation_model.specs.Gap.{IsGap, IsWidestGap};
+ghost use Rattle.separation_model.specs.Least.{IsLeast};
+ghost use Rattle.separation_model.specs.Certified.{IsCertified};
+ghost use Rattle.separation_model.specs.Rounded.{IsRoundedDown, all_rounded_down, rounded_down};
+
+/// Each bundle has one widest gap.
+pub fn one_widest_gap()
+    ensures some { (b : Bundle) → IsBundle b → (gap : ℤ) × IsWidestGap b gap }
+    ensures one { (b : Bundle) (gap other : ℤ) →
+        IsWidestGap b gap → IsWidestGap b other → gap ≡ other }
+{}
+
+/// Multipliers show positions to be least: by weak duality, no other positions have a lower sum.
+pub fn certified_is_least()
+    ensures { (b : Bundle) (s : Solution) → IsBundle b → IsCertified b s →
+        IsLeast b s.gap s.den.items s.pos.items }
+{}
+
+/// Of a bundle and a gap there is at most one list of least fractions.
+pub fn one_least()
+    ensures { (b : Bundle) (gap : ℤ) (den other_den : List ℕ) (nums other : List ℤ) →
+        IsBundle b → IsLeast b gap den nums → IsLeast b gap other_den other →
+        EachIndex nums (λ i. (int_at nums i *ℤ pos (slice_index other_den i))
+        ≡ (int_at other i *ℤ pos (slice_index den i))) }
+{}
+
+/// For each gap from 0 to the widest one there are least positions.
+pub fn least_positions_exist()
+    ensures { (b : Bundle) (gap : ℤ) → IsBundle b → IsGap b gap →
+        (den : List ℕ) × (nums : List ℤ) × IsLeast b gap den nums }
+{}
+
+/// Positions that meet a bundle stand on the sheet.
+pub fn met_positions_are_on_sheet()
+    ensures { (b : Bundle) (gap : ℤ) (s : Solution) → IsBundle b →
+        Meets b gap s.den.items s.pos.items → SolutionIsOnSheet s }
+{}
+
+/// A position has one whole coordinate that is not above it while the next one is.
+pub fn rounded_down_is_below()
+    ensures { (num whole : ℤ) (den : ℕ) → 0 < den →
+        IsRoundedDown num den whole ↔ (whole ≡ rounded_down num den) }
+{}
+
+/// Rounding down keeps whole limits and whole gaps: where positions meet a bundle, so do the coordinates next below.
+pub fn rounded_down_meets()
+    ensures { (b : Bundle) (gap : ℤ) (den : List ℕ) (nums : List ℤ) → IsBundle b →
+        Meets b gap den nums →
+        Meets b gap (replicate (length b.items.items) 1) (all_rounded_down den nums) }
+{}
+
+/// Equal fractions have one rounding, and so have all least positions of a bundle and a gap.
+pub fn one_rounded()
+    ensures fractions { (num other : ℤ) (den other_den : ℕ) → 0 < den → 0 < other_den →
+        (num *ℤ pos other_den) ≡ (other *ℤ pos den) →
+        rounded_down num den ≡ rounded_down other other_den }
+    ensures least { (b : Bundle) (gap : ℤ) (den other_den : List ℕ) (nums other : List ℤ) →
+        IsBundle b → IsLeast b gap den nums → IsLeast b gap other_den other →
+        all_rounded_down den nums ≡ all_rounded_down other_den other }
+{}
+
+/// `MOST_ITEMS` is the number that bundles are bounded by.
+pub fn most_items_is_the_bound()
+    ensures { MOST_ITEMS ≡ most_items }
+{}

@@ -1,6 +1,0 @@
-use Rattle.std.proofs.Common.{ℕ, ◌<◌}
-use Rattle.separation_solve.specs.Checked.{KeepsRuleAt}
-use Rattle.separation_solve.proofs.certificate.keeps_rules.Given as goal
-
-abbrev pub invariant-loop-j : goal.invariant-loop-j
-invariant-loop-j l = (k : ℕ) → k < l.j → KeepsRuleAt l.bundle l.solution k

@@ -1,7 +1,0 @@
-use Rattle.std.proofs.Common.{rules}
-use Rattle.std.proofs.lemmas.List.Sorted.{IsNonDecreasingBy-from_sort_by_key}
-use Rattle.separation_solve.specs.declared.bundle.Rule.{Rule}
-use Rattle.separation_solve.proofs.latest.rules_by_left.Goals as goal
-
-pub returns-clause-sorted : goal.returns-clause-sorted
-returns-clause-sorted c = IsNonDecreasingBy-from_sort_by_key (λ (r : Rule). r.left) _ c.sort_unstable_by_key.ensures.sorted (λ a r q k. search rules)
