@@ -13,7 +13,7 @@ use Rattle.plane_geom.specs.declared.point.Way.TheVariants.{Vertical, Horizontal
 use Rattle.plane_geom.specs.declared.floor.Line.{Line}
 use Rattle.plane_geom.specs.Floor.{Holds}
 use Rattle.line_arena.specs.declared.lists.Lists.{Lists}
-use Rattle.line_arena.specs.Along.{reach, rising, way_of}
+use Rattle.plane_geom.specs.Along.{reach, rising, way_of}
 use Rattle.line_arena.specs.Arena as seen
 use Rattle.line_arena.specs.Arena.{Arena, counted, IsArena, IsFirst, IsNearest, IsOn, LiesFurther, Meet, Pair, StandsAt}
 use Rattle.line_arena.specs.Lists.{AreLinked, AreLists, AreMet, IsNext, IsSound, Spot, Stands, UpdatesAt, line_along, line_at, spot_at, spot_of}

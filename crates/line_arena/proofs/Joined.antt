@@ -13,7 +13,7 @@ use Rattle.line_arena.specs.declared.lists.Lists.{Lists}
 use Rattle.line_arena.specs.declared.node.Node.{Node}
 use Rattle.line_arena.specs.Keyed.{entry_at}
 use Rattle.line_arena.specs.Node.{line_of, next_of}
-use Rattle.line_arena.specs.Along.{reach, way_of}
+use Rattle.plane_geom.specs.Along.{reach, way_of}
 use Rattle.line_arena.specs.Lists.{AreApart, AreLinked, IsNext, IsPast, KnowsNeighbours, Relinks, RunsAlong, Spot, Stands, line_along, line_at, link, spot_at, spot_of, without}
 use Rattle.line_arena.proofs.Nearest.{IsPrevious, int_apart, next_after_removal, next_is, next_is_put, next_kept_at_put, next_kept_at_removal, next_same}
 use Rattle.line_arena.proofs.Linked.{alone, grows, is_other, kept_in, kept_out, line_along-opposite, none_there, on_other, own, own_place, previous_of_next, same_spot, without_other, without_some}

@@ -3,7 +3,7 @@ use Rattle.std.proofs.Common.{◌≢◌, ℕ, Option, Some, None, sym, subst, �
 use Rattle.plane_geom.specs.declared.point.Dir.{Dir}
 use Rattle.plane_geom.specs.declared.point.Dir.TheVariants.{East, South, West, North}
 use Rattle.line_arena.specs.declared.lists.Lists.{Lists}
-use Rattle.line_arena.specs.Along.{reach}
+use Rattle.plane_geom.specs.Along.{reach}
 use Rattle.line_arena.specs.Lists.{AreApart, AreLinked, IsNext, KnowsNeighbours, SameDirection, SameLinks, SamePlaces, Spot, Stands, line_along, link, spot_at, without}
 use Rattle.line_arena.proofs.Joined.{spots_are}
 

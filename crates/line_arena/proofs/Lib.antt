@@ -8,4 +8,5 @@ pub mod Walk
 pub mod Put
 pub mod Seen
 pub mod ArenaLemmas
-pub mod GridLines
+pub mod ArenaLaws
+pub mod Fixtures

@@ -6,7 +6,7 @@ use Rattle.plane_geom.specs.declared.point.Point.{Point}
 use Rattle.plane_geom.specs.declared.point.Dir.{Dir}
 use Rattle.plane_geom.specs.declared.point.Dir.TheVariants.{East, South, West, North}
 use Rattle.plane_geom.specs.Point.{opposite}
-use Rattle.line_arena.specs.Along.{reach}
+use Rattle.plane_geom.specs.Along.{reach}
 use Rattle.line_arena.specs.Lists.{AreApart, IsNext, Spot, Stands, line_along, without}
 use Rattle.line_arena.proofs.Nearest.{IsPrevious}
 

@@ -16,7 +16,7 @@ use Rattle.line_arena.specs.declared.lists.Lists.{Lists}
 use Rattle.line_arena.specs.declared.node.Node.{Node}
 use Rattle.line_arena.specs.Keyed.{entry_at}
 use Rattle.line_arena.specs.Node.{next_of, start_of}
-use Rattle.line_arena.specs.Along.{reach, way_of}
+use Rattle.plane_geom.specs.Along.{reach, way_of}
 use Rattle.line_arena.specs.Lists.{AreApart, AreLinked, AreLists, AreMet, IsApart, IsNext, IsSound, IsSpot, KnowsNeighbours, SamePlaces, Spot, Stands, UpdatesAt, line_along, line_at, link, spot_at, spot_of, without}
 use Rattle.line_arena.proofs.Nearest.{next_kept_at_removal}
 use Rattle.line_arena.proofs.Linked.{kept_in, kept_out, own_place, same_spot, without_itself, without_other, without_some}

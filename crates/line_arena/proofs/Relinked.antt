@@ -11,7 +11,7 @@ use Rattle.plane_geom.specs.declared.floor.Line.{Line}
 use Rattle.line_arena.specs.declared.lists.Lists.{Lists}
 use Rattle.line_arena.specs.declared.node.Ends.{Ends}
 use Rattle.line_arena.specs.declared.node.Node.{Node}
-use Rattle.line_arena.specs.Along.{way_of}
+use Rattle.plane_geom.specs.Along.{way_of}
 use Rattle.line_arena.specs.Keyed.{Keyed, entry_at}
 use Rattle.line_arena.specs.Node.{next_of, start_of, with_next, with_start}
 use Rattle.line_arena.specs.Lists.{Relinks, RunsAlong, line_at, link, spot_of}

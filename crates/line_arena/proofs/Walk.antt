@@ -10,7 +10,7 @@ use Rattle.plane_geom.specs.declared.floor.Line.{Line}
 use Rattle.plane_geom.specs.Point.{opposite}
 use Rattle.line_arena.specs.declared.lists.Lists.{Lists}
 use Rattle.line_arena.specs.declared.node.Node.{Node}
-use Rattle.line_arena.specs.Along.{IsFurther, reach, way_of}
+use Rattle.plane_geom.specs.Along.{IsFurther, reach, way_of}
 use Rattle.line_arena.specs.Keyed.{entry_at}
 use Rattle.line_arena.specs.Node.{next_of}
 use Rattle.line_arena.specs.Lists.{AreLists, IsNext, IsPast, RunsAlong, Spot, Stands, link, spot_at, spot_of}

@@ -10,7 +10,7 @@ use Rattle.plane_geom.specs.declared.point.Way.{Way}
 use Rattle.plane_geom.specs.declared.point.Way.TheVariants.{Vertical, Horizontal}
 use Rattle.plane_geom.specs.declared.floor.Line.{Line}
 use Rattle.plane_geom.specs.Floor.{AreOnOneWholeLine, Holds}
-use Rattle.line_arena.specs.Along.{IsFurther, rising}
+use Rattle.plane_geom.specs.Along.{IsFurther, rising}
 
 -- the two ways as the two answers
 abbrev pub is_vertical : Way → Bool

@@ -1,7 +1,7 @@
-pub mod Along
 pub mod Keyed
 pub mod Node
 pub mod Lists
 pub mod Arena
+pub mod Stands
 pub mod View
-pub mod TestGrid
+pub mod Fixtures

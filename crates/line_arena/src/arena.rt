@@ -1,3 +1,4 @@
+//! The arena: lines and crossings under ids, linked along their lines.
 ghost use Rattle.std.specs.Prelude.{◌≡◌, ◌+◌, ◌-◌, ◌<◌, ◌≤◌, ◌↔◌, ◌≤ℤ◌, ℕ, None, Some, IsNone, IsSome, IfSome, OnOk};
 ghost use Rattle.std.specs.FinMap as map;
 ghost use Rattle.line_arena.specs.Arena.{IsApart, IsArena, IsFirst, IsNearest, IsOn, LiesFurther, Meet, StandsAt, counted};
@@ -37,6 +38,8 @@ impl Model for LineArena {
 impl LineArena {
     /// An arena without lines. Takes no memory.
     pub fn new(alloc: Global) -> LineArena
+        ensures arena { IsArena result }
+        ensures places { result.places ≡ 0 }
         ensures lines { result.lines ≡ map.empty }
         ensures crossings { result.crossings ≡ map.empty }
         ensures spare_lines { result.spare_lines ≡ 0 }
@@ -52,9 +55,17 @@ impl LineArena {
         }
     }
 
+    /// What holds of every arena, for proofs. Does nothing.
+    pub fn laws(&self)
+        ensures { IsArena self.now }
+    {
+        let _ = &self.lists;
+    }
+
     /// Makes room for so many more lines and crossings, so that as many puts take no memory.
     ///
-    /// Lines and crossings stay as they are, and no room is lost, also where memory is wanting.
+    /// Lines and crossings stay as they are, and no room is lost, also where memory is wanting, which is the only
+    /// error. `places` may rise.
     pub fn reserve(&mut self, lines: usize, crossings: usize) -> Result<(), AllocError>
         ensures lines { self.new.lines ≡ self.old.lines }
         ensures crossings { self.new.crossings ≡ self.old.crossings }
@@ -71,7 +82,8 @@ impl LineArena {
 
     /// Puts in a line that shares no point with a line of its way at its coordinate. Takes no memory.
     ///
-    /// `written` rises by one, and stays once it is 2^64 - 1.
+    /// There is a spare place for a line, and `lo` is at most `hi`. `written` rises by one, and stays once it is
+    /// 2^64 - 1.
     pub fn put_line(&mut self, line: Line) -> LineId
         requires spare { 0 < self.old.spare_lines }
         requires ordered { line.lo ≤ℤ line.hi }
@@ -82,6 +94,7 @@ impl LineArena {
           spare_lines = self.old.spare_lines - 1;
           written = counted self.old.written;
         } }
+        ensures arena { IsArena self.new }
     {
         self.written = self.written.saturating_add(1);
         self.lists.put_line(line)
@@ -89,7 +102,7 @@ impl LineArena {
 
     /// Puts in the crossing of a vertical and a horizontal line that meet. Takes no memory.
     ///
-    /// Takes constant time on average where the crossing goes first or last on each of its lines.
+    /// There is a spare place for a crossing, and none of these two lines is there. Takes constant time on average where the crossing goes first or last on each of its lines.
     /// `written` rises by one, and stays once it is 2^64 - 1.
     pub fn put_crossing(&mut self, vertical: LineId, horizontal: LineId) -> CrossId
         requires spare { 0 < self.old.spare_crossings }
@@ -101,12 +114,13 @@ impl LineArena {
           spare_crossings = self.old.spare_crossings - 1;
           written = counted self.old.written;
         } }
+        ensures arena { IsArena self.new }
     {
         self.written = self.written.saturating_add(1);
         self.lists.put_crossing(vertical, horizontal)
     }
 
-    /// Takes out a crossing. Takes no memory.
+    /// Takes out a crossing that is there. Takes no memory.
     pub fn remove_crossing(&mut self, crossing: CrossId)
         requires live { IsSome (map.get self.old.crossings crossing) }
         ensures after { self.new ≡ record self.old {
@@ -117,7 +131,7 @@ impl LineArena {
         self.lists.remove_crossing(crossing);
     }
 
-    /// Takes out a line without crossings. Takes no memory.
+    /// Takes out a line that is there and has no crossings. Takes no memory.
     pub fn remove_line(&mut self, line: LineId)
         requires live { IsSome (map.get self.old.lines line) }
         requires no_crossings { (c : ℕ) → IsOn self.old line c → ⊥ }
@@ -129,7 +143,7 @@ impl LineArena {
         self.lists.remove_line(line);
     }
 
-    /// The id of the line, in constant time on average.
+    /// The id of the line, in constant time on average. `None` where the line is not there.
     pub fn line_at(&self, line: Line) -> Option<LineId>
         ensures found { IfSome result (λ l. map.get self.now.lines l ≡ Some line) }
         ensures absent { IsNone result ↔ ((l : ℕ) → map.get self.now.lines l ≡ Some line → ⊥) }
@@ -139,7 +153,7 @@ impl LineArena {
         Some(LineId::new(place))
     }
 
-    /// The crossing with the smallest coordinate on the line.
+    /// The crossing with the smallest coordinate on the line, which is there. `None` where it has no crossing.
     pub fn first_on_line(&self, line: LineId) -> Option<CrossId>
         requires live { IsSome (map.get self.now.lines line) }
         ensures first { IfSome result (λ c. IsFirst self.now line c) }
@@ -149,7 +163,7 @@ impl LineArena {
         self.lists.lines.get(line.place()).1.first
     }
 
-    /// The crossing at the point, in constant time on average.
+    /// The crossing at the point, in constant time on average. `None` where no crossing stands there.
     pub fn crossing_at(&self, at: Point) -> Option<CrossId>
         ensures found { IfSome result (λ c. StandsAt self.now c at) }
         ensures absent { IsNone result ↔ ((c : ℕ) → StandsAt self.now c at → ⊥) }
@@ -159,7 +173,7 @@ impl LineArena {
         Some(CrossId::new(place))
     }
 
-    /// The number in the id, below `places`.
+    /// The number in the id of a crossing that is there, below `places`.
     pub fn index(&self, crossing: CrossId) -> usize
         requires live { IsSome (map.get self.now.crossings crossing) }
         ensures number { result ≡ crossing }
@@ -178,6 +192,8 @@ impl LineArena {
     }
 
     /// The nearest crossing further on in the direction, on the line along which it leads. Reads one link.
+    ///
+    /// The crossing is there. `None` where none lies further that way.
     pub fn next_on_line(&self, crossing: CrossId, dir: Dir) -> Option<CrossId>
         requires live { IsSome (map.get self.now.crossings crossing) }
         ensures nearest { IfSome result (λ c. IsNearest self.now dir crossing c) }
@@ -187,7 +203,7 @@ impl LineArena {
         self.lists.crossings.get(crossing.place()).1.next(dir)
     }
 
-    /// Where the crossing stands.
+    /// Where the crossing, which is there, stands. In thousandths.
     pub fn point(&self, crossing: CrossId) -> Point
         requires live { IsSome (map.get self.now.crossings crossing) }
         ensures { StandsAt self.now crossing result }

@@ -1,3 +1,4 @@
+//! Ids of lines and of crossings.
 ghost use Rattle.std.specs.Prelude.{◌≡◌, ℕ};
 
 use std::marker::Model;

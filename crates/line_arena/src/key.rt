@@ -1,3 +1,4 @@
+//! Keys: lines and points, whose equality is that of their values.
 ghost use Rattle.std.specs.Prelude.{◌≡◌, true};
 
 use plane_geom::{Line, Point};

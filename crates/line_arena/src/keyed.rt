@@ -1,4 +1,4 @@
-// Values under ids, each with a key by which it is found.
+//! Values under ids, each with a key by which it is found.
 ghost use Rattle.std.specs.Prelude.{◌≡◌, ◌≢◌, ◌+◌, ◌-◌, ◌<◌, ◌≤◌, ℕ, Some, None, true, false, if◌then◌else◌, [], IfSome, IfNone, OnOk};
 ghost use Rattle.slab.specs.Slab.{Updates, get, slab_len, SameValues};
 ghost use Rattle.indexmap.specs.IndexMap.{index_map_len, spare, get as id_of};

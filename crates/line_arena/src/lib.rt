@@ -7,11 +7,13 @@ mod arena;
 mod id;
 mod key;
 mod keyed;
+mod laws;
 mod lists;
 mod node;
 
 pub use arena::LineArena;
 pub use id::{CrossId, LineId};
+pub use laws::crossings_of_floor;
 
 #[cfg(test)]
 mod tests;

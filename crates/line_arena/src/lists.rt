@@ -1,10 +1,10 @@
-// Lines and crossings, each crossing in the lists of its two lines.
+//! Lines and crossings, each crossing in the lists of its two lines.
 ghost use Rattle.std.specs.Prelude.{◌≡◌, ◌≢◌, ◌+◌, ◌-◌, ◌<◌, ◌≤◌, ◌↔◌, ℕ, ◌≤ℤ◌, Some, None, IsTrue};
 ghost use Rattle.std.specs.Option.{ForSome};
 ghost use Rattle.slab.specs.Slab.{slab_len};
 ghost use Rattle.plane_geom.specs.Point.{opposite};
 ghost use Rattle.plane_geom.specs.declared.point.Dir.{Dir};
-ghost use Rattle.line_arena.specs.Along.{IsFurther, reach};
+ghost use Rattle.plane_geom.specs.Along.{IsFurther, reach};
 ghost use Rattle.line_arena.specs.Keyed.{entry_at};
 
 use crate::id::{CrossId, LineId};

@@ -1,4 +1,4 @@
-// What a line and a crossing know of the lists that they are in.
+//! What a line and a crossing know of the lists that they are in.
 ghost use Rattle.std.specs.Prelude.{◌≡◌};
 ghost use Rattle.line_arena.specs.Node.{line_of, next_of, start_of, with_next, with_start};
 

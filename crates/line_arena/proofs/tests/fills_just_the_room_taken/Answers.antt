@@ -9,7 +9,7 @@ use Rattle.std.proofs.lemmas.Option.{none-some}
 use Rattle.plane_geom.specs.declared.point.Way.TheVariants.{Vertical, Horizontal}
 use Rattle.plane_geom.specs.declared.floor.Line.{Line}
 use Rattle.line_arena.specs.Arena.{Pair}
-use Rattle.line_arena.proofs.GridLines.{in_empty, in_insert}
+use Rattle.line_arena.proofs.Fixtures.{in_empty, in_insert}
 use Rattle.line_arena.proofs.Seen.{tied, untied}
 use Rattle.line_arena.proofs.tests.fills_just_the_room_taken.Goals as goal
 

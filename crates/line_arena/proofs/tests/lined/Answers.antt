@@ -2,7 +2,7 @@ use Rattle.std.proofs.Common.{◌+◌, pos, ◌<ℤ◌, inl, inr, sym, ap, subst
 use Rattle.std.proofs.lemmas.Int.{ints}
 use Rattle.std.specs.FinMap.{get}
 use Rattle.plane_geom.specs.Floor.{AreOnOneWholeLine}
-use Rattle.line_arena.proofs.GridLines.{in_empty, in_insert, not_before, other_ways}
+use Rattle.line_arena.proofs.Fixtures.{in_empty, in_insert, not_before, other_ways}
 use Rattle.line_arena.proofs.tests.lined.Goals as goal
 
 pub loop-at-init : goal.loop-at-init

@@ -2,7 +2,7 @@ use Rattle.std.proofs.Common.{◌≡◌, ◌∙◌, Some, ap, sym, subst}
 use Rattle.std.specs.Prelude.{IfSome, is_some}
 use Rattle.std.specs.FinMap.{get}
 use Rattle.line_arena.specs.Arena.{StandsAt}
-use Rattle.line_arena.proofs.GridLines.{meet_grid, new_grid, stands_same}
+use Rattle.line_arena.proofs.Fixtures.{meet_grid, new_grid, stands_same}
 use Rattle.line_arena.proofs.tests.toggle.Goals as goal
 
 pub put_crossing-requires-clause-meet : goal.put_crossing-requires-clause-meet

@@ -1,7 +1,7 @@
 use Rattle.std.proofs.Common.{◌≡◌, ◌≢◌, ◌∙◌, None, Some, ap, sym, subst}
 use Rattle.std.specs.Prelude.{option_and_then}
 use Rattle.std.specs.Option.{option_map}
-use Rattle.line_arena.specs.Along.{rising}
+use Rattle.plane_geom.specs.Along.{rising}
 use Rattle.line_arena.specs.Keyed.{entry_at}
 use Rattle.line_arena.specs.Node.{start_of}
 use Rattle.line_arena.specs.Lists.{IsNext, Stands, spot_at}

@@ -1,9 +1,9 @@
-use Rattle.std.proofs.Common.{◌≡◌, ◌∙◌, ◌-◌, ap, sym, subst, rules}
+use Rattle.std.proofs.Common.{refl, ◌≡◌, ◌∙◌, ◌-◌, ap, sym, subst, rules}
 use Rattle.std.specs.Option.{option_map}
 use Rattle.std.specs.FinMap.{insert}
 use Rattle.line_arena.specs.Arena.{Pair, counted}
 use Rattle.line_arena.specs.View.{arena_of}
-use Rattle.line_arena.proofs.ArenaLemmas.{after_put_crossing, met_in, pair_at, pair_in, pair_with}
+use Rattle.line_arena.proofs.ArenaLemmas.{is_arena, after_put_crossing, met_in, pair_at, pair_in, pair_with}
 use Rattle.line_arena.proofs.arena.LineArena.put_crossing.Goals as goal
 
 pub put_crossing-requires-clause-meet : goal.put_crossing-requires-clause-meet
@@ -32,3 +32,9 @@ returns-clause-after c =
     let pair : Pair = record { vertical = c.args.vertical; horizontal = c.args.horizontal } in
     subst (λ v. arena_of b u ≡ record v { crossings = insert v.crossings id pair; spare_crossings = v.spare_crossings - 1; written = counted v.written }) c.self.view_is
     (after_put_crossing a b c.self.inside.written e.lines e.line_count e.line_room e.room e.places u id _ e.put.updates e.count (search rules))
+
+pub returns-clause-arena : goal.returns-clause-arena
+returns-clause-arena c =
+    let b = c.put_crossing.new.self in
+    let u = c.saturating_add-self-inside.result in
+    is_arena b u (arena_of b u) refl c.put_crossing.ensures.lists

@@ -1,5 +1,5 @@
 use Rattle.std.proofs.Common.{◌≡◌, ◌<◌, Some, subst, sym}
-use Rattle.line_arena.specs.Along.{IsFurther}
+use Rattle.plane_geom.specs.Along.{IsFurther}
 use Rattle.line_arena.specs.Keyed.{entry_at}
 use Rattle.line_arena.proofs.Walk.{IsComing, before_point, coming_first, coming_more, coming_next, found, found_none, left_at, left_falls, read_next}
 use Rattle.line_arena.proofs.lists.Lists.first_past.Goals as goal

@@ -1,6 +1,6 @@
 use Rattle.std.proofs.Common.{◌∙◌, ℕ, Some, ap, sym, subst}
 use Rattle.plane_geom.specs.Point.{opposite}
-use Rattle.line_arena.specs.Along.{reach}
+use Rattle.plane_geom.specs.Along.{reach}
 use Rattle.line_arena.specs.Lists.{IsNext, Stands, link, spot_at}
 use Rattle.line_arena.proofs.Walk.{across, free_back, opposite-twice, runs_back}
 use Rattle.line_arena.proofs.lists.Lists.neighbours.Goals as goal

@@ -10,7 +10,7 @@ use Rattle.plane_geom.specs.declared.point.Way.TheVariants.{Vertical, Horizontal
 use Rattle.plane_geom.specs.declared.floor.Line.{Line}
 use Rattle.plane_geom.specs.Floor.{AreOnOneWholeLine}
 use Rattle.line_arena.specs.Arena.{Arena, Meet, StandsAt}
-use Rattle.line_arena.specs.TestGrid.{grid_line_of, grid_point_of}
+use Rattle.line_arena.specs.Fixtures.{grid_line_of, grid_point_of}
 
 some_line : (x y : Line) → ◌≡◌ {A = Option Line} (Some x) (Some y) → x ≡ y
 some_line x y e = cc

@@ -1,0 +1,5 @@
+use Rattle.line_arena.proofs.ArenaLaws.{crossings_of_floor}
+use Rattle.line_arena.proofs.laws.crossings_of_floor.Goals as goal
+
+pub returns : goal.returns
+returns c = crossings_of_floor
