@@ -1,0 +1,85 @@
+//! Solids as lines of one way see them.
+ghost use Rattle.std.specs.Prelude.{◌≡◌, ◌≤◌, All, IfOk, length};
+ghost use Rattle.sweep_lines.specs.Bars.{bar_of, bars_of};
+ghost use Rattle.sweep_lines.specs.Open.{AreSpansOf, HasLength, IsCrossed};
+
+use interval_index::{IntervalIndex, Span};
+use plane_geom::{Axis, Floor, Point, Rect};
+use std::alloc::{AllocError, Global};
+
+/// A solid as lines of one way see it: which coordinates it spans across, and where it is along.
+#[derive(Clone, Copy, Debug)]
+pub struct Bar {
+    pub begin: i64,
+    pub end: i64,
+    pub lo: i64,
+    pub hi: i64,
+}
+
+impl Bar {
+    ghost use Rattle.std.specs.Prelude.{IsTrue, ◌↔◌};
+    ghost use Rattle.sweep_lines.specs.Open.{span_of};
+
+    /// Whether the whole line at the coordinate runs through the inside.
+    fn is_crossed(&self, at: i64) -> bool
+        ensures { IsTrue result ↔ IsCrossed at self.now }
+    {
+        self.begin < at && at < self.end
+    }
+
+    /// Where the bar lies along, under a number.
+    fn span(&self, number: u32) -> Span
+        ensures { result ≡ span_of number self.now }
+    {
+        Span {
+            key: number,
+            lo: self.lo,
+            hi: self.hi,
+        }
+    }
+}
+
+/// The solids of the floor as lines of the axis see them, by number.
+pub fn bars<A: Axis>(alloc: Global, floor: &Floor) -> Result<Vec<Bar>, AllocError>
+    ensures { IfOk result (λ v. v.items ≡ bars_of A.way_of floor.now.solids) }
+{
+    let mut bars = Vec::new(alloc);
+    for solid in floor.solids.as_slice() {
+        bars.push(bar_along::<A>(&solid.rect))?;
+    }
+    Ok(bars)
+}
+
+fn bar_along<A: Axis>(rect: &Rect) -> Bar
+    ensures { result ≡ bar_of A.way_of rect.now }
+{
+    let near = Point {
+        x: rect.left,
+        y: rect.top,
+    };
+    let far = Point {
+        x: rect.right,
+        y: rect.bottom,
+    };
+    Bar {
+        begin: A::across(near),
+        end: A::across(far),
+        lo: A::along(near),
+        hi: A::along(far),
+    }
+}
+
+/// The spans of the bars that the whole line at the coordinate crosses, each under the bar's number.
+pub fn crossed(alloc: Global, bars: &[Bar], at: i64) -> Result<IntervalIndex, AllocError>
+    requires few { length bars.now ≤ 256 }
+    requires lengths { All (λ b. HasLength b.lo b.hi) bars.now }
+    ensures { IfOk result (AreSpansOf bars.now (IsCrossed at)) }
+{
+    let mut index = IntervalIndex::new(alloc);
+    for (number, bar) in bars.iter().enumerate() {
+        if bar.is_crossed(at) {
+            index.insert(bar.span(number as u32))?;
+        }
+    }
+    Ok(index)
+}

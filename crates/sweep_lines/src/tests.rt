@@ -1,0 +1,215 @@
+//! The worked rows, one whole line against all, and a floor of many solids.
+ghost use Rattle.std.specs.Prelude.{◌≤◌, All, IfOk, IfSome, OnOk, length};
+ghost use Rattle.plane_geom.specs.Point.{IsCoordinate, PointIsOnSheet};
+ghost use Rattle.plane_geom.specs.Floor.{IsFloor, IsSolid};
+
+use crate::{all_lines, lines_at};
+use plane_geom::{Floor, Line, Point, Points, Rect, SHEET_END, SHEET_START, Solid, Solids, Way};
+use std::alloc::{AllocError, Global};
+use std::test::Fail;
+
+/// Left, top, right and bottom.
+type Sides = (i64, i64, i64, i64);
+
+/// The number, or the end of the sheet that is nearest to it.
+fn on_sheet(z: i64) -> i64
+    ensures { IsCoordinate result }
+{
+    z.max(SHEET_START).min(SHEET_END)
+}
+
+fn solid(sides: Sides) -> Option<Solid>
+    ensures { IfSome result IsSolid }
+{
+    let (left, top) = (on_sheet(sides.0), on_sheet(sides.1));
+    let (right, bottom) = (on_sheet(sides.2), on_sheet(sides.3));
+    let rect = Rect {
+        left,
+        top,
+        right,
+        bottom,
+    };
+    if left < right && top < bottom {
+        Some(Solid { node: 0, rect })
+    } else {
+        None
+    }
+}
+
+fn add_solid(solids: &mut Vec<Solid>, sides: Sides) -> Result<(), AllocError>
+    requires few { length solids.old.items ≤ 256 }
+    requires sound { All IsSolid solids.old.items }
+    ensures few { OnOk result (length solids.new.items ≤ 256) }
+    ensures sound { OnOk result (All IsSolid solids.new.items) }
+{
+    if solids.len() == 256 {
+        return Ok(());
+    }
+    if let Some(solid) = solid(sides) {
+        solids.push(solid)?;
+    }
+    Ok(())
+}
+
+fn add_point(points: &mut Vec<Point>, place: (i64, i64)) -> Result<(), AllocError>
+    requires few { length points.old.items ≤ 256 }
+    requires within { All PointIsOnSheet points.old.items }
+    ensures few { OnOk result (length points.new.items ≤ 256) }
+    ensures within { OnOk result (All PointIsOnSheet points.new.items) }
+{
+    if points.len() == 256 {
+        return Ok(());
+    }
+    let (x, y) = (on_sheet(place.0), on_sheet(place.1));
+    points.push(Point { x, y })?;
+    Ok(())
+}
+
+fn solids(alloc: Global, all: &[Sides]) -> Result<Vec<Solid>, AllocError>
+    ensures few { IfOk result (λ v. length v.items ≤ 256) }
+    ensures sound { IfOk result (λ v. All IsSolid v.items) }
+{
+    let mut solids = Vec::new(alloc);
+    for sides in all {
+        add_solid(&mut solids, *sides)?;
+    }
+    Ok(solids)
+}
+
+fn points(alloc: Global, all: &[(i64, i64)]) -> Result<Vec<Point>, AllocError>
+    ensures few { IfOk result (λ v. length v.items ≤ 256) }
+    ensures within { IfOk result (λ v. All PointIsOnSheet v.items) }
+{
+    let mut points = Vec::new(alloc);
+    for place in all {
+        add_point(&mut points, *place)?;
+    }
+    Ok(points)
+}
+
+/// The first 256 of the solids and of the anchors.
+fn floor(alloc: Global, rects: &[Sides], anchors: &[(i64, i64)]) -> Result<Floor, AllocError>
+    ensures { IfOk result IsFloor }
+{
+    let solids = solids(alloc, rects)?;
+    let anchors = points(alloc, anchors)?;
+    Ok(Floor {
+        solids: Solids(solids),
+        anchors: Points(anchors),
+    })
+}
+
+fn upright(at: i64, lo: i64, hi: i64) -> Line {
+    let way = Way::Vertical;
+    Line { way, at, lo, hi }
+}
+
+fn level(at: i64, lo: i64, hi: i64) -> Line {
+    let way = Way::Horizontal;
+    Line { way, at, lo, hi }
+}
+
+fn kept(alloc: Global, rects: &[Sides], anchors: &[(i64, i64)]) -> Result<Vec<Line>, AllocError> {
+    let floor = floor(alloc, rects, anchors)?;
+    all_lines(alloc, &floor)
+}
+
+#[test]
+fn finds_a_side_without_a_free_corner(rt: HostRuntime) -> Result<(), Fail> {
+    let rects = [
+        (0, 0, 40_000, 100_000),
+        (-40_000, -20_000, 30_000, 60_000),
+        (-50_000, 70_000, 30_000, 120_000),
+    ];
+    let floor = floor(rt.alloc(), &rects, &[])?;
+    let lines = lines_at(rt.alloc(), &floor, Way::Vertical, 0)?;
+    assert_eq!(rt; lines.as_slice(), [upright(0, 60_000, 70_000)].as_slice());
+    assert_eq!(rt; all_lines(rt.alloc(), &floor)?.len(), 12);
+    Ok(())
+}
+
+#[test]
+fn keeps_pieces_for_sides_and_anchors(rt: HostRuntime) -> Result<(), Fail> {
+    let alloc = rt.alloc();
+    let (start, end) = (SHEET_START, SHEET_END);
+    assert!(rt; kept(alloc, &[], &[])?.is_empty());
+    // A corridor of width 0, without an anchor in it and with one.
+    let corridor = [(0, 0, 10, 10), (0, 10, 10, 20)];
+    assert_eq!(rt; kept(alloc, &corridor, &[])?.len(), 5);
+    assert_eq!(rt;
+        kept(alloc, &corridor, &[(5, 10)])?.as_slice(),
+        [
+            upright(0, start, end),
+            upright(5, 10, 10),
+            upright(10, start, end),
+            level(0, start, end),
+            level(10, start, end),
+            level(20, start, end),
+        ]
+        .as_slice()
+    );
+    // Equal solids, one within them, and one that touches them.
+    let rects = [
+        (0, 0, 30, 30),
+        (0, 0, 30, 30),
+        (10, 10, 20, 20),
+        (30, 5, 40, 15),
+    ];
+    assert_eq!(rt;
+        kept(alloc, &rects, &[])?.as_slice(),
+        [
+            upright(0, start, end),
+            upright(30, start, end),
+            upright(40, start, end),
+            level(0, start, end),
+            level(5, 30, end),
+            level(15, 30, end),
+            level(30, start, end),
+        ]
+        .as_slice()
+    );
+    // Anchors inside a solid, on its corner, and at the sheet's corner.
+    assert_eq!(rt;
+        kept(alloc, &[(0, 0, 10, 10)], &[(5, 5), (0, 0), (end, start)])?.as_slice(),
+        [
+            upright(0, start, end),
+            upright(10, start, end),
+            upright(end, start, end),
+            level(start, start, end),
+            level(0, start, end),
+            level(10, start, end),
+        ]
+        .as_slice()
+    );
+    Ok(())
+}
+
+#[test]
+fn finds_on_one_line_what_is_among_all(rt: HostRuntime) -> Result<(), Fail> {
+    // Two solids have sides on one whole line, and a third stands between them.
+    let rects = [(0, 0, 10, 10), (0, 20, 10, 30), (-5, 12, 20, 18)];
+    let floor = floor(rt.alloc(), &rects, &[(5, 11), (7, 40), (3, 15)])?;
+    let mut lines = Vec::new(rt.alloc());
+    for way in [Way::Vertical, Way::Horizontal] {
+        for at in -8..48i16 {
+            for line in lines_at(rt.alloc(), &floor, way, i64::from(at))?.as_slice() {
+                lines.push(*line)?;
+            }
+        }
+    }
+    assert_eq!(rt; all_lines(rt.alloc(), &floor)?.as_slice(), lines.as_slice());
+    assert_eq!(rt; lines.len(), 16);
+    Ok(())
+}
+
+#[test]
+fn sweeps_many_solids(rt: HostRuntime) -> Result<(), Fail> {
+    let mut rects = Vec::new(rt.alloc());
+    for number in 0..256u16 {
+        let (x, y) = (i64::from(number % 16) * 40, i64::from(number / 16) * 30);
+        let (wide, high) = (i64::from(number % 7), i64::from(number % 5));
+        rects.push((x, y, x + 20 + wide, y + 15 + high))?;
+    }
+    assert_eq!(rt; kept(rt.alloc(), rects.as_slice(), &[])?.len(), 489);
+    Ok(())
+}
