@@ -1,0 +1,6 @@
+-- The law `edits_take_back` holds.
+use Rattle.scene_model.proofs.Restoring.{takes_back}
+use Rattle.scene_model.proofs.laws.edits_take_back.Goals as goal
+
+pub returns : goal.returns
+returns c = takes_back

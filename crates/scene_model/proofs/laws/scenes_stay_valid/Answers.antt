@@ -1,0 +1,6 @@
+-- The law `scenes_stay_valid` holds.
+use Rattle.scene_model.proofs.Worlds.{stays_valid}
+use Rattle.scene_model.proofs.laws.scenes_stay_valid.Goals as goal
+
+pub returns : goal.returns
+returns c = stays_valid

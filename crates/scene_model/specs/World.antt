@@ -1,0 +1,99 @@
+-- The world of a session, and what each command makes of it.
+use Rattle.std.specs.Prelude.{◌≡◌, List, [], ◌∷◌, take, Option, None, Some, IfSome, Result, Ok, Err}
+use Rattle.std.specs.List.{AllByRecursion}
+use Rattle.scene_model.specs.declared.fault.SceneFault.{SceneFault}
+use Rattle.scene_model.specs.declared.fault.SessionFault.{SessionFault}
+use Rattle.scene_model.specs.declared.fault.SessionFault.TheVariants as faults
+use Rattle.scene_model.specs.declared.edit.Edit.{Edit as SceneEdit}
+use Rattle.scene_model.specs.declared.edit.Command.{Command}
+use Rattle.scene_model.specs.declared.edit.Command.TheVariants.{Begin, Edit, Commit, Abort, Undo, Redo, Bad}
+use Rattle.scene_model.specs.Scene.{Scene}
+use Rattle.scene_model.specs.Valid.{IsValid}
+use Rattle.scene_model.specs.Edits.{refusal, changed, edited, IsDirected}
+
+-- the scenes behind, the latest first; the present one; those ahead, the next first; the working one of an open transaction
+pub record World : Type 0 where
+  pub past : List Scene
+  pub present : Scene
+  pub future : List Scene
+  pub working : Option Scene
+
+-- nothing was done yet
+abbrev pub opened : Scene → World
+opened s = record { past = []; present = s; future = []; working = None }
+
+-- without its transaction
+abbrev pub given_up : World → World
+given_up w = record w { working = None }
+
+-- why a command is refused
+pub data Refusal : Type 0 where
+  syntax_error : Refusal
+  refused : SessionFault → Refusal
+
+-- the working scene after an edit
+abbrev pub edit_working : World → Result Scene SceneFault → Result World Refusal
+edit_working w (Ok s) = Ok (record w { working = Some s })
+edit_working w (Err fault) = Err (refused (faults.Edit fault))
+
+-- one scene back, one scene on
+abbrev pub back : World → List Scene → Result World Refusal
+back w [] = Err (refused faults.NothingToUndo)
+back w (s ∷ ss) = Ok (record { past = ss; present = s; future = w.present ∷ w.future; working = None })
+
+abbrev pub on : World → List Scene → Result World Refusal
+on w [] = Err (refused faults.NothingToRedo)
+on w (s ∷ ss) = Ok (record { past = w.present ∷ w.past; present = s; future = ss; working = None })
+
+-- what a command makes of the world with this working scene, if it is not refused; 100 scenes at most are kept behind
+abbrev pub taken : Command → Option Scene → World → Result World Refusal
+taken Bad working w = Err syntax_error
+taken Begin None w = Ok (record w { working = Some w.present })
+taken Begin (Some s) w = Err (refused faults.AlreadyOpen)
+taken (Edit e) None w = Err (refused faults.NoTransaction)
+taken (Edit e) (Some s) w = edit_working w (edited e s)
+taken Commit None w = Err (refused faults.NoTransaction)
+taken Commit (Some s) w = Ok (record { past = take 100 (w.present ∷ w.past); present = s; future = []; working = None })
+taken Abort None w = Err (refused faults.NoTransaction)
+taken Abort (Some s) w = Ok (given_up w)
+taken Undo None w = back w w.past
+taken Undo (Some s) w = Err (refused faults.AlreadyOpen)
+taken Redo None w = on w w.future
+taken Redo (Some s) w = Err (refused faults.AlreadyOpen)
+
+-- what a command makes of the world, if it is not refused
+abbrev pub step : Command → World → Result World Refusal
+step c w = taken c w.working w
+
+-- after a refusal no transaction is open, and all else is as before
+abbrev pub or_given_up : World → Result World Refusal → World
+or_given_up w (Ok next) = next
+or_given_up w (Err refusal) = given_up w
+
+-- the world after a command, and after a list of them
+abbrev pub after : Command → World → World
+after c w = or_given_up w (step c w)
+
+abbrev pub played : List Command → World → World
+played [] w = w
+played (c ∷ cs) w = played cs (after c w)
+
+-- what holds of each scene of a world
+pub record Everywhere (P : Scene → Type 0) (w : World) : Type 0 where
+  pub past : AllByRecursion P w.past
+  pub present : P w.present
+  pub future : AllByRecursion P w.future
+  pub working : IfSome w.working P
+
+-- a pin that a command adds leads somewhere, as each of a script does
+abbrev pub IsDirectedCommand : Command → Type 0
+IsDirectedCommand (Edit e) = IsDirected e
+IsDirectedCommand c = Unit {0}
+
+-- what each edit keeps that is not refused
+abbrev pub IsKept : (Scene → Type 0) → Type 0
+IsKept P = (e : SceneEdit) (s : Scene) → IsDirected e → P s → refusal e s ≡ None → P (changed e s)
+
+-- the law: the scenes of a world stay valid
+abbrev pub ScenesStayValid : Type 0
+ScenesStayValid = (cs : List Command) (w : World) → AllByRecursion IsDirectedCommand cs → Everywhere IsValid w → Everywhere IsValid (played cs w)

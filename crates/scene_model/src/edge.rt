@@ -1,0 +1,162 @@
+//! Edges and their checkpoints.
+ghost use Rattle.std.specs.Prelude.{◌≡◌, ◌<◌, ◌≤◌, [], length, insert, remove, IfOk, OnOk, OnErr};
+
+use plane_geom::Point;
+use std::alloc::{AllocError, Global};
+use std::marker::Model;
+
+/// The checkpoints of a connector, in order.
+#[derive(Debug, Drop)]
+pub struct Via(Vec<Point>);
+
+impl Model for Via {
+    ghost use Rattle.std.specs.Prelude.{List};
+    ghost use Rattle.plane_geom.specs.declared.point.Point.{Point};
+
+    ghost Value = { List Point };
+
+    ghost view = { λ v. v.0.items };
+}
+
+impl Via {
+    /// No checkpoint. It takes no memory.
+    pub fn new(alloc: Global) -> Via
+        ensures { result ≡ [] }
+    {
+        Via(Vec::new(alloc))
+    }
+
+    /// These checkpoints. Its only error is want of memory.
+    pub fn from_slice(alloc: Global, points: &[Point]) -> Result<Via, AllocError>
+        ensures { IfOk result (λ v. v ≡ points.now) }
+    {
+        Ok(Via(Vec::from_slice(alloc, points)?))
+    }
+
+    /// The checkpoints, in order.
+    pub fn as_slice(&self) -> &[Point]
+        ensures { result.now ≡ self.now }
+    {
+        &self.0
+    }
+
+    /// The same checkpoints once more. Its only error is want of memory.
+    pub fn copy(&self, alloc: Global) -> Result<Via, AllocError>
+        ensures { IfOk result (λ v. v ≡ self.now) }
+    {
+        Via::from_slice(alloc, &self.0)
+    }
+
+    /// Puts a checkpoint at the place, from 0. Its only error is want of memory, which leaves all as it was.
+    pub fn insert(&mut self, place: usize, point: Point) -> Result<(), AllocError>
+        requires { place ≤ length self.old }
+        ensures ok { OnOk result (self.new ≡ insert self.old place point) }
+        ensures err { OnErr result (self.new ≡ self.old) }
+    {
+        self.0.insert(place, point)?;
+        Ok(())
+    }
+
+    /// Takes out the checkpoint at the place, from 0.
+    pub fn remove(&mut self, place: usize)
+        requires { place < length self.old }
+        ensures { self.new ≡ remove self.old place }
+    {
+        self.0.remove(place);
+    }
+}
+
+/// An edge. It is a loop where its ends are one node, else a connector.
+#[derive(Debug, Drop)]
+pub struct Edge {
+    pub number: u32,
+    pub from: i64,
+    pub to: i64,
+    /// The class of the pins that the end at `from` may use; 0 is the centre.
+    pub from_class: u32,
+    /// The class of the pins that the end at `to` may use; 0 is the centre.
+    pub to_class: u32,
+    pub via: Via,
+    /// The place of the edge's pair in the diagram's graph list, from 0; none where a script added the edge.
+    pub origin: Option<u32>,
+    /// How much a displacement of its runs weighs in nudging, from 1 to 4.
+    pub weight: u32,
+}
+
+impl Edge {
+    /// The same edge once more. Its only error is want of memory.
+    pub fn copy(&self, alloc: Global) -> Result<Edge, AllocError>
+        ensures { IfOk result (λ e. e ≡ self.now) }
+    {
+        Ok(Edge {
+            number: self.number,
+            from: self.from,
+            to: self.to,
+            from_class: self.from_class,
+            to_class: self.to_class,
+            via: self.via.copy(alloc)?,
+            origin: self.origin,
+            weight: self.weight,
+        })
+    }
+}
+
+#[cfg(test)]
+mod tests {
+    use super::*;
+    use crate::node::Node;
+    use crate::pin::{Dirs, Pin, Pins};
+    use std::test::Fail;
+
+    #[test]
+    fn copies_and_changes(rt: HostRuntime) -> Result<(), Fail> {
+        let alloc = rt.alloc();
+        let dirs = Dirs {
+            east: true,
+            south: false,
+            west: false,
+            north: true,
+        };
+        let pin = Pin {
+            class: 7,
+            dx: -3,
+            dy: 4,
+            dirs,
+            cost: 5,
+        };
+        let node = Node {
+            id: i64::MIN,
+            x: 1,
+            y: 2,
+            half_w: 3,
+            half_h: 4,
+            group: true,
+            pins: Pins(vec![in alloc; pin]?),
+            origin: Some(6),
+        };
+        let node = node.copy(alloc)?;
+        assert_eq!(rt; node.id, i64::MIN);
+        assert!(rt; node.group && node.origin == Some(6));
+        assert_eq!(rt; node.pins.as_slice()[0], pin);
+        let points = [Point { x: 1, y: 1 }, Point { x: 2, y: 2 }];
+        let mut via = Via::from_slice(alloc, &points)?;
+        via.insert(1, Point { x: 9, y: 9 })?;
+        via.remove(0);
+        let edge = Edge {
+            number: 8,
+            from: 1,
+            to: 2,
+            from_class: 3,
+            to_class: 4,
+            via,
+            origin: None,
+            weight: 4,
+        };
+        let edge = edge.copy(alloc)?;
+        let left = [Point { x: 9, y: 9 }, Point { x: 2, y: 2 }];
+        assert_eq!(rt; edge.via.as_slice(), left.as_slice());
+        assert!(rt; edge.from == 1 && edge.to == 2 && edge.weight == 4);
+        assert_eq!(rt; Via::new(alloc).as_slice().len(), 0);
+        Ok(())
+    }
+}

@@ -1,0 +1,23 @@
+//! What a scene is made of, what its edits are, and what a scene means for routing.
+//!
+//! Coordinates, lengths and costs are whole thousandths of a GML unit.
+#![tactic(auto)]
+
+mod edge;
+mod edit;
+mod fault;
+mod laws;
+mod node;
+mod pin;
+mod settings;
+
+pub use edge::{Edge, Via};
+pub use edit::{Command, Edit, Edits, Inverse, Inverses};
+pub use fault::{SceneFault, SessionFault};
+pub use laws::{
+    chains_lead_back, edits_keep_valid, edits_take_back, floors_fit, floors_hold_tasks,
+    loads_keep_valid, one_list_of_answers, one_stale_list, scenes_stay_valid,
+};
+pub use node::Node;
+pub use pin::{Dirs, Pin, Pins};
+pub use settings::{Setting, Settings};

@@ -1,0 +1,8 @@
+-- The edit that is handed on is the one that is told.
+use Rattle.std.proofs.Common.{subst, to_z-of_z}
+use Rattle.scene_model.specs.declared.edit.Edit.TheVariants.{DropPin}
+use Rattle.scene_model.specs.Edits.{IsEdited}
+use Rattle.scene_store.proofs.scene.Scene.drop_pin.Goals as goal
+
+pub returns : goal.returns
+returns c = subst (λ e. IsEdited e c.args.self.now c.edit.new.self c.edit.result) (λ i. DropPin (to_z-of_z c.ranges.id i) c.args.place) c.edit.ensures

@@ -1,0 +1,8 @@
+-- The edit that is handed on is the one that is told.
+use Rattle.std.proofs.Common.{subst, to_z-of_z}
+use Rattle.scene_model.specs.declared.edit.Edit.TheVariants.{Set}
+use Rattle.scene_model.specs.Edits.{IsEdited}
+use Rattle.scene_store.proofs.scene.Scene.set.Goals as goal
+
+pub returns : goal.returns
+returns c = subst (λ e. IsEdited e c.args.self.now c.edit.new.self c.edit.result) (λ i. Set c.args.what (to_z-of_z c.ranges.value i)) c.edit.ensures

@@ -1,0 +1,305 @@
+//! What routing sees of a scene: its floor, and the tasks of its connectors.
+ghost use Rattle.std.specs.Prelude.{◌≡◌, ◌^◌, ◌≤◌, ◌+◌, ◌+ℤ◌, ◌-ℤ◌, ◌++◌, [], ◌∷◌, unsigned_abs, map, if◌then◌else◌, IsSome, IsSomeAnd, IfSome, IfOk, OnOk};
+ghost use Rattle.std.specs.List.{flat_map};
+ghost use Rattle.scene_model.specs.Routing.{anchors, buffered_box, centre_pin, choice, choices_of, choices_with, directions, floor_of, pins_of_class, place_of, port, solids, task_of};
+ghost use Rattle.scene_model.specs.Scene.{connectors, edge_with, node_with};
+ghost use Rattle.scene_model.specs.Valid.{AreSettings, IsNode, IsValid};
+
+use crate::parts::Parts;
+use plane_geom::{Dir, Floor, Point, Points, Rect, Solid, Solids};
+use scene_model::{Dirs, Node, Pin, Settings};
+use std::alloc::{AllocError, Global};
+use walk_model::{Choice, Choices, Task};
+
+/// The lesser side of a box with this centre and half size, moved out by the buffer.
+fn low_side(centre: i64, half: i64, buffer: i64) -> i64
+    requires near { unsigned_abs centre + unsigned_abs half ≤ 10 ^ 9 }
+    requires small { unsigned_abs buffer ≤ 10 ^ 6 }
+    ensures { result ≡ (centre -ℤ half) -ℤ buffer }
+{
+    centre - half - buffer
+}
+
+/// The greater side.
+fn high_side(centre: i64, half: i64, buffer: i64) -> i64
+    requires near { unsigned_abs centre + unsigned_abs half ≤ 10 ^ 9 }
+    requires small { unsigned_abs buffer ≤ 10 ^ 6 }
+    ensures { result ≡ (centre +ℤ half) +ℤ buffer }
+{
+    centre + half + buffer
+}
+
+/// The node's box grown by the buffer.
+fn buffered_box(settings: Settings, node: &Node) -> Rect
+    requires settings { AreSettings settings }
+    requires node { IsNode node.now }
+    ensures { result ≡ buffered_box settings.buffer node.now }
+{
+    let buffer = settings.buffer;
+    Rect {
+        left: low_side(node.x, node.half_w, buffer),
+        top: low_side(node.y, node.half_h, buffer),
+        right: high_side(node.x, node.half_w, buffer),
+        bottom: high_side(node.y, node.half_h, buffer),
+    }
+}
+
+/// The coordinate moved by so much.
+fn moved(coordinate: i64, by: i64) -> i64
+    requires near { unsigned_abs coordinate ≤ 10 ^ 9 }
+    requires near_by { unsigned_abs by ≤ 10 ^ 9 }
+    ensures { result ≡ coordinate +ℤ by }
+{
+    coordinate + by
+}
+
+/// Where the pin of the node stands.
+fn place_of(node: &Node, pin: Pin) -> Point
+    requires node { IsNode node.now }
+    requires near_x { unsigned_abs pin.dx ≤ 10 ^ 9 }
+    requires near_y { unsigned_abs pin.dy ≤ 10 ^ 9 }
+    ensures { result ≡ place_of node.now pin }
+{
+    Point {
+        x: moved(node.x, pin.dx),
+        y: moved(node.y, pin.dy),
+    }
+}
+
+/// Where the straight line from the place meets the edge of the rectangle.
+fn port(rect: Rect, place: Point, dir: Dir) -> Point
+    ensures { result ≡ port rect place dir }
+{
+    match dir {
+        Dir::East => Point {
+            x: rect.right,
+            y: place.y,
+        },
+        Dir::South => Point {
+            x: place.x,
+            y: rect.bottom,
+        },
+        Dir::West => Point {
+            x: rect.left,
+            y: place.y,
+        },
+        Dir::North => Point {
+            x: place.x,
+            y: rect.top,
+        },
+    }
+}
+
+/// The pin of class 0.
+fn centre_pin() -> Pin
+    ensures { result ≡ centre_pin }
+{
+    Pin {
+        class: 0,
+        dx: 0,
+        dy: 0,
+        dirs: Dirs {
+            east: true,
+            south: true,
+            west: true,
+            north: true,
+        },
+        cost: 0,
+    }
+}
+
+/// A pin of the node with one of its directions.
+fn choice(settings: Settings, node: &Node, pin: Pin, dir: Dir) -> Choice
+    requires settings { AreSettings settings }
+    requires node { IsNode node.now }
+    requires near_x { unsigned_abs pin.dx ≤ 10 ^ 9 }
+    requires near_y { unsigned_abs pin.dy ≤ 10 ^ 9 }
+    ensures { result ≡ choice settings.buffer node.now pin dir }
+{
+    let place = place_of(node, pin);
+    Choice {
+        node: node.id,
+        pin: place,
+        dir,
+        port: port(buffered_box(settings, node), place, dir),
+        cost: pin.cost.unsigned_abs(),
+    }
+}
+
+/// Puts the choice behind the others, if its direction is set.
+fn push_if(choices: &mut Vec<Choice>, set: bool, choice: Choice) -> Result<(), AllocError>
+    ensures { OnOk result (choices.new.items ≡ choices.old.items ++ (if set then choice ∷ [] else [])) }
+{
+    if set {
+        choices.push(choice)?;
+    }
+    Ok(())
+}
+
+/// Puts the choices of the pin behind the others.
+fn push_choices(
+    settings: Settings,
+    node: &Node,
+    pin: Pin,
+    choices: &mut Vec<Choice>,
+) -> Result<(), AllocError>
+    requires settings { AreSettings settings }
+    requires node { IsNode node.now }
+    requires near_x { unsigned_abs pin.dx ≤ 10 ^ 9 }
+    requires near_y { unsigned_abs pin.dy ≤ 10 ^ 9 }
+    ensures { OnOk result (choices.new.items ≡ choices.old.items ++ map (choice settings.buffer node.now pin) (directions pin.dirs)) }
+{
+    let east = choice(settings, node, pin, Dir::East);
+    let south = choice(settings, node, pin, Dir::South);
+    let west = choice(settings, node, pin, Dir::West);
+    let north = choice(settings, node, pin, Dir::North);
+    push_if(choices, pin.dirs.east, east)?;
+    push_if(choices, pin.dirs.south, south)?;
+    push_if(choices, pin.dirs.west, west)?;
+    push_if(choices, pin.dirs.north, north)?;
+    Ok(())
+}
+
+/// The choices of an end with the class at the node.
+fn choices_of_class(
+    alloc: Global,
+    settings: Settings,
+    node: &Node,
+    class: u32,
+) -> Result<Choices, AllocError>
+    requires settings { AreSettings settings }
+    requires node { IsNode node.now }
+    ensures { IfOk result (λ c. c ≡ choices_of settings.buffer node.now (pins_of_class node.now class)) }
+{
+    let mut choices = Vec::new(alloc);
+    if class == 0 {
+        push_choices(settings, node, centre_pin(), &mut choices)?;
+        return Ok(Choices(choices));
+    }
+    for pin in node.pins.as_slice() {
+        if pin.class == class {
+            push_choices(settings, node, *pin, &mut choices)?;
+        }
+    }
+    Ok(Choices(choices))
+}
+
+/// Puts the choices of all pins of the node behind the others.
+fn push_all_choices(
+    settings: Settings,
+    node: &Node,
+    choices: &mut Vec<Choice>,
+) -> Result<(), AllocError>
+    requires settings { AreSettings settings }
+    requires node { IsNode node.now }
+    ensures { OnOk result (choices.new.items ≡ choices.old.items ++ choices_of settings.buffer node.now (centre_pin ∷ node.now.pins)) }
+{
+    push_choices(settings, node, centre_pin(), choices)?;
+    for pin in node.pins.as_slice() {
+        push_choices(settings, node, *pin, choices)?;
+    }
+    Ok(())
+}
+
+impl Parts {
+    /// The solids, in the order of the nodes.
+    fn solids(&self) -> Result<Solids, AllocError>
+        requires { IsValid self.now }
+        ensures { IfOk result (λ s. s ≡ solids self.now) }
+    {
+        let mut solids = Vec::new(self.alloc);
+        for node in self.nodes.as_slice() {
+            if !node.group {
+                let rect = buffered_box(self.settings, node);
+                solids.push(Solid {
+                    node: node.id,
+                    rect,
+                })?;
+            }
+        }
+        Ok(Solids(solids))
+    }
+
+    /// The choices of all pins, in the order of nodes and pins.
+    fn all_choices(&self) -> Result<Vec<Choice>, AllocError>
+        requires { IsValid self.now }
+        ensures { IfOk result (λ c. c.items ≡ flat_map (λ n. choices_of self.now.settings.buffer n (centre_pin ∷ n.pins)) self.now.nodes) }
+    {
+        let mut choices = Vec::new(self.alloc);
+        for node in self.nodes.as_slice() {
+            push_all_choices(self.settings, node, &mut choices)?;
+        }
+        Ok(choices)
+    }
+
+    /// The ports of all pins, in the order of nodes and pins.
+    fn ports(&self) -> Result<Vec<Point>, AllocError>
+        requires { IsValid self.now }
+        ensures { IfOk result (λ p. p.items ≡ flat_map (λ n. map (λ c. c.port) (choices_of self.now.settings.buffer n (centre_pin ∷ n.pins))) self.now.nodes) }
+    {
+        let choices = self.all_choices()?;
+        let mut ports = Vec::with_capacity(self.alloc, choices.len())?;
+        for choice in &choices {
+            ports.push(choice.port)?;
+        }
+        Ok(ports)
+    }
+
+    /// Puts the checkpoints of all connectors behind the other points.
+    fn push_checkpoints(&self, points: &mut Vec<Point>) -> Result<(), AllocError>
+        ensures { OnOk result (points.new.items ≡ points.old.items ++ flat_map (λ e. e.via) (connectors self.now)) }
+    {
+        for edge in self.edges.as_slice() {
+            if edge.from != edge.to {
+                points.extend_from_slice(edge.via.as_slice())?;
+            }
+        }
+        Ok(())
+    }
+
+    /// The ports of all pins, and then the checkpoints of all connectors.
+    fn anchors(&self) -> Result<Points, AllocError>
+        requires { IsValid self.now }
+        ensures { IfOk result (λ p. p ≡ anchors self.now) }
+    {
+        let mut anchors = self.ports()?;
+        self.push_checkpoints(&mut anchors)?;
+        Ok(Points(anchors))
+    }
+
+    /// The floor of the scene.
+    pub(crate) fn floor(&self) -> Result<Floor, AllocError>
+        requires { IsValid self.now }
+        ensures { IfOk result (λ f. f ≡ floor_of self.now) }
+    {
+        Ok(Floor {
+            solids: self.solids()?,
+            anchors: self.anchors()?,
+        })
+    }
+
+    /// The choices of an end with the class at the node with the id.
+    fn choices_at(&self, id: i64, class: u32) -> Result<Choices, AllocError>
+        requires valid { IsValid self.now }
+        requires there { IsSome (node_with self.now id) }
+        ensures { IfOk result (λ c. c ≡ choices_with self.now.settings.buffer class (node_with self.now id)) }
+    {
+        let node = self.node(id).unwrap();
+        choices_of_class(self.alloc, self.settings, node, class)
+    }
+
+    /// The task of the edge with the number.
+    pub(crate) fn task(&self, number: u32) -> Result<Task, AllocError>
+        requires valid { IsValid self.now }
+        requires there { IsSome (edge_with self.now number) }
+        ensures { IfOk result (λ t. IfSome (edge_with self.now number) (λ e. t ≡ task_of self.now e)) }
+    {
+        let edge = self.edge(number).unwrap();
+        Ok(Task {
+            starts: self.choices_at(edge.from, edge.from_class)?,
+            ends: self.choices_at(edge.to, edge.to_class)?,
+            via: Points(Vec::from_slice(self.alloc, edge.via.as_slice())?),
+            penalty: self.settings.penalty.unsigned_abs(),
+        })
+    }
+}

@@ -1,0 +1,316 @@
+//! The scene: look-ups, edits one by one, what loads it, and what takes edits back.
+ghost use Rattle.std.specs.Prelude.{◌≡◌, ◌≢◌, None, IsSomeAnd, IfSome, IfOk, OnOk, OnErr, option_copied, slice_get};
+ghost use Rattle.scene_model.specs.Edits.{IsDirected, IsEdited, refusal};
+ghost use Rattle.scene_model.specs.Inverses.{IsRestorable, inverse_of, restored};
+ghost use Rattle.scene_model.specs.Loads.{IsEdgeLoaded, IsLoadableEdge, IsLoadableNode, IsNodeLoaded};
+ghost use Rattle.plane_geom.specs.Floor.{IsFloor};
+ghost use Rattle.walk_model.specs.Floors.{IsTaskOn};
+ghost use Rattle.scene_model.specs.Routing.{floor_of, solids, task_of};
+ghost use Rattle.scene_model.specs.Scene.{Scene as SceneValue, edge_with, empty_scene, node_with};
+ghost use Rattle.scene_model.specs.Valid.{HasDirection, IsValid};
+ghost use Rattle.scene_model.specs.declared.edit.Edit.TheVariants as edits;
+
+use crate::keyed::Keyed;
+use crate::parts::Parts;
+use plane_geom::Floor;
+use scene_model::{Dirs, Edge, Edit, Inverse, Node, SceneFault, Setting, Settings};
+use std::alloc::{AllocError, Global};
+use std::marker::Model;
+use walk_model::Task;
+
+/// The nodes and edges of a diagram, in order, its settings and the next edge number. It is always valid.
+#[derive(Drop)]
+pub struct Scene {
+    parts: Parts,
+}
+
+impl Model for Scene {
+    ghost Value = { SceneValue };
+
+    ghost view = { λ s. s.parts };
+
+    ghost invariant = { λ s. IsValid s.parts };
+}
+
+impl Scene {
+    /// No node, no edge, the default settings, and 1 as the next edge number. It takes no memory.
+    pub fn new(alloc: Global) -> Scene
+        ensures { result ≡ empty_scene }
+    {
+        Scene {
+            parts: Parts {
+                nodes: Keyed::new(alloc),
+                edges: Keyed::new(alloc),
+                settings: Settings {
+                    penalty: 50_000,
+                    buffer: 4_000,
+                    nudge: 4_000,
+                },
+                next_edge: 1,
+                alloc,
+            },
+        }
+    }
+
+    /// The node with the id.
+    pub fn node(&self, id: i64) -> Option<&Node>
+        ensures { option_copied result ≡ node_with self.now id }
+    {
+        self.parts.node(id)
+    }
+
+    /// The edge with the number.
+    pub fn edge(&self, number: u32) -> Option<&Edge>
+        ensures { option_copied result ≡ edge_with self.now number }
+    {
+        self.parts.edge(number)
+    }
+
+    /// The node at the place, from 0.
+    pub fn node_at(&self, place: usize) -> Option<&Node>
+        ensures { option_copied result ≡ slice_get self.now.nodes place }
+    {
+        self.parts.nodes.as_slice().get(place)
+    }
+
+    /// The edge at the place, from 0.
+    pub fn edge_at(&self, place: usize) -> Option<&Edge>
+        ensures { option_copied result ≡ slice_get self.now.edges place }
+    {
+        self.parts.edges.as_slice().get(place)
+    }
+
+    /// The settings. That the scene is valid is known from here too.
+    pub fn settings(&self) -> Settings
+        ensures value { result ≡ self.now.settings }
+        ensures valid { IsValid self.now }
+    {
+        self.parts.settings
+    }
+
+    /// The number of the next edge that is added.
+    pub fn next_edge(&self) -> u32
+        ensures value { result ≡ self.now.next_edge }
+        ensures valid { IsValid self.now }
+    {
+        self.parts.next_edge
+    }
+
+    /// The same scene once more. Its only error is want of memory.
+    pub fn copy(&self) -> Result<Scene, AllocError>
+        ensures { IfOk result (λ s. s ≡ self.now) }
+    {
+        Ok(Scene {
+            parts: self.parts.copy()?,
+        })
+    }
+
+    /// What a visibility graph of the scene is built of: the solids of its nodes, and as anchors the ports of all
+    /// pins and the checkpoints of all connectors. Its only error is want of memory.
+    pub fn floor(&self) -> Result<Floor, AllocError>
+        ensures floor { IfOk result (λ f. f ≡ floor_of self.now) }
+        ensures fits { IfOk result IsFloor }
+    {
+        self.parts.floor()
+    }
+
+    /// What the connector with the number asks of its walk; the edge is there and is no loop. Its only error is want
+    /// of memory.
+    pub fn task(&self, number: u32) -> Result<Task, AllocError>
+        requires { IsSomeAnd (edge_with self.now number) (λ e. e.from ≢ e.to) }
+        ensures ok { IfOk result (λ t. IfSome (edge_with self.now number) (λ e. t ≡ task_of self.now e)) }
+        ensures task { IfOk result (IsTaskOn (solids self.now)) }
+    {
+        self.parts.task(number)
+    }
+
+    /// Why the edit would be refused, if it would be: the first refusal that holds. It takes no memory.
+    pub fn refusal(&self, edit: &Edit) -> Option<SceneFault>
+        ensures { result ≡ refusal edit.now self.now }
+    {
+        self.parts.refusal(edit)
+    }
+
+    /// Does an edit. A refusal or want of memory leaves all as it was.
+    pub fn edit(&mut self, edit: &Edit) -> Result<(), SceneFault>
+        requires { IsDirected edit.now }
+        ensures { IsEdited edit.now self.old self.new result }
+    {
+        if let Some(fault) = self.parts.refusal(edit) {
+            return Err(fault);
+        }
+        match self.parts.change(edit) {
+            Ok(()) => Ok(()),
+            Err(_) => Err(SceneFault::Memory),
+        }
+    }
+
+    /// Adds a node without pins, last. Its sizes are halved and rounded up.
+    pub fn add_node(&mut self, id: i64, x: i64, y: i64, w: i64, h: i64) -> Result<(), SceneFault>
+        ensures { IsEdited (edits.AddNode id x y w h) self.old self.new result }
+    {
+        self.edit(&Edit::AddNode { id, x, y, w, h })
+    }
+
+    /// Moves a node's centre.
+    pub fn move_node(&mut self, id: i64, x: i64, y: i64) -> Result<(), SceneFault>
+        ensures { IsEdited (edits.MoveNode id x y) self.old self.new result }
+    {
+        self.edit(&Edit::MoveNode { id, x, y })
+    }
+
+    /// Gives a node other sizes, which are halved and rounded up.
+    pub fn size_node(&mut self, id: i64, w: i64, h: i64) -> Result<(), SceneFault>
+        ensures { IsEdited (edits.SizeNode id w h) self.old self.new result }
+    {
+        self.edit(&Edit::SizeNode { id, w, h })
+    }
+
+    /// Takes out a node at which no edge ends.
+    pub fn drop_node(&mut self, id: i64) -> Result<(), SceneFault>
+        ensures { IsEdited (edits.DropNode id) self.old self.new result }
+    {
+        self.edit(&Edit::DropNode { id })
+    }
+
+    /// Adds a pin of connection cost 0 to a node, last, by its offset from the centre.
+    pub fn add_pin(
+        &mut self,
+        id: i64,
+        class: u32,
+        dx: i64,
+        dy: i64,
+        dirs: Dirs,
+    ) -> Result<(), SceneFault>
+        requires { HasDirection dirs }
+        ensures { IsEdited (edits.AddPin id class dx dy dirs) self.old self.new result }
+    {
+        self.edit(&Edit::AddPin {
+            id,
+            class,
+            dx,
+            dy,
+            dirs,
+        })
+    }
+
+    /// Takes out the pin at the place, from 1.
+    pub fn drop_pin(&mut self, id: i64, place: u32) -> Result<(), SceneFault>
+        ensures { IsEdited (edits.DropPin id place) self.old self.new result }
+    {
+        self.edit(&Edit::DropPin { id, place })
+    }
+
+    /// Adds a connector, last. It takes the next edge number, which rises by one.
+    pub fn add_edge(
+        &mut self,
+        from: i64,
+        to: i64,
+        from_class: u32,
+        to_class: u32,
+    ) -> Result<(), SceneFault>
+        ensures { IsEdited (edits.AddEdge from to from_class to_class) self.old self.new result }
+    {
+        self.edit(&Edit::AddEdge {
+            from,
+            to,
+            from_class,
+            to_class,
+        })
+    }
+
+    /// Takes out an edge.
+    pub fn cut_edge(&mut self, number: u32) -> Result<(), SceneFault>
+        ensures { IsEdited (edits.CutEdge number) self.old self.new result }
+    {
+        self.edit(&Edit::CutEdge { number })
+    }
+
+    /// Gives a connector's ends other pin classes.
+    pub fn set_classes(
+        &mut self,
+        number: u32,
+        from_class: u32,
+        to_class: u32,
+    ) -> Result<(), SceneFault>
+        ensures { IsEdited (edits.SetClasses number from_class to_class) self.old self.new result }
+    {
+        self.edit(&Edit::SetClasses {
+            number,
+            from_class,
+            to_class,
+        })
+    }
+
+    /// Puts a checkpoint of a connector at the place, from 1.
+    pub fn add_via(&mut self, number: u32, place: u32, x: i64, y: i64) -> Result<(), SceneFault>
+        ensures { IsEdited (edits.AddVia number place x y) self.old self.new result }
+    {
+        self.edit(&Edit::AddVia {
+            number,
+            place,
+            x,
+            y,
+        })
+    }
+
+    /// Takes out the checkpoint at the place, from 1.
+    pub fn drop_via(&mut self, number: u32, place: u32) -> Result<(), SceneFault>
+        ensures { IsEdited (edits.DropVia number place) self.old self.new result }
+    {
+        self.edit(&Edit::DropVia { number, place })
+    }
+
+    /// Changes a setting.
+    pub fn set(&mut self, what: Setting, value: i64) -> Result<(), SceneFault>
+        ensures { IsEdited (edits.Set what value) self.old self.new result }
+    {
+        self.edit(&Edit::Set { what, value })
+    }
+
+    /// What takes back an edit that is not refused. Its only error is want of memory.
+    pub fn inverse(&self, edit: &Edit) -> Result<Inverse, AllocError>
+        requires { refusal edit.now self.now ≡ None }
+        ensures { IfOk result (λ i. i ≡ inverse_of edit.now self.now) }
+    {
+        self.parts.inverse(edit)
+    }
+
+    /// Takes an edit back by its inverse. Its only error is want of memory, which leaves all as it was.
+    pub fn restore(&mut self, inverse: &Inverse) -> Result<(), AllocError>
+        requires { IsRestorable inverse.now self.old }
+        ensures ok { OnOk result (self.new ≡ restored inverse.now self.old) }
+        ensures err { OnErr result (self.new ≡ self.old) }
+    {
+        self.parts.restore(inverse)
+    }
+
+    /// Puts a node of a diagram last, with its pins and origin. A refusal or want of memory leaves all as it was.
+    pub fn load_node(&mut self, node: Node) -> Result<(), SceneFault>
+        requires { IsLoadableNode node }
+        ensures { IsNodeLoaded node self.old self.new result }
+    {
+        if let Some(fault) = self.parts.node_refusal(&node) {
+            return Err(fault);
+        }
+        match self.parts.push_node(node) {
+            Ok(()) => Ok(()),
+            Err(_) => Err(SceneFault::Memory),
+        }
+    }
+
+    /// Puts an edge of a diagram last, with its checkpoints and origin; the next edge number is the one behind its
+    /// number. A refusal or want of memory leaves all as it was.
+    pub fn load_edge(&mut self, edge: Edge) -> Result<(), SceneFault>
+        requires { IsLoadableEdge self.old edge }
+        ensures { IsEdgeLoaded edge self.old self.new result }
+    {
+        if let Some(fault) = self.parts.edge_refusal(&edge) {
+            return Err(fault);
+        }
+        match self.parts.push_edge(edge) {
+            Ok(()) => Ok(()),
+            Err(_) => Err(SceneFault::Memory),
+        }
+    }
+}
