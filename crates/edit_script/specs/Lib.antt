@@ -1,0 +1,5 @@
+-- The definitions of scripts.
+pub mod Letters
+pub mod Values
+pub mod Forms
+pub mod Script

@@ -1,0 +1,14 @@
+//! Scripts: their bytes as the commands of a session.
+//!
+//! A script is read line by line. Numbers are in units, and become whole thousandths.
+#![tactic(auto)]
+
+mod forms;
+mod laws;
+mod script;
+#[cfg(test)]
+mod tests;
+mod values;
+
+pub use laws::{line_numbers_rise, scripts_have_directions};
+pub use script::commands;

@@ -1,0 +1,2 @@
+-- The lemmas of transactions.
+pub mod Begins

@@ -1,0 +1,2 @@
+-- The definitions of transactions.
+pub mod Txn

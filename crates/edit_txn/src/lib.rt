@@ -1,0 +1,11 @@
+//! Transactions: edits of a working scene, with what takes them back.
+#![tactic(auto)]
+
+mod laws;
+#[cfg(test)]
+mod tests;
+mod txn;
+
+pub use laws::{transactions_keep_their_begin, transactions_lead_back_and_forth};
+pub use scene_model::Edit;
+pub use txn::{Txn, TxnParts};

@@ -1,0 +1,3 @@
+-- The definitions of the history.
+pub mod Log
+pub mod Lending

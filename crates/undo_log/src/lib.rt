@@ -1,0 +1,10 @@
+//! The history of transactions, of bounded depth.
+#![tactic(auto)]
+
+mod log;
+mod step;
+#[cfg(test)]
+mod tests;
+
+pub use log::UndoLog;
+pub use step::Step;
