@@ -11,8 +11,8 @@ use Rattle.std.proofs.Math.Nat.{pow-le-pow_right}
 use Rattle.fixed_milli.specs.Value.{signed}
 use Rattle.fixed_milli.specs.Whole.{are_digits, whole_of, read_whole}
 use Rattle.edit_script.specs.Values.{count_of}
-use Rattle.edit_script.proofs.Directions.{told}
-use Rattle.edit_script.proofs.Directions.Told.{yes, no}
+use Rattle.scene_model.proofs.Directions.{told}
+use Rattle.scene_model.proofs.Directions.Told.{yes, no}
 
 -- a digit is no sign
 no_sign : (b : ℕ) (bs : List ℕ) → is_ascii_digit b ≡ true → signed (b ∷ bs) ≡ (false, b ∷ bs)

@@ -1,69 +1,17 @@
 -- Each pin that a script adds has a direction.
-use Rattle.std.proofs.Common.{◌≡◌, ℕ, suc, Bool, true, false, cond, List, [], ◌∷◌, length, Option, Some, None, refl, subst}
-use Rattle.std.specs.Prelude.{◌==◌, ◌||◌, ◌&&◌, codes, nat_lt, option_and_then, option_map, unwrap_or, IsTrue, bytes_eq}
-use Rattle.std.specs.List.{list_all, AllByRecursion}
-use Rattle.std.proofs.lemmas.Bool.{and_parts}
-use Rattle.scene_model.specs.declared.pin.Dirs.{Dirs}
+use Rattle.std.proofs.Common.{◌≡◌, ℕ, suc, Bool, true, false, cond, List, [], ◌∷◌, Option, Some, None, refl}
+use Rattle.std.specs.Prelude.{codes, option_and_then, option_map, unwrap_or, bytes_eq}
+use Rattle.std.specs.List.{AllByRecursion}
 use Rattle.scene_model.specs.declared.edit.Edit.{Edit as SceneEdit}
 use Rattle.scene_model.specs.declared.edit.Command.{Command}
 use Rattle.scene_model.specs.declared.edit.Command.TheVariants.{Edit, Bad}
-use Rattle.scene_model.specs.Letters.{has_letter, are_different, dirs_of}
-use Rattle.scene_model.specs.Valid.{HasDirection}
+use Rattle.scene_model.specs.Letters.{dirs_of}
 use Rattle.scene_model.specs.Edits.{IsDirected}
 use Rattle.scene_model.specs.World.{IsDirectedCommand}
 use Rattle.edit_script.specs.Values.{number_of, id_of, count_of, setting_of}
 use Rattle.edit_script.specs.Forms.{node_form, move_form, size_form, drop_form, pin_form, unpin_form, edge_form, cut_form, classes_form, via_form, unvia_form, set_form, edit_form, bare_form, form_of}
 use Rattle.edit_script.specs.Script.{words, is_comment, command_of, numbered, commands_from, lines, HaveDirections}
-use Rattle.edit_script.proofs.Directions.{told, is, is_known}
-use Rattle.edit_script.proofs.Directions.Told.{yes, no}
-
-second : (e w n : Bool) → IsTrue (((e || true) || w) || n)
-second true w n = refl
-second false w n = refl
-
-third : (e s n : Bool) → IsTrue (((e || s) || true) || n)
-third true s n = refl
-third false true n = refl
-third false false n = refl
-
-fourth : (e s w : Bool) → IsTrue (((e || s) || w) || true)
-fourth true s w = refl
-fourth false true w = refl
-fourth false false true = refl
-fourth false false false = refl
-
--- the directions of letters of which the first is one
-abbrev Leads : List ℕ → ℕ → Type 0
-Leads ls l = IsTrue (((has_letter 69 (l ∷ ls) || has_letter 83 (l ∷ ls)) || has_letter 87 (l ∷ ls)) || has_letter 78 (l ∷ ls))
-
-leads : (l : ℕ) (ls : List ℕ) → is_known l ≡ true → Leads ls l
-leads l ls known = elim (told (69 == l)) as (λ _. Leads ls l) [
-  | yes h ↦ subst (Leads ls) (is 69 l h) refl
-  | no h ↦ elim (told (83 == l)) as (λ _. Leads ls l) [
-    | yes k ↦ subst (Leads ls) (is 83 l k) (second (has_letter 69 ls) (has_letter 87 ls) (has_letter 78 ls))
-    | no k ↦ elim (told (87 == l)) as (λ _. Leads ls l) [
-      | yes m ↦ subst (Leads ls) (is 87 l m) (third (has_letter 69 ls) (has_letter 83 ls) (has_letter 78 ls))
-      | no m ↦ elim (told (78 == l)) as (λ _. Leads ls l) [
-        | yes n ↦ subst (Leads ls) (is 78 l n) (fourth (has_letter 69 ls) (has_letter 83 ls) (has_letter 87 ls))
-        | no n ↦ (let e : false ≡ true = rw (h, k, m, n) at known in cc)
-      ]
-    ]
-  ]
-]
-
-dirs_lead : (ls : List ℕ) (d : Dirs) → dirs_of ls ≡ Some d → HasDirection d
-dirs_lead [] d h = cc
-dirs_lead (l ∷ ls) d h = elim (told (nat_lt 0 (length (l ∷ ls)) && (list_all is_known (l ∷ ls) && are_different (l ∷ ls)))) as (λ _. HasDirection d) [
-  | yes t ↦
-      (let parts = and_parts (nat_lt 0 (length (l ∷ ls))) (list_all is_known (l ∷ ls) && are_different (l ∷ ls)) t in
-      let known = and_parts (is_known l) (list_all is_known ls) (and_parts (list_all is_known (l ∷ ls)) (are_different (l ∷ ls)) parts.1).0 in
-      let same : Some (record { east = has_letter 69 (l ∷ ls); south = has_letter 83 (l ∷ ls); west = has_letter 87 (l ∷ ls); north = has_letter 78 (l ∷ ls) }) ≡ Some d = rw t at h in
-      subst HasDirection (inside same) (leads l ls known.0))
-  | no t ↦ (let none : None ≡ Some d = rw t at h in cc)
-]
-  where
-    inside : {a b : Dirs} → Some a ≡ Some b → a ≡ b
-    inside h = cc
+use Rattle.scene_model.proofs.Directions.{dirs_lead}
 
 -- the pin of an edit, if there is one, has a direction
 abbrev Directed : Option SceneEdit → Type 0

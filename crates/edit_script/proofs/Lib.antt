@@ -1,5 +1,4 @@
 -- The lemmas of scripts.
-pub mod Directions
 pub mod Directed
 pub mod Chains
 pub mod Counts

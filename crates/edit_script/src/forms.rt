@@ -18,8 +18,8 @@ ghost use Rattle.edit_script.specs.Forms.{
   via_form,
 };
 
-use crate::values::{count_of, dirs_of, id_of, number_of, setting_of};
-use scene_model::{Command, Edit};
+use crate::values::{count_of, id_of, number_of, setting_of};
+use scene_model::{Command, Dirs, Edit};
 
 /// The command of a name and the words behind it, if they have a form.
 pub(crate) fn form_of(name: &[u8], args: &[&[u8]]) -> Option<Command>
@@ -143,7 +143,7 @@ fn pin_form(args: &[&[u8]]) -> Option<Edit>
         class: count_of(class)?,
         dx: number_of(dx)?,
         dy: number_of(dy)?,
-        dirs: dirs_of(dirs)?,
+        dirs: Dirs::from_letters(dirs)?,
     })
 }
 

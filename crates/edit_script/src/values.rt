@@ -3,11 +3,9 @@ ghost use Rattle.std.specs.Prelude.{◌≡◌};
 ghost use Rattle.edit_script.specs.Values.{beyond, count_of, id_of, number_of, setting_of};
 ghost use Rattle.fixed_milli.specs.Milli.{with_sign};
 ghost use Rattle.fixed_milli.specs.Value.{signed};
-ghost use Rattle.edit_script.specs.Letters.{with_letter};
-ghost use Rattle.scene_model.specs.Letters.{dirs_of};
 
 use fixed_milli::{MilliFault, read_milli, read_whole};
-use scene_model::{Dirs, Setting};
+use scene_model::Setting;
 
 /// One thousandth beyond the numbers that are read.
 const BEYOND: i64 = 1_000_000_000_000_001;
@@ -65,41 +63,5 @@ pub(crate) fn setting_of(word: &[u8]) -> Option<Setting>
         Some(Setting::Nudge)
     } else {
         None
-    }
-}
-
-/// One to four different letters of E, S, W and N. It looks at no letter behind the first that is none of
-/// these or stands there twice.
-pub(crate) fn dirs_of(word: &[u8]) -> Option<Dirs>
-    ensures { result ≡ dirs_of word.now }
-{
-    let mut dirs = Dirs {
-        east: false,
-        south: false,
-        west: false,
-        north: false,
-    };
-    for letter in word {
-        dirs = with_letter(dirs, *letter)?;
-    }
-    if word.is_empty() { None } else { Some(dirs) }
-}
-
-/// The directions with that of the letter, if it has one that is not among them yet.
-fn with_letter(dirs: Dirs, letter: u8) -> Option<Dirs>
-    ensures { result ≡ with_letter dirs letter }
-{
-    match letter {
-        b'E' if !dirs.east => Some(Dirs { east: true, ..dirs }),
-        b'S' if !dirs.south => Some(Dirs {
-            south: true,
-            ..dirs
-        }),
-        b'W' if !dirs.west => Some(Dirs { west: true, ..dirs }),
-        b'N' if !dirs.north => Some(Dirs {
-            north: true,
-            ..dirs
-        }),
-        _ => None,
     }
 }

@@ -1,3 +1,4 @@
+-- The lemmas on spans in a tree, callees first.
 pub mod Everywhere
 pub mod Before
 pub mod Placed

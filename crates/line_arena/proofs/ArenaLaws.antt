@@ -45,10 +45,10 @@ pub record IsPlaced (a : Arena) (c : ℕ) (p : Point) : Type 0 where
   pub y : p.y ≡ across.at
 
 held_x : (l : Line) (p : Point) → l.way ≡ Vertical → Holds l p → p.x ≡ l.at
-held_x l p w h = ap (λ (q : Point). q.x) (h.here ∙ ap (λ (v : Way). point_on v l.at h.place) w)
+held_x l p w h = ap (λ (q : Point). q.x) (h.here ∙ ap (λ (v : Way). point_on v l.at h.along) w)
 
 held_y : (l : Line) (p : Point) → l.way ≡ Horizontal → Holds l p → p.y ≡ l.at
-held_y l p w h = ap (λ (q : Point). q.y) (h.here ∙ ap (λ (v : Way). point_on v l.at h.place) w)
+held_y l p w h = ap (λ (q : Point). q.y) (h.here ∙ ap (λ (v : Way). point_on v l.at h.along) w)
 
 pub placed : (a : Arena) (c : ℕ) (p : Point) → IsArena a → StandsAt a c p → IsPlaced a c p
 placed a c p arena s =
@@ -116,12 +116,12 @@ meet_where_across a v h down across is_down is_across m =
       down_runs = m.down_runs;
       across_runs = m.across_runs;
       point = point;
-      on_down = record { place = across.at; from = m.above; to = m.below; here = ap (λ (w : Way). point_on w down.at across.at) (sym m.down_runs) };
-      on_across = record { place = down.at; from = m.left; to = m.right; here = ap (λ (w : Way). point_on w across.at down.at) (sym m.across_runs) };
+      on_down = record { along = across.at; from = m.above; to = m.below; here = ap (λ (w : Way). point_on w down.at across.at) (sym m.down_runs) };
+      on_across = record { along = down.at; from = m.left; to = m.right; here = ap (λ (w : Way). point_on w across.at down.at) (sym m.across_runs) };
     }
 
-held_along : (l : Line) (p : Point) (w : Way) → l.way ≡ w → (h : Holds l p) → p ≡ point_on w l.at h.place
-held_along l p w e h = h.here ∙ ap (λ (v : Way). point_on v l.at h.place) e
+held_along : (l : Line) (p : Point) (w : Way) → l.way ≡ w → (h : Holds l p) → p ≡ point_on w l.at h.along
+held_along l p w e h = h.here ∙ ap (λ (v : Way). point_on v l.at h.along) e
 
 pub across_where_meet : (a : Arena) (v h : ℕ) (down across : Line) → get a.lines v ≡ Some down → get a.lines h ≡ Some across → Meet a v h → AreAcross down across
 across_where_meet a v h down across is_down is_across m =
@@ -134,9 +134,9 @@ across_where_meet a v h down across is_down is_across m =
     let on_x = held_along down m.point Vertical down_runs on_down in
     let on_y = held_along across m.point Horizontal across_runs on_across in
     let x : m.point.x ≡ down.at = ap (λ (p : Point). p.x) on_x in
-    let place_down : m.point.y ≡ on_down.place = ap (λ (p : Point). p.y) on_x in
+    let place_down : m.point.y ≡ on_down.along = ap (λ (p : Point). p.y) on_x in
     let y : m.point.y ≡ across.at = ap (λ (p : Point). p.y) on_y in
-    let place_across : m.point.x ≡ on_across.place = ap (λ (p : Point). p.x) on_y in
+    let place_across : m.point.x ≡ on_across.along = ap (λ (p : Point). p.x) on_y in
     record {
       down_runs = down_runs;
       across_runs = across_runs;
@@ -177,13 +177,13 @@ never_further a d c arena f =
     omega (arith, ints, further, same)
 
 -- the line of a placed crossing along which one travels in the direction
-record IsHeldAlong (a : Arena) (pair : Pair) (p : Point) (d : Dir) : Type 0 where
-  line : Line
-  is : get a.lines (line_along d pair) ≡ Some line
-  way : line.way ≡ way_of d
-  on : Holds line p
+pub record IsHeldAlong (a : Arena) (pair : Pair) (p : Point) (d : Dir) : Type 0 where
+  pub line : Line
+  pub is : get a.lines (line_along d pair) ≡ Some line
+  pub way : line.way ≡ way_of d
+  pub on : Holds line p
 
-held_in : (a : Arena) (c : ℕ) (p : Point) (d : Dir) → (u : IsPlaced a c p) → IsHeldAlong a u.pair p d
+pub held_in : (a : Arena) (c : ℕ) (p : Point) (d : Dir) → (u : IsPlaced a c p) → IsHeldAlong a u.pair p d
 held_in a c p East u = record { line = u.across; is = u.is_across; way = u.across_runs; on = u.on_across }
 held_in a c p South u = record { line = u.down; is = u.is_down; way = u.down_runs; on = u.on_down }
 held_in a c p West u = record { line = u.across; is = u.is_across; way = u.across_runs; on = u.on_across }

@@ -48,8 +48,8 @@ meet_grid v i j column row is_i is_j c r = record {
   down_runs = refl;
   across_runs = refl;
   point = grid_point_of column row;
-  on_down = record { place = pos row; from = omega (arith, ints); to = omega (arith, ints); here = refl };
-  on_across = record { place = pos column; from = omega (arith, ints); to = omega (arith, ints); here = refl };
+  on_down = record { along = pos row; from = omega (arith, ints); to = omega (arith, ints); here = refl };
+  on_across = record { along = pos column; from = omega (arith, ints); to = omega (arith, ints); here = refl };
 }
 
 pub new_grid : (v : Arena) (i j column row : ℕ) → get v.lines i ≡ Some (grid_line_of Vertical column) → get v.lines j ≡ Some (grid_line_of Horizontal row)
@@ -61,8 +61,8 @@ new_grid v i j column row is_i is_j c r none k is = none k (record {
   across = grid_line_of Horizontal row;
   is_down = is_i;
   is_across = is_j;
-  on_down = record { place = pos row; from = omega (arith, ints); to = omega (arith, ints); here = refl };
-  on_across = record { place = pos column; from = omega (arith, ints); to = omega (arith, ints); here = refl };
+  on_down = record { along = pos row; from = omega (arith, ints); to = omega (arith, ints); here = refl };
+  on_across = record { along = pos column; from = omega (arith, ints); to = omega (arith, ints); here = refl };
 })
 
 -- where lines and crossings are the same, so is where crossings stand

@@ -1,3 +1,4 @@
+-- The lemmas on crossings in two lists, callees first.
 pub mod Nearest
 pub mod Refill
 pub mod Linked

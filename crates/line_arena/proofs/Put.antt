@@ -23,8 +23,8 @@ use Rattle.line_arena.proofs.Linked.{kept_in, kept_out, own_place, same_spot, wi
 use Rattle.line_arena.proofs.Joined.{spots_are}
 
 -- a point that a line holds is its point there
-pub held : (l : Line) (p : Point) (w : Way) → l.way ≡ w → (h : Holds l p) → p ≡ point_on w l.at h.place
-held l p w e h = h.here ∙ ap (λ v. point_on v l.at h.place) e
+pub held : (l : Line) (p : Point) (w : Way) → l.way ≡ w → (h : Holds l p) → p ≡ point_on w l.at h.along
+held l p w e h = h.here ∙ ap (λ v. point_on v l.at h.along) e
 
 turn : (a b : ℤ) → (pos 0 -ℤ a) ≡ (pos 0 -ℤ b) → a ≡ b
 turn a b e = omega (arith, ints)
@@ -404,4 +404,4 @@ lists_without_line a b id lists empty updates crossings = record {
 
 -- a line holds its first point
 pub first_held : (l : Line) → l.lo ≤ℤ l.hi → (p : Point) × Holds l p
-first_held l h = (point_on l.way l.at l.lo, record { place = l.lo; from = omega (arith, ints); to = h; here = refl })
+first_held l h = (point_on l.way l.at l.lo, record { along = l.lo; from = omega (arith, ints); to = h; here = refl })

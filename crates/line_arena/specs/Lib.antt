@@ -1,3 +1,4 @@
+-- What an arena is seen as, beside the lists and maps that it is.
 pub mod Keyed
 pub mod Node
 pub mod Lists

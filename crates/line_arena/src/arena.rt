@@ -65,7 +65,7 @@ impl LineArena {
     /// Makes room for so many more lines and crossings, so that as many puts take no memory.
     ///
     /// Lines and crossings stay as they are, and no room is lost, also where memory is wanting, which is the only
-    /// error. `places` may rise.
+    /// error. `places` may rise, where there was no room for so many crossings.
     pub fn reserve(&mut self, lines: usize, crossings: usize) -> Result<(), AllocError>
         ensures lines { self.new.lines ≡ self.old.lines }
         ensures crossings { self.new.crossings ≡ self.old.crossings }
@@ -73,6 +73,7 @@ impl LineArena {
         ensures spare_lines { self.old.spare_lines ≤ self.new.spare_lines }
         ensures spare_crossings { self.old.spare_crossings ≤ self.new.spare_crossings }
         ensures places { self.old.places ≤ self.new.places }
+        ensures had_room { crossings ≤ self.old.spare_crossings → self.new.places ≡ self.old.places }
         ensures room_for_lines { OnOk result (lines ≤ self.new.spare_lines) }
         ensures room_for_crossings { OnOk result (crossings ≤ self.new.spare_crossings) }
     {

@@ -51,6 +51,9 @@ impl<K: Key, V: Copy> KeyedSlab<K, V> {
     pub fn reserve(&mut self, more: usize) -> Result<(), AllocError>
         ensures slots { self.new.slab.slots ≡ self.old.slab.slots }
         ensures capacity { self.old.slab.capacity ≤ self.new.slab.capacity }
+        ensures had_room { slab_len self.old.slab + more ≤ self.old.room →
+            self.new.slab.capacity ≡ self.old.slab.capacity }
+        ensures within { slab_len self.old.slab ≤ self.old.room }
         ensures room { self.old.room ≤ self.new.room }
         ensures ok { OnOk result (slab_len self.old.slab + more ≤ self.new.room) }
     {

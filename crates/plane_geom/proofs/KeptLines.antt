@@ -31,4 +31,4 @@ kept_coordinate floor l zs h kept = by_reason kept.reason
     by_reason : ((l.lo <ℤ l.hi) × Any (λ s. SharesSide l s.rect) floor.solids) ⊎ Any (Holds l) floor.anchors → Contains zs l.at
     by_reason (inl (some, side)) = by_side side
     by_reason (inr (k, p, inside, is, here)) =
-        subst (Contains zs) (ap (across l.way) (is ∙ here.here) ∙ across_point l.way l.at here.place) (h.anchors k p inside)
+        subst (Contains zs) (ap (across l.way) (is ∙ here.here) ∙ across_point l.way l.at here.along) (h.anchors k p inside)

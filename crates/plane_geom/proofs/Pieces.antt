@@ -75,8 +75,8 @@ joined_piece floor l m z f g o h i j k = record {
 pub longest_apart : (floor : Floor) (l m : Line) (p : Point) → IsLongestFreePiece floor l → IsLongestFreePiece floor m → AreOnOneWholeLine l m → Holds l p → Holds m p → l ≡ m
 unfolding joined
 longest_apart floor l m p f g o h k =
-    let same : h.place ≡ k.place = place_of l.way l.at h.place k.place
-    (sym h.here ∙ k.here ∙ ap (λ (a : ℤ). point_on m.way a k.place) (sym o.at) ∙ ap (λ (w : Way). point_on w l.at k.place) (sym o.way)) in
-    let piece = joined_piece floor l m h.place f.piece g.piece o h.from h.to (omega (arith, ints, k.from)) (omega (arith, ints, k.to)) in
+    let same : h.along ≡ k.along = place_of l.way l.at h.along k.along
+    (sym h.here ∙ k.here ∙ ap (λ (a : ℤ). point_on m.way a k.along) (sym o.at) ∙ ap (λ (w : Way). point_on w l.at k.along) (sym o.way)) in
+    let piece = joined_piece floor l m h.along f.piece g.piece o h.from h.to (omega (arith, ints, k.from)) (omega (arith, ints, k.to)) in
     sym (f.longest (joined l m) piece (record { way = refl; at = refl }) (omega (arith, ints, clamps)) (omega (arith, ints, clamps)))
     ∙ g.longest (joined l m) piece (record { way = sym o.way; at = sym o.at }) (omega (arith, ints, clamps)) (omega (arith, ints, clamps))

@@ -6,7 +6,7 @@ use Rattle.std.specs.Int.{int_min, int_max}
 use Rattle.plane_geom.specs.declared.point.Point.{Point}
 use Rattle.plane_geom.specs.declared.rect.Rect.{Rect}
 use Rattle.plane_geom.specs.Point.{IsCoordinate, PointIsOnSheet, distance}
-use Rattle.plane_geom.specs.Rect.{IsLeastThrough, IsNearest, RectIsOnSheet, IsOnTheWay}
+use Rattle.plane_geom.specs.Rect.{IsLeastThrough, IsNearestPoint, RectIsOnSheet, IsOnTheWay}
 
 -- the number of a range that is nearest to another
 pub nearest_on_way : (low z high m n : ℤ) → low ≤ℤ high → m ≡ int_max z low → n ≡ int_min m high → IsOnTheWay low z high n
@@ -20,7 +20,7 @@ nearest_on_way low z high m n h e f = record {
 pub between_coordinates : (low z high : ℤ) → IsCoordinate low → IsCoordinate high → low ≤ℤ z → z ≤ℤ high → IsCoordinate z
 between_coordinates low z high h k f g = record { low = omega (arith, ints, h.low); high = omega (arith, ints, k.high) }
 
-pub nearest_on_sheet : (r : Rect) (a n : Point) → RectIsOnSheet r → IsNearest r a n → PointIsOnSheet n
+pub nearest_on_sheet : (r : Rect) (a n : Point) → RectIsOnSheet r → IsNearestPoint r a n → PointIsOnSheet n
 nearest_on_sheet r a n s h = record {
   x = between_coordinates r.left n.x r.right s.left s.right h.x.from h.x.to;
   y = between_coordinates r.top n.y r.bottom s.top s.bottom h.y.from h.y.to;
@@ -31,7 +31,7 @@ triangle : (a b c : ℤ) → unsigned_abs (a -ℤ c) ≤ unsigned_abs (a -ℤ b)
 triangle a b c = omega (arith, ints)
 
 -- the shortest way through a rectangle goes by its point that is nearest to the begin
-pub through_nearest : (r : Rect) (a b n : Point) → IsNearest r a n → IsLeastThrough r a b (pos (distance a n + distance n b))
+pub through_nearest : (r : Rect) (a b n : Point) → IsNearestPoint r a n → IsLeastThrough r a b (pos (distance a n + distance n b))
 through_nearest r a b n h = record {
   through = n;
   within = record { left = h.x.from; right = h.x.to; top = h.y.from; bottom = h.y.to };

@@ -25,10 +25,10 @@ last_point l = point_on l.way l.at l.hi
 
 -- the point lies on the line
 pub record Holds (l : Line) (p : Point) : Type 0 where
-  pub place : ℤ
-  pub from : l.lo ≤ℤ place
-  pub to : place ≤ℤ l.hi
-  pub here : p ≡ point_on l.way l.at place
+  pub along : ℤ
+  pub from : l.lo ≤ℤ along
+  pub to : along ≤ℤ l.hi
+  pub here : p ≡ point_on l.way l.at along
 
 -- the two lines are pieces of one whole line
 pub record AreOnOneWholeLine (l m : Line) : Type 0 where

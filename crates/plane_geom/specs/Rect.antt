@@ -69,7 +69,7 @@ pub record IsOnTheWay (low z high number : ℤ) : Type 0 where
       unsigned_abs (z -ℤ number) + unsigned_abs (number -ℤ other) ≡ unsigned_abs (z -ℤ other)
 
 -- a point of the closed rectangle that lies on a shortest way from the other point to each point of the rectangle
-pub record IsNearest (r : Rect) (p nearest : Point) : Type 0 where
+pub record IsNearestPoint (r : Rect) (p nearest : Point) : Type 0 where
   pub x : IsOnTheWay r.left p.x r.right nearest.x
   pub y : IsOnTheWay r.top p.y r.bottom nearest.y
 

@@ -8,7 +8,7 @@ pub const SHEET_START: i64 = -2_000_000_000;
 pub const SHEET_END: i64 = 2_000_000_000;
 
 /// A place on the plane, in thousandths of a GML unit.
-#[derive(Clone, Copy, Debug, PartialEq, Eq, Hash)]
+#[derive(Clone, Copy, Debug, Default, PartialEq, Eq, Hash)]
 pub struct Point {
     pub x: i64,
     pub y: i64,

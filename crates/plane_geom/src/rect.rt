@@ -27,7 +27,7 @@ pub struct Solid {
 }
 
 impl Rect {
-    ghost use Rattle.plane_geom.specs.Rect.{HasInside, IsLeastThrough, IsNearest, RectIsOnSheet, Meets, grown};
+    ghost use Rattle.plane_geom.specs.Rect.{HasInside, IsLeastThrough, IsNearestPoint, RectIsOnSheet, Meets, grown};
     ghost use Rattle.plane_geom.specs.Point.{IsStraight, PointIsOnSheet};
 
     /// The rectangle with each side moved out by `by` thousandths. Both rectangles lie on the sheet.
@@ -85,7 +85,7 @@ impl Rect {
         requires point_within { PointIsOnSheet p }
         requires wide { self.now.left ≤ℤ self.now.right }
         requires high { self.now.top ≤ℤ self.now.bottom }
-        ensures on_the_way { IsNearest self.now p result }
+        ensures on_the_way { IsNearestPoint self.now p result }
         ensures on_sheet { PointIsOnSheet result }
     {
         let Rect {

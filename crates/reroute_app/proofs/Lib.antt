@@ -1,3 +1,4 @@
+-- The lemmas on plain diagrams and their verdicts, callees first.
 pub mod Digits
 pub mod Numbers
 pub mod Parts

@@ -1,3 +1,4 @@
+-- What the words, the plain diagrams and the output are.
 pub mod Diagram
 pub mod Outcome
 pub mod Plain

@@ -1,3 +1,4 @@
+-- The lines of the report.
 use Rattle.std.specs.Prelude.{ℕ, ◌+◌, List, [], ◌∷◌, ◌++◌, Result, Ok, Err, codes, decimal}
 use Rattle.std.specs.Fmt.{signed_decimal}
 use Rattle.fixed_milli.specs.Milli.{size_text}

@@ -1,3 +1,4 @@
+-- What an outcome says, without where it lies in memory.
 use Rattle.std.specs.Prelude.{ℕ, List}
 use Rattle.std.specs.List.{AllZip}
 use Rattle.reroute_app.specs.declared.diagram.Node.{Node}

@@ -1,3 +1,4 @@
+//! How a run ends, and the exit status for it.
 ghost use Rattle.std.specs.Prelude.{◌≡◌};
 
 /// How a run ended.

@@ -19,7 +19,7 @@ use Rattle.route_check.proofs.Stubs.{opposite-opposite, leaves_within, leaves_st
 -- a walk begins with a stub exactly where the stub fits its first run
 module _ (w : Walk) (run : Run) (is : IsFirstRun w run) (c : Choice) where
   pub fits_leaves : FitsRun w.start run.heading run.length c → Leaves w c
-  fits_leaves f = leaves_from w c (sym f.pin) (omega (arith, f.room, is.within)) (λ k h. is.straight k (omega (arith, f.room)) ∙ sym f.dir)
+  fits_leaves f = leaves_from w c (sym f.pin) (omega (arith, f.short, is.within)) (λ k h. is.straight k (omega (arith, f.short)) ∙ sym f.dir)
 
   pub leaves_fits : IsChoice c → Leaves w c → FitsRun w.start run.heading run.length c
   leaves_fits choice l =
@@ -28,7 +28,7 @@ module _ (w : Walk) (run : Run) (is : IsFirstRun w run) (c : Choice) where
       record {
         pin = sym l.pin;
         dir = dir;
-        room = elim (cases_lt run.length (stub_length c)) as (λ _. stub_length c ≤ run.length)
+        short = elim (cases_lt run.length (stub_length c)) as (λ _. stub_length c ≤ run.length)
             [ inl less ↦ absurd (is.whole (omega arith) (leaves_step w c l run.length less ∙ dir)) | inr room ↦ room ];
       }
 
@@ -37,7 +37,7 @@ module _ (w : Walk) (run : Run) (is : IsLastRun w (length w.steps) run) (c : Cho
   pub fits_arrives : FitsRun (end_of w) (opposite run.heading) (min run.length left) c → Arrives w c × (stub_length c ≤ left)
   fits_arrives f =
       let back : run.heading ≡ opposite c.dir = sym (opposite-opposite run.heading) ∙ ap opposite (sym f.dir) in
-      (arrives_from w c (sym f.pin) (omega (arith, f.room, is.within)) (λ k low high. is.straight k (omega (arith, f.room)) high ∙ back), omega (arith, f.room))
+      (arrives_from w c (sym f.pin) (omega (arith, f.short, is.within)) (λ k low high. is.straight k (omega (arith, f.short)) high ∙ back), omega (arith, f.short))
 
   pub arrives_fits : IsChoice c → Arrives w c × (stub_length c ≤ left) → FitsRun (end_of w) (opposite run.heading) (min run.length left) c
   arrives_fits choice (a, room) =
@@ -47,7 +47,7 @@ module _ (w : Walk) (run : Run) (is : IsLastRun w (length w.steps) run) (c : Cho
       sym (is.straight (length w.steps - 1) (omega (arith, is.some last)) (omega arith)) ∙ arrives_step w c a (length w.steps - 1) (omega (arith, choice.apart)) (omega arith) in
       let long : stub_length c ≤ run.length = elim (cases_lt run.length (stub_length c)) as (λ _. stub_length c ≤ run.length)
       [ inl less ↦ absurd (is.whole (omega arith) (arrives_step w c a (length w.steps - run.length - 1) (omega arith) (omega arith) ∙ sym heading)) | inr enough ↦ enough ] in
-      record { pin = sym a.pin; dir = sym (opposite-opposite c.dir) ∙ ap opposite (sym heading); room = omega arith }
+      record { pin = sym a.pin; dir = sym (opposite-opposite c.dir) ∙ ap opposite (sym heading); short = omega arith }
 
 -- the last corner of a line is the last point of its walk
 last_corner : (first : Point) (rest : List Point) → get_or (first ∷ rest) (length rest) first ≡ unwrap_or (slice_get rest (length rest - 1)) first

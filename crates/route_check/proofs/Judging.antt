@@ -43,7 +43,7 @@ module _ (solids : List Solid) (task : Task) (first : Point) (rest : List Point)
         is_end = end.is_choice;
         leaves = start.holds;
         arrives = end.holds.0;
-        room = omega (arith, end.holds.1, leaves_within (walk_through first rest) s start.holds);
+        stubs_fit = omega (arith, end.holds.1, leaves_within (walk_through first rest) s start.holds);
       }
 
       pub hit_first : (segment : ℕ) (node : ℤ) → HitsFirst solids (first ∷ rest) s (walk_through first rest) e segment node → IsFirstHit solids task (first ∷ rest) segment node
@@ -87,6 +87,6 @@ module _ (solids : List Solid) (task : Task) (first : Point) (rest : List Point)
               let arrives = subst (λ (v : Walk). Arrives v other.end) walk other.legal.arrives in
               let same = one_start task.starts is.starts s other.start start.is_choice other.is_start (walk_through first rest) start.holds leaves in
               let cheaper_start = start.least other.start other.is_start leaves in
-              let cheaper_end = end.least other.end other.is_end (arrives, omega (arith, same.length, other.legal.room, ap (λ (v : Walk). length v.steps) walk)) in
+              let cheaper_end = end.least other.end other.is_end (arrives, omega (arith, same.length, other.legal.stubs_fit, ap (λ (v : Walk). length v.steps) walk)) in
               omega (arith, ap (λ (v : Walk). walk_cost task.penalty v.steps) walk);
         }

@@ -1,3 +1,4 @@
+-- The lemmas on the verdict, callees first.
 pub mod Places
 pub mod Stubs
 pub mod Verdicts

@@ -105,7 +105,7 @@ pub record IsClear (solids : List Solid) (task : Task) (points : List Point) : T
   pub free : HitsNone solids start walk end
 
 legal_joins : (solids : List Solid) (task : Task) (points : List Point) → (l : IsLegalLine solids task points) → Joins task points l.start l.walk l.end
-legal_joins solids task points l = record { draws = l.draws; is_start = l.is_start; is_end = l.is_end; leaves = l.legal.leaves; arrives = l.legal.arrives; room = l.legal.room }
+legal_joins solids task points l = record { draws = l.draws; is_start = l.is_start; is_end = l.is_end; leaves = l.legal.leaves; arrives = l.legal.arrives; stubs_fit = l.legal.stubs_fit }
 
 -- where a solid of another node is not met, one that may not be met is not
 module _ (solids : List Solid) (via : List Point) (s : Choice) (w : Walk) (e : Choice) (l : IsLegal solids via s w e) where
@@ -139,14 +139,14 @@ module _ (solids : List Solid) (task : Task) (points : List Point) (c : IsClear 
       record {
         leaves = j.leaves;
         arrives = j.arrives;
-        room = j.room;
+        stubs_fit = j.stubs_fit;
         checkpoints = passes;
-        start_stub = λ k _ below i d h other meets. c.free k (omega (arith, j.room)) (get_or solids i d) (Contains-get_or solids i d h)
-            (meets, λ may. elim may as (λ _. ⊥) [ at_start _ is ↦ other (ap Some is) | at_end above is ↦ absurd (omega (arith, j.room)) ]);
-        between = λ k above below i d h _ meets. c.free k (omega (arith, j.room)) (get_or solids i d) (Contains-get_or solids i d h)
+        start_stub = λ k _ below i d h other meets. c.free k (omega (arith, j.stubs_fit)) (get_or solids i d) (Contains-get_or solids i d h)
+            (meets, λ may. elim may as (λ _. ⊥) [ at_start _ is ↦ other (ap Some is) | at_end above is ↦ absurd (omega (arith, j.stubs_fit)) ]);
+        between = λ k above below i d h _ meets. c.free k (omega (arith, j.stubs_fit)) (get_or solids i d) (Contains-get_or solids i d h)
             (meets, λ may. elim may as (λ _. ⊥) [ at_start on is ↦ absurd (omega arith) | at_end on is ↦ absurd (omega arith) ]);
         end_stub = λ k above below i d h other meets. c.free k below (get_or solids i d) (Contains-get_or solids i d h)
-            (meets, λ may. elim may as (λ _. ⊥) [ at_start on is ↦ absurd (omega (arith, j.room)) | at_end _ is ↦ other (ap Some is) ]);
+            (meets, λ may. elim may as (λ _. ⊥) [ at_start on is ↦ absurd (omega (arith, j.stubs_fit)) | at_end _ is ↦ other (ap Some is) ]);
       }
 
 -- ---- no two verdicts hold of one line
@@ -174,7 +174,7 @@ module _ (solids : List Solid) (task : Task) (is : IsTask task) (points : List P
   not_off o s w e j =
       let walk : w ≡ o.walk = draws_same points w o.walk j.draws o.draws in
       let start = one_start task.starts is.starts s o.start j.is_start o.is_start o.walk (subst (λ (u : Walk). Leaves u s) walk j.leaves) o.leaves in
-      o.none e j.is_end (subst (λ (u : Walk). Arrives u e) walk j.arrives) (omega (arith, ap (λ (u : Walk). length u.steps) walk, start.length, j.room))
+      o.none e j.is_end (subst (λ (u : Walk). Arrives u e) walk j.arrives) (omega (arith, ap (λ (u : Walk). length u.steps) walk, start.length, j.stubs_fit))
 
   -- the walk of a line that goes from stub to stub has the same steps in each account of it
   same_steps : (s t : Choice) (w v : Walk) (e f : Choice) → Joins task points s w e → Joins task points t v f → length w.steps ≡ length v.steps

@@ -9,7 +9,7 @@ use Rattle.walk_model.specs.Choice.{stub_length}
 pub record FitsRun (place : Point) (way : Dir) (most : ℕ) (c : Choice) : Type 0 where
   pub pin : c.pin ≡ place
   pub dir : c.dir ≡ way
-  pub room : stub_length c ≤ most
+  pub short : stub_length c ≤ most
 
 -- the choice is a cheapest of those in the list of which the fact holds
 pub record IsCheapest (P : Choice → Type 0) (choices : List Choice) (c : Choice) : Type 0 where

@@ -1,3 +1,4 @@
+-- The verdict on a line, and its parts.
 pub mod Line
 pub mod Steps
 pub mod Run

@@ -62,7 +62,7 @@ pub record Joins (task : Task) (points : List Point) (s : Choice) (w : Walk) (e 
   pub is_end : Contains task.ends e
   pub leaves : Leaves w s
   pub arrives : Arrives w e
-  pub room : stub_length s + stub_length e ≤ length w.steps
+  pub stubs_fit : stub_length s + stub_length e ≤ length w.steps
 
 -- step k is on the stub of the choice at the walk's begin, or on that at its end, and may meet the solid of its node
 pub data MayMeet (s : Choice) (w : Walk) (e : Choice) (k : ℕ) (node : ℤ) : Type 0 where

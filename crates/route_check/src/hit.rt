@@ -45,7 +45,7 @@ pub fn first_hit(
     requires end { IsChoice end.now }
     requires line { IsLineFrom first rest.now }
     requires counted { steps ≡ length (steps_through first rest.now) }
-    requires room { stub_length end.now ≤ steps }
+    requires fits { stub_length end.now ≤ steps }
     ensures { let w = walk_through first rest.now in
         MatchOption result (HitsNone solids.now start.now w end.now)
         (λ hit. HitsFirst solids.now (first ∷ rest.now) start.now w end.now hit.segment hit.node) }
@@ -73,7 +73,7 @@ pub fn first_hit(
 fn closed_steps(start: &Choice, end: &Choice, steps: u64, node: i64) -> Steps
     requires start { IsChoice start.now }
     requires end { IsChoice end.now }
-    requires room { stub_length end.now ≤ steps }
+    requires fits { stub_length end.now ≤ steps }
     ensures { (w : Walk) → length w.steps ≡ steps → (k : ℕ) →
         IsAmong result k ↔ ((k < steps) × (MayMeet start.now w end.now k node → ⊥)) }
 {

@@ -14,3 +14,4 @@ pub mod OneList
 pub mod Floors
 pub mod Worlds
 pub mod Fresh
+pub mod Directions

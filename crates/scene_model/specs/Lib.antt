@@ -10,3 +10,4 @@ pub mod Answers
 pub mod Floors
 pub mod Stale
 pub mod Letters
+pub mod LetterSteps

@@ -2,12 +2,13 @@
 ghost use Rattle.std.specs.Prelude.{◌≡◌, ◌<◌, ◌≤◌, [], length, insert, remove, IfOk, OnOk, OnErr};
 
 use plane_geom::Point;
+use smallvec::SmallVec;
 use std::alloc::{AllocError, Global};
 use std::marker::Model;
 
-/// The checkpoints of a connector, in order.
+/// The checkpoints of a connector, in order. As many as a connector may have take no memory.
 #[derive(Debug, Drop)]
-pub struct Via(Vec<Point>);
+pub struct Via(SmallVec<Point, 4, Global>);
 
 impl Model for Via {
     ghost use Rattle.std.specs.Prelude.{List};
@@ -23,28 +24,28 @@ impl Via {
     pub fn new(alloc: Global) -> Via
         ensures { result ≡ [] }
     {
-        Via(Vec::new(alloc))
+        Via(SmallVec::new(alloc))
     }
 
     /// These checkpoints. Its only error is want of memory.
     pub fn from_slice(alloc: Global, points: &[Point]) -> Result<Via, AllocError>
         ensures { IfOk result (λ v. v ≡ points.now) }
     {
-        Ok(Via(Vec::from_slice(alloc, points)?))
+        Ok(Via(SmallVec::from_slice(alloc, points)?))
     }
 
     /// The checkpoints, in order.
     pub fn as_slice(&self) -> &[Point]
         ensures { result.now ≡ self.now }
     {
-        &self.0
+        self.0.as_slice()
     }
 
     /// The same checkpoints once more. Its only error is want of memory.
     pub fn copy(&self, alloc: Global) -> Result<Via, AllocError>
         ensures { IfOk result (λ v. v ≡ self.now) }
     {
-        Via::from_slice(alloc, &self.0)
+        Via::from_slice(alloc, self.as_slice())
     }
 
     /// Puts a checkpoint at the place, from 0. Its only error is want of memory, which leaves all as it was.

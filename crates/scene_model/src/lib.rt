@@ -7,6 +7,7 @@ mod edge;
 mod edit;
 mod fault;
 mod laws;
+mod limits;
 mod node;
 mod pin;
 mod settings;
@@ -18,6 +19,7 @@ pub use laws::{
     chains_lead_back, edits_keep_valid, edits_take_back, floors_fit, floors_hold_tasks,
     loads_keep_valid, one_list_of_answers, one_stale_list, scenes_stay_valid,
 };
+pub use limits::{half, is_off, is_outside};
 pub use node::Node;
-pub use pin::{Dirs, Pin, Pins};
+pub use pin::{Dirs, Pin, Pins, any_of_class};
 pub use settings::{Setting, Settings};

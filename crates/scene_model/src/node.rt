@@ -1,7 +1,7 @@
 //! Nodes.
 ghost use Rattle.std.specs.Prelude.{◌≡◌, IfOk};
 
-use crate::pin::Pins;
+use crate::pin::{Pins, any_of_class};
 use std::alloc::{AllocError, Global};
 
 /// A node: its centre and its half sizes, in thousandths.
@@ -20,6 +20,15 @@ pub struct Node {
 }
 
 impl Node {
+    ghost use Rattle.scene_model.specs.Scene.{has_class};
+
+    /// An end at the node may use the class: 0 is the centre's, each other one that of a pin.
+    pub fn has_class(&self, class: u32) -> bool
+        ensures { result ≡ has_class self.now class }
+    {
+        class == 0 || any_of_class(self.pins.as_slice(), class)
+    }
+
     /// The same node once more. Its only error is want of memory.
     pub fn copy(&self, alloc: Global) -> Result<Node, AllocError>
         ensures { IfOk result (λ n. n ≡ self.now) }

@@ -1,5 +1,6 @@
 //! Pins of nodes, and the directions in which they are left.
-ghost use Rattle.std.specs.Prelude.{◌≡◌, ◌<◌, [], ◌∷◌, ◌++◌, length, remove, IfOk, OnOk, OnErr};
+ghost use Rattle.std.specs.Prelude.{◌≡◌, ◌<◌, ◌==◌, [], ◌∷◌, ◌++◌, length, remove, IfOk, OnOk, OnErr};
+ghost use Rattle.std.specs.List.{list_any};
 
 use std::alloc::{AllocError, Global};
 use std::marker::Model;
@@ -11,6 +12,47 @@ pub struct Dirs {
     pub south: bool,
     pub west: bool,
     pub north: bool,
+}
+
+impl Dirs {
+    ghost use Rattle.scene_model.specs.Letters.{dirs_of};
+    ghost use Rattle.scene_model.specs.LetterSteps.{with_letter};
+
+    /// The directions that one to four different letters of E, S, W and N spell; none where the letters are not of
+    /// this form. It looks at no letter behind the first that is none of these or stands there twice.
+    pub fn from_letters(letters: &[u8]) -> Option<Dirs>
+        ensures { result ≡ dirs_of letters.now }
+    {
+        let mut dirs = Dirs {
+            east: false,
+            south: false,
+            west: false,
+            north: false,
+        };
+        for letter in letters {
+            dirs = dirs.with_letter(*letter)?;
+        }
+        if letters.is_empty() { None } else { Some(dirs) }
+    }
+
+    /// The directions with that of the letter, if it has one that is not among them yet.
+    fn with_letter(self, letter: u8) -> Option<Dirs>
+        ensures { result ≡ with_letter self letter }
+    {
+        match letter {
+            b'E' if !self.east => Some(Dirs { east: true, ..self }),
+            b'S' if !self.south => Some(Dirs {
+                south: true,
+                ..self
+            }),
+            b'W' if !self.west => Some(Dirs { west: true, ..self }),
+            b'N' if !self.north => Some(Dirs {
+                north: true,
+                ..self
+            }),
+            _ => None,
+        }
+    }
 }
 
 /// A pin that was added to a node, by its offset from the node's centre.
@@ -25,6 +67,13 @@ pub struct Pin {
     pub dirs: Dirs,
     /// What using the pin adds to the cost of a route, at most 10^9.
     pub cost: i64,
+}
+
+/// One of the pins has the class.
+pub fn any_of_class(pins: &[Pin], class: u32) -> bool
+    ensures { result ≡ list_any (λ p. p.class == class) pins.now }
+{
+    pins.iter().any(|p| p.class == class)
 }
 
 /// The pins of a node, in order.

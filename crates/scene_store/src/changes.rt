@@ -6,9 +6,9 @@ ghost use Rattle.scene_model.specs.Valid.{IsValid};
 ghost use Rattle.scene_model.specs.declared.edit.Edit.TheVariants as edits;
 
 use crate::parts::Parts;
-use crate::refusals::{half, new_pin};
+use crate::refusals::new_pin;
 use plane_geom::Point;
-use scene_model::{Edge, Edit, Node, Pin, Pins, Setting, Settings, Via};
+use scene_model::{Edge, Edit, Node, Pin, Pins, Setting, Settings, Via, half};
 use std::alloc::{AllocError, Global};
 
 /// A box's width and height.

@@ -6,9 +6,8 @@ ghost use Rattle.scene_model.specs.Scene.{node_with};
 ghost use Rattle.scene_model.specs.Valid.{IsValid};
 
 use crate::parts::Parts;
-use crate::refusals::{is_off, is_outside};
 use plane_geom::Point;
-use scene_model::{Edge, Node, Pin, SceneFault};
+use scene_model::{Edge, Node, Pin, SceneFault, is_off, is_outside};
 use std::alloc::AllocError;
 
 /// No box has this half size.

@@ -1,8 +1,7 @@
 //! The lists of a scene and what is looked up in them. That they are valid is the scene's to keep.
 ghost use Rattle.std.specs.Prelude.{◌≡◌, ℕ, ◌==◌, pos, find, option_map, slice_get, option_copied, IfSome, IfOk};
-ghost use Rattle.std.specs.List.{list_any};
 ghost use Rattle.scene_model.specs.Edits.{touches, uses};
-ghost use Rattle.scene_model.specs.Scene.{Scene as SceneValue, node_with, edge_with, has_class, pin_count, via_count};
+ghost use Rattle.scene_model.specs.Scene.{Scene as SceneValue, node_with, edge_with, pin_count, via_count};
 ghost use Rattle.scene_model.specs.Valid.{IsValid};
 
 use crate::keyed::{Entry, Keyed};
@@ -134,18 +133,4 @@ fn uses(edge: &Edge, id: i64, class: u32) -> bool
     ensures { result ≡ uses id class edge.now }
 {
     edge.from == id && edge.from_class == class || edge.to == id && edge.to_class == class
-}
-
-/// One of the pins has the class.
-pub(crate) fn any_of_class(pins: &[Pin], class: u32) -> bool
-    ensures { result ≡ list_any (λ p. p.class == class) pins.now }
-{
-    pins.iter().any(|p| p.class == class)
-}
-
-/// An end at the node may use the class.
-pub(crate) fn has_class(node: &Node, class: u32) -> bool
-    ensures { result ≡ has_class node.now class }
-{
-    class == 0 || any_of_class(node.pins.as_slice(), class)
 }

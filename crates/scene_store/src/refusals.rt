@@ -7,38 +7,16 @@ ghost use Rattle.scene_model.specs.Scene.{has_class, node_with};
 ghost use Rattle.scene_model.specs.Valid.{IsValid};
 ghost use Rattle.scene_model.specs.declared.edit.Edit.TheVariants as edits;
 
-use crate::parts::{Parts, any_of_class, has_class};
-use scene_model::{Dirs, Edit, Node, Pin, SceneFault, Setting};
-
-/// Half a size, rounded up.
-pub(crate) fn half(size: i64) -> i64
-    ensures { result ≡ half size }
-{
-    ((size.unsigned_abs() + 1) / 2) as i64
-}
+use crate::parts::Parts;
+use scene_model::{
+    Dirs, Edit, Node, Pin, SceneFault, Setting, any_of_class, half, is_off, is_outside,
+};
 
 /// No box has this width or height.
 fn is_no_size(size: i64) -> bool
     ensures { result ≡ is_no_size size }
 {
     size < 0 || 2_000_000_000 < size
-}
-
-/// So far from 0 with the half size that it leaves the field.
-pub(crate) fn is_off(coordinate: i64, half: i64) -> bool
-    ensures { result ≡ is_off coordinate half }
-{
-    let reach = coordinate
-        .unsigned_abs()
-        .saturating_add(half.unsigned_abs());
-    1_000_000_000 < reach
-}
-
-/// The pin stands outside a box with these half sizes.
-pub(crate) fn is_outside(half_w: i64, half_h: i64, pin: Pin) -> bool
-    ensures { result ≡ is_outside half_w half_h pin }
-{
-    half_w.unsigned_abs() < pin.dx.unsigned_abs() || half_h.unsigned_abs() < pin.dy.unsigned_abs()
 }
 
 /// The place, counted from 1, names none of so many.
@@ -270,10 +248,10 @@ impl Parts {
         if from == to {
             return Some(SceneFault::SameNode { id: from });
         }
-        if !has_class(source, from_class) {
+        if !source.has_class(from_class) {
             return Some(SceneFault::UnknownPinClass { class: from_class });
         }
-        if !has_class(target, to_class) {
+        if !target.has_class(to_class) {
             return Some(SceneFault::UnknownPinClass { class: to_class });
         }
         if self.edges.len() >= 512 {
@@ -363,7 +341,7 @@ impl Parts {
         ensures { result ≡ option_map_or (λ n. not (has_class n class)) (node_with self.now id) false }
     {
         match self.node(id) {
-            Some(node) => !has_class(node, class),
+            Some(node) => !node.has_class(class),
             None => false,
         }
     }

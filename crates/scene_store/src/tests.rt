@@ -473,6 +473,29 @@ const LIMITS: [(Edit, Option<SceneFault>); 5] = [
     ),
 ];
 
+/// Edits of a scene with no number left, and their refusals.
+const NO_NUMBER_LEFT: [(Edit, Option<SceneFault>); 3] = [
+    (
+        Edit::AddEdge {
+            from: 1,
+            to: 2,
+            from_class: 9,
+            to_class: 0,
+        },
+        Some(SceneFault::UnknownPinClass { class: 9 }),
+    ),
+    (
+        Edit::AddEdge {
+            from: 1,
+            to: 2,
+            from_class: 8,
+            to_class: 0,
+        },
+        Some(SceneFault::TooMany { limit: 4294967295 }),
+    ),
+    (Edit::CutEdge { number: 4294967294 }, None),
+];
+
 /// The solids of the small scene, to which a group adds none.
 const SOLIDS: [Solid; 2] = [
     Solid {
@@ -630,10 +653,10 @@ fn add_checkpoints(scene: &mut Scene) -> Result<(), SceneFault> {
     Ok(())
 }
 
-/// Loads a group and an edge to it.
-fn load(scene: &mut Scene, alloc: Global) -> Result<(), SceneFault> {
+/// Loads a group with the id.
+fn load_group(scene: &mut Scene, alloc: Global, id: i64) -> Result<(), SceneFault> {
     scene.load_node(Node {
-        id: 3,
+        id,
         x: 7,
         y: 8,
         half_w: 9,
@@ -641,9 +664,17 @@ fn load(scene: &mut Scene, alloc: Global) -> Result<(), SceneFault> {
         group: true,
         pins: Pins(Vec::new(alloc)),
         origin: Some(5),
-    })?;
-    let number = scene.next_edge();
-    if number > 1000 {
+    })
+}
+
+/// Loads an edge from node 3 to this class of node 1, if the scene may have the number.
+fn load_edge(
+    scene: &mut Scene,
+    alloc: Global,
+    number: u32,
+    to_class: u32,
+) -> Result<(), SceneFault> {
+    if number < scene.next_edge() || number == u32::MAX {
         return Ok(());
     }
     scene.load_edge(Edge {
@@ -651,11 +682,17 @@ fn load(scene: &mut Scene, alloc: Global) -> Result<(), SceneFault> {
         from: 3,
         to: 1,
         from_class: 0,
-        to_class: 8,
+        to_class,
         via: Via::new(alloc),
         origin: None,
         weight: 4,
     })
+}
+
+/// Loads a group and an edge from it with the number.
+fn load(scene: &mut Scene, alloc: Global, number: u32) -> Result<(), SceneFault> {
+    load_group(scene, alloc, 3)?;
+    load_edge(scene, alloc, number, 8)
 }
 
 /// The task of a connector.
@@ -690,9 +727,26 @@ fn keeps_limits(rt: HostRuntime) {
     assert!(rt; add_nodes(&mut scene).is_ok());
     assert!(rt; add_edges(&mut scene).is_ok());
     assert!(rt; add_checkpoints(&mut scene).is_ok());
+    assert_eq!(rt;
+        load_group(&mut scene, rt.alloc(), 256),
+        Err(SceneFault::TooMany { limit: 256 })
+    );
+    assert_eq!(rt;
+        load_edge(&mut scene, rt.alloc(), 600, 0),
+        Err(SceneFault::TooMany { limit: 512 })
+    );
     let refused = scene.copy().is_ok_and(|s| are_refused(&s, &LIMITS));
     assert!(rt; refused);
     assert_eq!(rt; scene.floor().map(|f| f.anchors.as_slice().len()), Ok(1536));
+}
+
+#[test]
+fn ends_with_the_last_number(rt: HostRuntime) {
+    let mut scene = Scene::new(rt.alloc());
+    assert!(rt; edit_all(&mut scene, &SMALL).is_ok());
+    assert!(rt; load(&mut scene, rt.alloc(), 4294967294).is_ok());
+    assert_eq!(rt; scene.next_edge(), 4294967295);
+    assert!(rt; are_refused(&scene, &NO_NUMBER_LEFT));
 }
 
 #[test]
@@ -700,7 +754,7 @@ fn does_each_edit_and_takes_it_back(rt: HostRuntime) {
     let mut scene = Scene::new(rt.alloc());
     assert!(rt; edit_all_twice(&mut scene, &SMALL).is_ok());
     assert!(rt; edit_all_twice(&mut scene, &CHANGES).is_ok());
-    assert!(rt; load(&mut scene, rt.alloc()).is_ok());
+    assert!(rt; load(&mut scene, rt.alloc(), 3).is_ok());
     assert!(rt; scene.settings().penalty == 9 && scene.next_edge() == 4);
     assert_eq!(rt;
         scene.node(1).map(|n| (n.x, n.y, n.half_w, n.half_h)),
@@ -715,7 +769,7 @@ fn does_each_edit_and_takes_it_back(rt: HostRuntime) {
 fn sees_floor_and_tasks(rt: HostRuntime) {
     let mut scene = Scene::new(rt.alloc());
     assert!(rt; edit_all(&mut scene, &SMALL).is_ok());
-    assert!(rt; load(&mut scene, rt.alloc()).is_ok());
+    assert!(rt; load(&mut scene, rt.alloc(), 3).is_ok());
     let floor = scene.floor().expect(&rt, "no memory for the floor");
     assert_eq!(rt; floor.solids.as_slice(), SOLIDS.as_slice());
     assert_eq!(rt; floor.anchors.as_slice(), ANCHORS.as_slice());

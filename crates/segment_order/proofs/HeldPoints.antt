@@ -22,7 +22,7 @@ along_on Vertical at z = refl
 along_on Horizontal at z = refl
 
 pub held : (r : Run) (p : Point) → across r.way p ≡ r.at → r.lo ≤ℤ along r.way p → along r.way p ≤ℤ r.hi → Holds (line_of r) p
-held r p at from to = record { place = along r.way p; from = from; to = to; here = on_line r.way p ∙ ap (λ z. point_on r.way z (along r.way p)) at }
+held r p at from to = record { along = along r.way p; from = from; to = to; here = on_line r.way p ∙ ap (λ z. point_on r.way z (along r.way p)) at }
 
 pub record IsHeld (r : Run) (p : Point) : Type 0 where
   pub at : across r.way p ≡ r.at
@@ -31,9 +31,9 @@ pub record IsHeld (r : Run) (p : Point) : Type 0 where
 
 pub is_held : (r : Run) (p : Point) → Holds (line_of r) p → IsHeld r p
 is_held r p h =
-    let place : h.place ≡ along r.way p = sym (along_on r.way r.at h.place) ∙ ap (λ q. along r.way q) (sym h.here) in
+    let same : h.along ≡ along r.way p = sym (along_on r.way r.at h.along) ∙ ap (λ q. along r.way q) (sym h.here) in
     record {
-      at = ap (λ q. across r.way q) h.here ∙ across_on r.way r.at h.place;
-      from = subst (λ z. r.lo ≤ℤ z) place h.from;
-      to = subst (λ z. z ≤ℤ r.hi) place h.to;
+      at = ap (λ q. across r.way q) h.here ∙ across_on r.way r.at h.along;
+      from = subst (λ z. r.lo ≤ℤ z) same h.from;
+      to = subst (λ z. z ≤ℤ r.hi) same h.to;
     }

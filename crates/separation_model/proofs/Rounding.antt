@@ -9,7 +9,7 @@ use Rattle.plane_geom.specs.Point.{IsCoordinate}
 use Rattle.separation_model.specs.declared.bundle.Bundle.{Bundle}
 use Rattle.separation_model.specs.declared.bundle.Solution.{Solution}
 use Rattle.separation_model.specs.Apart.{FractionIsOnSheet}
-use Rattle.separation_model.specs.Bundle.{IsBundle, Meets, SolutionIsOnSheet, asked, int_at, item_at, no_item}
+use Rattle.separation_model.specs.Bundle.{IsBundle, MeetsBundle, SolutionIsOnSheet, asked, int_at, item_at, no_item}
 use Rattle.separation_model.specs.Least.{IsLeast}
 use Rattle.separation_model.specs.Rounded.{IsRoundedDown, all_rounded_down, rounded_down}
 use Rattle.separation_model.proofs.Arithmetic.Ring.{mul_comm, mul-add, mul_assoc}
@@ -100,7 +100,7 @@ all_rounded_down-at (d ∷ dens) [] i h l = absurd (omega arith)
 all_rounded_down-at (d ∷ dens) (n ∷ nums) zero h l = refl
 all_rounded_down-at (d ∷ dens) (n ∷ nums) (suc i) h l = all_rounded_down-at dens nums i (omega arith) (omega arith)
 
-down_at : (b : Bundle) (gap : ℤ) (den : List ℕ) (place : List ℤ) → Meets b gap den place → (i : ℕ) → i < length b.items.items →
+down_at : (b : Bundle) (gap : ℤ) (den : List ℕ) (place : List ℤ) → MeetsBundle b gap den place → (i : ℕ) → i < length b.items.items →
     IsRoundedDown (int_at place i) (slice_index den i) (int_at (all_rounded_down den place) i)
 down_at b gap den place m i l =
     let some : 0 < slice_index den i = All-get_or (λ d. 0 < d) den i 0 (omega (arith, l, m.dens)) m.positive in
@@ -108,8 +108,8 @@ down_at b gap den place m i l =
     (rounded_down_is (int_at place i) (slice_index den i) some)
 
 -- the positions rounded down meet the bundle with the same whole gap
-pub rounded_meets : (b : Bundle) (gap : ℤ) (den : List ℕ) (place : List ℤ) → IsBundle b → Meets b gap den place →
-    Meets b gap (replicate (length b.items.items) 1) (all_rounded_down den place)
+pub rounded_meets : (b : Bundle) (gap : ℤ) (den : List ℕ) (place : List ℤ) → IsBundle b → MeetsBundle b gap den place →
+    MeetsBundle b gap (replicate (length b.items.items) 1) (all_rounded_down den place)
 rounded_meets b gap den place ok m =
     let n = length b.items.items in
     let unit : ℕ = 1 in
@@ -151,7 +151,7 @@ one_rounding b gap den other_den place other ok one two =
     (down_at b gap den place one.meets i within) (down_at b gap other_den other two.meets i within))
 
 -- positions that meet a bundle stand on the sheet
-pub solution_on_sheet : (b : Bundle) (gap : ℤ) (s : Solution) → IsBundle b → Meets b gap s.den.items s.pos.items → SolutionIsOnSheet s
+pub solution_on_sheet : (b : Bundle) (gap : ℤ) (s : Solution) → IsBundle b → MeetsBundle b gap s.den.items s.pos.items → SolutionIsOnSheet s
 solution_on_sheet b gap s ok m = record {
   same = m.dens ∙ sym m.places;
   each = λ i l.

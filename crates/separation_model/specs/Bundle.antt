@@ -73,7 +73,7 @@ abbrev pub slack : ℤ → List ℕ → List ℤ → Rule → ℤ
 slack gap den nums rule = fraction_slack (int_at nums rule.left) (slice_index den rule.left) (int_at nums rule.right) (slice_index den rule.right) (asked gap rule)
 
 -- the fractions are positions of the items that meet all limits and, with the gap, all rules
-pub record Meets (b : Bundle) (gap : ℤ) (den : List ℕ) (nums : List ℤ) : Type 0 where
+pub record MeetsBundle (b : Bundle) (gap : ℤ) (den : List ℕ) (nums : List ℤ) : Type 0 where
   pub dens : length den ≡ length b.items.items
   pub places : length nums ≡ length b.items.items
   pub positive : All (λ d. 0 < d) den

@@ -5,7 +5,7 @@ use Rattle.separation_model.specs.declared.bundle.Rule.{Rule}
 use Rattle.separation_model.specs.declared.bundle.Bundle.{Bundle}
 use Rattle.separation_model.specs.declared.bundle.Solution.{Solution}
 use Rattle.separation_model.specs.Sum.{sum_at}
-use Rattle.separation_model.specs.Bundle.{Meets, item_at, int_at, rule_at, slack}
+use Rattle.separation_model.specs.Bundle.{MeetsBundle, item_at, int_at, rule_at, slack}
 
 -- the sum of the multipliers of the rules in which the item at the index is on the right
 abbrev pub from_left : ℕ → List Rule → List ℤ → ℤ
@@ -35,7 +35,7 @@ IsBalanced b s i =
 
 -- the positions meet the bundle, and the multipliers show that they are least
 pub record IsCertified (b : Bundle) (s : Solution) : Type 0 where
-  pub meets : Meets b s.gap s.den.items s.pos.items
+  pub meets : MeetsBundle b s.gap s.den.items s.pos.items
   pub mults : length s.mult.items ≡ length b.rules.items
   pub lows : length s.low.items ≡ length b.items.items
   pub highs : length s.high.items ≡ length b.items.items

@@ -3,7 +3,7 @@ use Rattle.std.specs.Prelude.{ℕ, ◌/◌, ◌<◌, ℤ, pos, ◌-ℤ◌, ◌*�
 use Rattle.separation_model.specs.declared.bundle.Item.{Item}
 use Rattle.separation_model.specs.declared.bundle.Bundle.{Bundle}
 use Rattle.separation_model.specs.Sum.{sum_below, product}
-use Rattle.separation_model.specs.Bundle.{Meets, item_at, int_at}
+use Rattle.separation_model.specs.Bundle.{MeetsBundle, item_at, int_at}
 
 -- the square of a number
 abbrev pub square : ℤ → ℤ
@@ -21,7 +21,7 @@ over_product den nums i = int_at nums i *ℤ pos (product den / slice_index den 
 
 -- the positions meet the bundle, and no fractions that meet it have a lower weighted sum of squared displacements
 pub record IsLeast (b : Bundle) (gap : ℤ) (den : List ℕ) (nums : List ℤ) : Type 0 where
-  pub meets : Meets b gap den nums
-  pub least : (q : ℕ) (other : List ℤ) → 0 < q → Meets b gap (replicate (length b.items.items) q) other →
+  pub meets : MeetsBundle b gap den nums
+  pub least : (q : ℕ) (other : List ℤ) → 0 < q → MeetsBundle b gap (replicate (length b.items.items) q) other →
       (square (pos q) *ℤ squared_displacement b.items.items (product den) (over_product den nums)) ≤ℤ
       (square (pos (product den)) *ℤ squared_displacement b.items.items q (int_at other))

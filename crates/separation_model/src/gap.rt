@@ -4,8 +4,8 @@ ghost use Rattle.std.specs.Prelude.{pos, ◌+ℤ◌, ◌≤ℤ◌, ◌<ℤ◌, I
 ghost use Rattle.std.specs.Bool.{MatchBool};
 ghost use Rattle.std.specs.List.Sorted.{IsNonDecreasingBy, IsPermutation};
 ghost use Rattle.separation_model.specs.Bundle.{IsBundle, IsGapUpTo};
-ghost use Rattle.separation_model.specs.Gap.{HasRoom, IsWidestGap};
-ghost use Rattle.separation_model.specs.Latest.{HasNoRoom};
+ghost use Rattle.separation_model.specs.Gap.{HasPositions, IsWidestGap};
+ghost use Rattle.separation_model.specs.Latest.{HasNoPositions};
 
 use crate::bundle::{Bundle, Rule};
 use crate::latest::{latest_positions, rules_by_left};
@@ -17,7 +17,7 @@ fn has_room(alloc: Global, bundle: &Bundle, by_left: &[Rule], gap: i64) -> Resul
     requires same { IsPermutation bundle.now.rules.items by_left.now }
     requires sorted { IsNonDecreasingBy (λ rule. rule.left) by_left.now }
     requires gap { IsGapUpTo (pos 1000000) gap }
-    ensures { IfOk result (λ met. MatchBool met (HasRoom bundle.now gap) (HasNoRoom bundle.now gap)) }
+    ensures { IfOk result (λ met. MatchBool met (HasPositions bundle.now gap) (HasNoPositions bundle.now gap)) }
 {
     match latest_positions(alloc, bundle, by_left, gap)? {
         Some(_) => Ok(true),

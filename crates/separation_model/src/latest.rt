@@ -3,7 +3,7 @@
 ghost use Rattle.std.specs.Prelude.{◌≡◌, pos, ◌≤ℤ◌, IfOk, MatchOption, map};
 ghost use Rattle.std.specs.List.Sorted.{IsNonDecreasingBy, IsPermutation};
 ghost use Rattle.separation_model.specs.Bundle.{IsBundle, IsGapUpTo};
-ghost use Rattle.separation_model.specs.Latest.{HasNoRoom, IsLatest};
+ghost use Rattle.separation_model.specs.Latest.{HasNoPositions, IsLatest};
 
 use crate::bundle::{Bundle, Item, Rule};
 use std::alloc::{AllocError, Global};
@@ -41,7 +41,7 @@ pub fn latest_positions(
     requires same { IsPermutation bundle.now.rules.items by_left.now }
     requires sorted { IsNonDecreasingBy (λ rule. rule.left) by_left.now }
     requires gap { IsGapUpTo (pos 1000000) gap }
-    ensures { IfOk result (λ found. MatchOption found (HasNoRoom bundle.now gap)
+    ensures { IfOk result (λ found. MatchOption found (HasNoPositions bundle.now gap)
         (λ places. IsLatest bundle.now gap places.items)) }
 {
     let mut places = upper_limits(alloc, &bundle.items)?;

@@ -4,7 +4,7 @@ ghost use Rattle.std.specs.Prelude.{◌≡◌, ◌↔◌, ℕ, ◌<◌, ℤ, ◌
 ghost use Rattle.separation_model.specs.declared.bundle.TheConstants.{MOST_ITEMS};
 ghost use Rattle.separation_model.specs.declared.bundle.Bundle.{Bundle};
 ghost use Rattle.separation_model.specs.declared.bundle.Solution.{Solution};
-ghost use Rattle.separation_model.specs.Bundle.{IsBundle, Meets, SolutionIsOnSheet, int_at, most_items};
+ghost use Rattle.separation_model.specs.Bundle.{IsBundle, MeetsBundle, SolutionIsOnSheet, int_at, most_items};
 ghost use Rattle.separation_model.specs.Gap.{IsGap, IsWidestGap};
 ghost use Rattle.separation_model.specs.Least.{IsLeast};
 ghost use Rattle.separation_model.specs.Certified.{IsCertified};
@@ -40,7 +40,7 @@ pub fn least_positions_exist()
 /// Positions that meet a bundle stand on the sheet.
 pub fn met_positions_are_on_sheet()
     ensures { (b : Bundle) (gap : ℤ) (s : Solution) → IsBundle b →
-        Meets b gap s.den.items s.pos.items → SolutionIsOnSheet s }
+        MeetsBundle b gap s.den.items s.pos.items → SolutionIsOnSheet s }
 {}
 
 /// A position has one whole coordinate that is not above it while the next one is.
@@ -52,8 +52,8 @@ pub fn rounded_down_is_below()
 /// Rounding down keeps whole limits and whole gaps: where positions meet a bundle, so do the coordinates next below.
 pub fn rounded_down_meets()
     ensures { (b : Bundle) (gap : ℤ) (den : List ℕ) (nums : List ℤ) → IsBundle b →
-        Meets b gap den nums →
-        Meets b gap (replicate (length b.items.items) 1) (all_rounded_down den nums) }
+        MeetsBundle b gap den nums →
+        MeetsBundle b gap (replicate (length b.items.items) 1) (all_rounded_down den nums) }
 {}
 
 /// Equal fractions have one rounding, and so have all least positions of a bundle and a gap.

@@ -130,8 +130,8 @@ keeps_tells p m k =
     (elim k.why [ inl h ↦ or_first (int_lt p.lo p.hi) (is_anchor m.kind) (lt_tells p.lo p.hi h) | inr h ↦ or_second (int_lt p.lo p.hi) (is_anchor m.kind) h ])
 
 held_by : (way : Way) (at : ℤ) (p : Piece) (q : Point) → across way q ≡ at → p.lo ≤ℤ along way q → along way q ≤ℤ p.hi → Holds (line_of way at p) q
-held_by Vertical at p q e l h = record { place = q.y; from = l; to = h; here = λ i. record { x = e i; y = q.y } }
-held_by Horizontal at p q e l h = record { place = q.x; from = l; to = h; here = λ i. record { x = q.x; y = e i } }
+held_by Vertical at p q e l h = record { along = q.y; from = l; to = h; here = λ i. record { x = e i; y = q.y } }
+held_by Horizontal at p q e l h = record { along = q.x; from = l; to = h; here = λ i. record { x = q.x; y = e i } }
 
 pub held_across : (way : Way) (at z : ℤ) (q : Point) → q ≡ point_on way at z → (across way q ≡ at) × (along way q ≡ z)
 held_across Vertical at z q e = (ap (λ (q : Point). q.x) e, ap (λ (q : Point). q.y) e)
@@ -205,6 +205,6 @@ module _ (floor : Floor) (way : Way) (at : ℤ) (here : List Mark) (are : AreAt 
   keeps_of_reason p (inr a) =
       let q = a.1 in
       let h = a.4 in
-      let e = held_across way at h.place q h.here in
+      let e = held_across way at h.along q h.here in
       keeps_by p (anchor_mark way q) (marks_have_anchors way (bars_of way floor.solids) floor.anchors q (among_of_any (Holds (line_of way at p)) floor.anchors a)) e.0
       (record { from = subst (λ z. z ≤ℤ p.hi) (sym e.1) h.to; to = subst (λ z. p.lo ≤ℤ z) (sym e.1) h.from; why = inr refl })

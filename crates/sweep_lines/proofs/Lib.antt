@@ -1,3 +1,4 @@
+-- The lemmas on the sweeps, callees first.
 pub mod Members
 pub mod OneList
 pub mod Gaps

@@ -51,7 +51,7 @@ mark_of_reason : (floor : Floor) (way : Way) (l : Line) → Reason floor l → l
 mark_of_reason floor way l (inl (o, a)) w = mark_of_side floor way l a.1 (among_of_any (λ s. SharesSide l s.rect) floor.solids a) a.4 w
 mark_of_reason floor way l (inr a) w =
     let h = a.4 in
-    let e = held_across way l.at h.place a.1 (subst (λ v. a.1 ≡ point_on v l.at h.place) w h.here) in
+    let e = held_across way l.at h.along a.1 (subst (λ v. a.1 ≡ point_on v l.at h.along) w h.here) in
     (anchor_mark way a.1, marks_have_anchors way (bars_of way floor.solids) floor.anchors a.1 (among_of_any (Holds l) floor.anchors a), e.0)
 
 across_within : (way : Way) (p : Point) → PointIsOnSheet p → IsCoordinate (across way p)

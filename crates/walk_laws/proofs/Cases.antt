@@ -41,9 +41,9 @@ west_line = refl
 vertical_outside : (floor : Floor) (l : Line) (p : Point) → IsKept floor l → l.way ≡ Vertical → Holds l p → All (λ s. HasInside s.rect p → ⊥) floor.solids
 vertical_outside floor l p kept way h k s inside within =
     let r = (get_or floor.solids k s).rect in
-    let here : p ≡ point_on Vertical l.at h.place = h.here ∙ ap (λ (w : Way). point_on w l.at h.place) way in
+    let here : p ≡ point_on Vertical l.at h.along = h.here ∙ ap (λ (w : Way). point_on w l.at h.along) way in
     let x : p.x ≡ l.at = ap (λ (q : Point). q.x) here in
-    let y : p.y ≡ h.place = ap (λ (q : Point). q.y) here in
+    let y : p.y ≡ h.along = ap (λ (q : Point). q.y) here in
     let piece = kept.longest.piece in
     let meets : Meets r (point_on Vertical l.at l.lo) (point_on Vertical l.at l.hi) = meets_barred r Vertical l.at l.lo l.hi
     (record { low = omega (arith, ints, x, within.x.0); high = omega (arith, ints, x, within.x.1); some = omega (arith, ints, within.y.0, within.y.1) })

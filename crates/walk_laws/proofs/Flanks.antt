@@ -13,10 +13,10 @@ use Rattle.walk_laws.specs.Lines.{run_line}
 
 -- the line of a run holds each of its points
 pub run_holds : (p : Point) (d : Dir) (n k : ℕ) → k ≤ n → Holds (run_line p d n) (forward d k p)
-run_holds p East n k h = record { place = p.x +ℤ pos k; from = omega (arith, ints); to = omega (arith, ints); here = refl }
-run_holds p South n k h = record { place = p.y +ℤ pos k; from = omega (arith, ints); to = omega (arith, ints); here = refl }
-run_holds p West n k h = record { place = p.x -ℤ pos k; from = omega (arith, ints); to = omega (arith, ints); here = refl }
-run_holds p North n k h = record { place = p.y -ℤ pos k; from = omega (arith, ints); to = omega (arith, ints); here = refl }
+run_holds p East n k h = record { along = p.x +ℤ pos k; from = omega (arith, ints); to = omega (arith, ints); here = refl }
+run_holds p South n k h = record { along = p.y +ℤ pos k; from = omega (arith, ints); to = omega (arith, ints); here = refl }
+run_holds p West n k h = record { along = p.x -ℤ pos k; from = omega (arith, ints); to = omega (arith, ints); here = refl }
+run_holds p North n k h = record { along = p.y -ℤ pos k; from = omega (arith, ints); to = omega (arith, ints); here = refl }
 
 -- the unit square beside a step lies in the closed rectangle
 pub record HasSquare (r : Rect) (p : Point) (d u : Dir) : Type 0 where

@@ -159,10 +159,10 @@ side_coordinate r p North n h s = elim s.2.0 as (λ _. IsCoordinate p.x) [ inl e
 -- a line on the same whole line that reaches further holds and shares what the other does
 pub holds_longer : (l m : Line) (p : Point) → AreOnOneWholeLine m l → m.lo ≤ℤ l.lo → l.hi ≤ℤ m.hi → Holds l p → Holds m p
 holds_longer l m p o from to h = record {
-  place = h.place;
+  along = h.along;
   from = omega (arith, ints, from, h.from);
   to = omega (arith, ints, to, h.to);
-  here = h.here ∙ ap (λ (w : Way). point_on w l.at h.place) (sym o.way) ∙ ap (λ (z : ℤ). point_on m.way z h.place) (sym o.at);
+  here = h.here ∙ ap (λ (w : Way). point_on w l.at h.along) (sym o.way) ∙ ap (λ (z : ℤ). point_on m.way z h.along) (sym o.at);
 }
 
 side_longer : (l m : Line) (r : Rect) → AreOnOneWholeLine m l → m.lo ≤ℤ l.lo → l.hi ≤ℤ m.hi → SharesSide l r → SharesSide m r

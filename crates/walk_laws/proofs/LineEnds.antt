@@ -58,7 +58,7 @@ last_among floor l way zs h kept same =
     (points_on_contains l.way zs (ends_of l.way floor.solids) l.at l.hi (kept_coordinate floor l zs (subst (λ w. HasCoordinates floor w zs) (sym same) h) kept) (line_end floor l kept))
 
 pub last_held : (floor : Floor) (l : Line) → IsKept floor l → Holds l (last_point l)
-last_held floor l kept = record { place = l.hi; from = kept.longest.piece.ordered; to = omega (arith, ints); here = refl }
+last_held floor l kept = record { along = l.hi; from = kept.longest.piece.ordered; to = omega (arith, ints); here = refl }
 
 -- 1280 coordinates, and 256 solids and the sheet
 pub few_ends : (floor : Floor) (is_floor : IsFloor floor) (way : Way) → length (points_on way (is_floor.coordinates way).0 (ends_of way floor.solids)) ≤ 328960

@@ -85,7 +85,7 @@ point_piece floor p h out Vertical = (
         out k s inside (record { x = (b.0.low, b.0.high); y = (b.2, b.1) });
   },
   refl,
-  record { place = p.y; from = omega (arith, ints); to = omega (arith, ints); here = refl },
+  record { along = p.y; from = omega (arith, ints); to = omega (arith, ints); here = refl },
 )
 point_piece floor p h out Horizontal = (
   record { way = Horizontal; at = p.y; lo = p.x; hi = p.x },
@@ -99,7 +99,7 @@ point_piece floor p h out Horizontal = (
         out k s inside (record { x = (b.2, b.1); y = (b.0.low, b.0.high) });
   },
   refl,
-  record { place = p.x; from = omega (arith, ints); to = omega (arith, ints); here = refl },
+  record { along = p.x; from = omega (arith, ints); to = omega (arith, ints); here = refl },
 )
 
 kept_through : (floor : Floor) (p : Point) → PointIsOnSheet p → Contains floor.anchors p → All (λ s. HasInside s.rect p → ⊥) floor.solids → (way : Way) → (l : Line) × IsKept floor l × (l.way ≡ way) × Holds l p
@@ -142,7 +142,7 @@ place_across Horizontal at at' z z' e = ap (λ (p : Point). p.y) e
 pub one_line : (floor : Floor) (l m : Line) (p : Point) → IsKept floor l → IsKept floor m → l.way ≡ m.way → Holds l p → Holds m p → l ≡ m
 one_line floor l m p k k' way h h' =
     longest_apart floor l m p k.longest k'.longest
-    (record { way = way; at = place_across l.way l.at m.at h.place h'.place (sym h.here ∙ h'.here ∙ ap (λ (w : Way). point_on w m.at h'.place) (sym way)) }) h h'
+    (record { way = way; at = place_across l.way l.at m.at h.along h'.along (sym h.here ∙ h'.here ∙ ap (λ (w : Way). point_on w m.at h'.along) (sym way)) }) h h'
 
 -- a point of a kept line is on the sheet
 on_piece_in : (way : Way) (at place : ℤ) → IsCoordinate at → IsCoordinate place → PointIsOnSheet (point_on way at place)
@@ -150,7 +150,7 @@ on_piece_in Vertical at place h k = record { x = h; y = k }
 on_piece_in Horizontal at place h k = record { x = k; y = h }
 
 held_in : (floor : Floor) (l : Line) (p : Point) → IsFreePiece floor l → Holds l p → PointIsOnSheet p
-held_in floor l p f h = subst PointIsOnSheet (sym h.here) (on_piece_in l.way l.at h.place f.at (between_coordinates l.lo h.place l.hi f.lo f.hi h.from h.to))
+held_in floor l p f h = subst PointIsOnSheet (sym h.here) (on_piece_in l.way l.at h.along f.at (between_coordinates l.lo h.along l.hi f.lo f.hi h.from h.to))
 
 module _ (floor : Floor) (task : Task) (t : Triple) (is_task : IsTask task) (on : IsFloorOf floor task) (first : IsFirst floor.solids task t) where
   abbrev pub s : Choice

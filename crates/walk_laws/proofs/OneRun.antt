@@ -54,12 +54,12 @@ pub record AreJoined (solids : List Solid) (p q : Point) : Type 0 where
 
 pub joined_on_piece : (floor : Floor) (l : Line) (p q : Point) → IsFreePiece floor l → Holds l p → Holds l q → AreJoined floor.solids p q
 joined_on_piece floor l p q f h k =
-    let a = point_on l.way l.at h.place in
-    let b = point_on l.way l.at k.place in
-    let straight : IsStraight p q = subst (λ x. IsStraight x q) (sym h.here) (subst (IsStraight a) (sym k.here) (straight_on l.way l.at h.place k.place)) in
+    let a = point_on l.way l.at h.along in
+    let b = point_on l.way l.at k.along in
+    let straight : IsStraight p q = subst (λ x. IsStraight x q) (sym h.here) (subst (IsStraight a) (sym k.here) (straight_on l.way l.at h.along k.along)) in
     let free : All (λ s. Meets s.rect p q → ⊥) floor.solids =
     subst (λ x. All (λ s. Meets s.rect x q → ⊥) floor.solids) (sym h.here) (subst (λ x. All (λ s. Meets s.rect a x → ⊥) floor.solids) (sym k.here)
-    (between_free floor l.way l.at l.lo l.hi h.place k.place f h.from h.to k.from k.to)) in
+    (between_free floor l.way l.at l.lo l.hi h.along k.along f h.from h.to k.from k.to)) in
     record {
       straight = straight;
       clear = not_met_clear floor.solids p (heading p q) (distance p q) (subst (λ x. All (λ s. Meets s.rect p x → ⊥) floor.solids) (sym (straight_end p q straight)) free);

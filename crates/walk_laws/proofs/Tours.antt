@@ -63,14 +63,14 @@ module _ (solids : List Solid) (via : List Point) (s : Choice) (w : Walk) (e : C
       let b = stub_length e in
       let n = length w.steps in
       let middle = take (n - b - a) (drop a w.steps) in
-      let behind : drop (n - b - a) (drop a w.steps) ≡ stub_back e = drop-drop (n - b - a) a w.steps ∙ ap (λ k. drop k w.steps) (let k : a + (n - b - a) ≡ n - b = omega (arith, l.room) in k) ∙ l.arrives.stub in
+      let behind : drop (n - b - a) (drop a w.steps) ≡ stub_back e = drop-drop (n - b - a) a w.steps ∙ ap (λ k. drop k w.steps) (let k : a + (n - b - a) ≡ n - b = omega (arith, l.stubs_fit) in k) ∙ l.arrives.stub in
       let steps : w.steps ≡ stub s ++ (middle ++ stub_back e) =
       sym (take-append-drop a w.steps) ∙ ap (λ ds. ds ++ drop a w.steps) l.leaves.stub
       ∙ ap (λ ds. stub s ++ ds) (sym (take-append-drop (n - b - a) (drop a w.steps)) ∙ ap (λ ds. middle ++ ds) behind) in
       let first : length (stub s) ≡ a = length-replicate a s.dir in
       let inner : length middle ≡ n - b - a = length-take-le (n - b - a) (drop a w.steps) (omega (arith, length-drop a w.steps)) in
       let last : length (stub_back e) ≡ b = length-replicate b (opposite e.dir) in
-      let two : length (stub s ++ middle) ≡ n - b = omega (arith, length-append (stub s) middle, first, inner, l.room) in
+      let two : length (stub s ++ middle) ≡ n - b = omega (arith, length-append (stub s) middle, first, inner, l.stubs_fit) in
       let whole : w.steps ≡ (stub s ++ middle) ++ stub_back e = steps ∙ sym (append_assoc (stub s) middle (stub_back e)) in
       let port : after w.start (stub s) ≡ s.port = ap (λ p. after p (stub s)) l.leaves.pin ∙ to_port s hs in
       let there : after s.port middle ≡ e.port =
@@ -87,10 +87,10 @@ module _ (solids : List Solid) (via : List Point) (s : Choice) (w : Walk) (e : C
           reaches = there;
           end_stub = subst (λ p. IsClear solids (Some e.node) p (stub_back e)) (after-append w.start (stub s) middle ∙ ap (λ p. after p middle) port ∙ there)
               (clear_from_free solids (Some e.node) w (stub s ++ middle) (stub_back e) [] (whole ∙ sym (ap (λ ds. (stub s ++ middle) ++ ds) (append-nil (stub_back e))))
-              (λ k low high. l.end_stub k (omega (arith, two)) (omega (arith, two, last, l.room))));
+              (λ k low high. l.end_stub k (omega (arith, two)) (omega (arith, two, last, l.stubs_fit))));
           comes = subst (λ p. ComesBy p middle via) port
               (comes_from_passes w (stub s) middle (stub_back e) via steps
-              (subst (λ i. Passes w i (length (stub s) + length middle) via) (sym first) (subst (λ j. Passes w a j via) (omega (arith, first, inner, l.room)) l.checkpoints)));
+              (subst (λ i. Passes w i (length (stub s) + length middle) via) (sym first) (subst (λ j. Passes w a j via) (omega (arith, first, inner, l.stubs_fit)) l.checkpoints)));
         },
       )
 
@@ -112,7 +112,7 @@ module _ (solids : List Solid) (via : List Point) (s : Choice) (w : Walk) (e : C
           pin = ap (λ ds. after w.start ds) whole ∙ after-append w.start (stub s ++ middle) (stub_back e) ∙ ap (λ p. after p (stub_back e)) there ∙ to_pin e he;
           stub = ap (drop (length w.steps - b)) whole ∙ drop_at (stub s ++ middle) (stub_back e) (length w.steps - b) two;
         };
-        room = omega (arith, long);
+        stubs_fit = omega (arith, long);
         start_stub = λ k low high. free_from_clear solids (Some s.node) w [] (stub s) (middle ++ stub_back e) t.steps
             (subst (λ p. IsClear solids (Some s.node) p (stub s)) (sym t.start) t.start_stub) k low (omega (arith, first));
         between = λ k low high. free_from_clear solids None w (stub s) middle (stub_back e) t.steps

@@ -230,8 +230,8 @@ legal_told solids via s w e =
     let n = length w.steps in
     let b = stub_length e in
     tells_as
-    (λ h. record { leaves = h.0.0.0; arrives = h.0.0.1; room = h.0.1.0; checkpoints = h.0.1.1; start_stub = h.1.0.0; between = h.1.0.1; end_stub = h.1.1 })
-    (λ h. (((h.leaves, h.arrives), (h.room, h.checkpoints)), ((h.start_stub, h.between), h.end_stub)))
+    (λ h. record { leaves = h.0.0.0; arrives = h.0.0.1; stubs_fit = h.0.1.0; checkpoints = h.0.1.1; start_stub = h.1.0.0; between = h.1.0.1; end_stub = h.1.1 })
+    (λ h. (((h.leaves, h.arrives), (h.stubs_fit, h.checkpoints)), ((h.start_stub, h.between), h.end_stub)))
     (both
     (both (both (leaves_told w s) (arrives_told w e)) (both (nat_le_told (a + b) n) (passes_told w (n - b) via a)))
     (both (both (free_told solids (Some s.node) w 0 a) (free_told solids None w a (n - b))) (free_told solids (Some e.node) w (n - b) n)))

@@ -28,7 +28,7 @@ corners p [] = []
 corners p (d ∷ ds) = corners_after d (forward d 1 p) ds
 
 -- a stretch goes on the run before it
-corners_after-stretch : (d : Dir) (n : ℕ) (p : Point) (ds : List Dir) → corners_after d p (replicate n d ++ ds) ≡ corners_after d (forward d n p) ds
+pub corners_after-stretch : (d : Dir) (n : ℕ) (p : Point) (ds : List Dir) → corners_after d p (replicate n d ++ ds) ≡ corners_after d (forward d n p) ds
 corners_after-stretch d zero p ds = ap (λ (q : Point). corners_after d q ds) (sym (forward-zero d p))
 corners_after-stretch d (suc n) p ds =
     ap (λ k. if k == 0 then corners_after d (forward d 1 p) (replicate n d ++ ds) else p ∷ corners_after d (forward d 1 p) (replicate n d ++ ds)) (turn_same d)
@@ -90,7 +90,7 @@ all_corners p [] straight h = refl
 all_corners p (q ∷ qs) straight h = first_by (heading p q) (distance p q) p q qs straight.1 (straight_end p q straight.0) h
 
 -- the points of a line that draws the walk with one point more than runs
-points_are : (points : List Point) (w : Walk) → Draws points w → length points ≡ runs w.steps + 1 → points ≡ w.start ∷ corners w.start w.steps
+pub points_are : (points : List Point) (w : Walk) → Draws points w → length points ≡ runs w.steps + 1 → points ≡ w.start ∷ corners w.start w.steps
 points_are [] w draws h = absurd draws
 points_are (p ∷ qs) w draws h =
     let count : length qs ≡ runs w.steps = omega (arith, h) in

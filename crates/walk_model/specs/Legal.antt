@@ -39,7 +39,7 @@ pub record PassesMost (w : Walk) (from to : ℕ) (via : List Point) (count : ℕ
 pub record IsLegal (solids : List Solid) (via : List Point) (s : Choice) (w : Walk) (e : Choice) : Type 0 where
   pub leaves : Leaves w s
   pub arrives : Arrives w e
-  pub room : stub_length s + stub_length e ≤ length w.steps
+  pub stubs_fit : stub_length s + stub_length e ≤ length w.steps
   pub start_stub : IsFree solids (Some s.node) w 0 (stub_length s)
   pub between : IsFree solids None w (stub_length s) (length w.steps - stub_length e)
   pub end_stub : IsFree solids (Some e.node) w (length w.steps - stub_length e) (length w.steps)

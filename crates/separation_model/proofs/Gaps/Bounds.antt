@@ -12,8 +12,8 @@ use Rattle.separation_model.specs.declared.bundle.Rule.{Rule}
 use Rattle.separation_model.specs.declared.bundle.Item.{Item}
 use Rattle.separation_model.specs.declared.bundle.Bundle.{Bundle}
 use Rattle.plane_geom.specs.Point.{IsCoordinate}
-use Rattle.separation_model.specs.Bundle.{IsBundle, IsRule, Meets, item_at, rule_at, int_at, slack, asked, no_item, no_rule}
-use Rattle.separation_model.specs.Latest.{IsLatest, IsNoneBeyond, HasNoRoom, IsRuleKept}
+use Rattle.separation_model.specs.Bundle.{IsBundle, IsRule, MeetsBundle, item_at, rule_at, int_at, slack, asked, no_item, no_rule}
+use Rattle.separation_model.specs.Latest.{IsLatest, IsNoneBeyond, HasNoPositions, IsRuleKept}
 use Rattle.separation_model.proofs.Arithmetic.Ring.{ring, var, num, ◌⊕◌, ◌⊗◌, ◌⊖◌, mul_comm}
 use Rattle.separation_model.proofs.Arithmetic.Order.{mul-mono, cancel_le}
 
@@ -56,7 +56,7 @@ carried pl pr a bound dl dr positive h k =
     cancel_le dr pl ((bound -ℤ a) *ℤ pos dl) positive
     (omega (arith, ints, e, h, mul-mono (pos dl) pr (bound *ℤ pos dr) (omega (arith, ints)) k, mul_comm pr (pos dl), mul_comm pl (pos dr)))
 
-beyond_left : (b : Bundle) (gap : ℤ) (rs : List Rule) (j : ℕ) (places : List ℤ) (den : List ℕ) (place : List ℤ) → IsBundle b → IsByLeft b rs → j < length rs → length places ≡ length b.items.items → IsNoneBeyond b gap places → Meets b gap den place →
+beyond_left : (b : Bundle) (gap : ℤ) (rs : List Rule) (j : ℕ) (places : List ℤ) (den : List ℕ) (place : List ℤ) → IsBundle b → IsByLeft b rs → j < length rs → length places ≡ length b.items.items → IsNoneBeyond b gap places → MeetsBundle b gap den place →
     int_at place (rule_at rs j).left ≤ℤ ((int_at places (rule_at rs j).right -ℤ asked gap (rule_at rs j)) *ℤ pos (slice_index den (rule_at rs j).left))
 beyond_left b gap rs j places den place ok by l len beyond m =
     let r = rule_at rs j in
@@ -67,7 +67,7 @@ beyond_left b gap rs j places den place ok by l len beyond m =
 
 -- a bound left of the item's limit: nothing meets the bundle
 pub no_room : (b : Bundle) (gap : ℤ) (rs : List Rule) (j : ℕ) (places : List ℤ) → IsBundle b → IsByLeft b rs → j < length rs → IsBound b gap rs (j + 1) places →
-    (int_at places (rule_at rs j).right -ℤ asked gap (rule_at rs j)) <ℤ (item_at b.items.items (rule_at rs j).left).lo → HasNoRoom b gap
+    (int_at places (rule_at rs j).right -ℤ asked gap (rule_at rs j)) <ℤ (item_at b.items.items (rule_at rs j).left).lo → HasNoPositions b gap
 no_room b gap rs j places ok by l bound below den place m =
     let r = rule_at rs j in
     let is = rule_in b rs j ok by l in

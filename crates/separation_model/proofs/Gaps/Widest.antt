@@ -4,9 +4,9 @@ use Rattle.std.specs.Prelude.{slice_index, slice_index_or}
 use Rattle.std.proofs.lemmas.Int.{ints}
 use Rattle.separation_model.specs.declared.bundle.Rule.{Rule}
 use Rattle.separation_model.specs.declared.bundle.Bundle.{Bundle}
-use Rattle.separation_model.specs.Bundle.{IsBundle, Meets, item_at, slack, asked, no_item}
-use Rattle.separation_model.specs.Gap.{HasRoom, IsWidestGap}
-use Rattle.separation_model.specs.Latest.{HasNoRoom}
+use Rattle.separation_model.specs.Bundle.{IsBundle, MeetsBundle, item_at, slack, asked, no_item}
+use Rattle.separation_model.specs.Gap.{HasPositions, IsWidestGap}
+use Rattle.separation_model.specs.Latest.{HasNoPositions}
 use Rattle.separation_model.proofs.Arithmetic.Ring.{ring, var, ◌⊗◌, ◌⊖◌}
 use Rattle.separation_model.proofs.Arithmetic.Order.{mul-nonneg}
 use Rattle.separation_model.proofs.Optimum.Positions.{MeetsOver, listed, listed_meets}
@@ -21,7 +21,7 @@ narrower_slack wider gap den place rule h k =
     ring (asked wider rule ∷ asked gap rule ∷ l ∷ r ∷ []) ((var 0 ⊖ var 1) ⊗ (var 2 ⊗ var 3)) ((var 0 ⊗ var 2 ⊗ var 3) ⊖ (var 1 ⊗ var 2 ⊗ var 3)) refl in
     omega (arith, ints, k, e, mul-nonneg (asked wider rule -ℤ asked gap rule) (l *ℤ r) less both)
 
-pub narrower_meets : (b : Bundle) (wider gap : ℤ) (den : List ℕ) (place : List ℤ) → gap ≤ℤ wider → Meets b wider den place → Meets b gap den place
+pub narrower_meets : (b : Bundle) (wider gap : ℤ) (den : List ℕ) (place : List ℤ) → gap ≤ℤ wider → MeetsBundle b wider den place → MeetsBundle b gap den place
 narrower_meets b wider gap den place h m = record {
   dens = m.dens;
   places = m.places;
@@ -46,33 +46,33 @@ pub record IsBetween (b : Bundle) (met unmet : ℤ) : Type 0 where
   pub low : pos 0 ≤ℤ met
   pub apart : met <ℤ unmet
   pub high : unmet ≤ℤ (b.wanted +ℤ pos 1)
-  pub room : HasRoom b met
-  pub none : (wider : ℤ) → unmet ≤ℤ wider → wider ≤ℤ b.wanted → HasNoRoom b wider
+  pub positions : HasPositions b met
+  pub none : (wider : ℤ) → unmet ≤ℤ wider → wider ≤ℤ b.wanted → HasNoPositions b wider
 
 pub between_none : (b : Bundle) (met unmet : ℤ) → IsBundle b → met ≡ pos 0 → unmet ≡ b.wanted +ℤ pos 1 → IsBetween b met unmet
 between_none b met unmet ok zero top = record {
   low = omega (arith, ints);
   apart = omega (arith, ints, ok.wanted_low);
   high = omega (arith, ints);
-  room = subst (HasRoom b) (sym zero) (record { places = listed (length b.items.items) (λ i. (item_at b.items.items i).want); meets = listed_meets b (pos 0) 1 (λ i. (item_at b.items.items i).want) ok (wants_meet b ok) });
+  positions = subst (HasPositions b) (sym zero) (record { places = listed (length b.items.items) (λ i. (item_at b.items.items i).want); meets = listed_meets b (pos 0) 1 (λ i. (item_at b.items.items i).want) ok (wants_meet b ok) });
   none = λ wider h k. absurd (omega (arith, ints, h, k));
 }
 
-pub between_met : (b : Bundle) (met unmet middle : ℤ) → IsBetween b met unmet → met <ℤ middle → middle <ℤ unmet → HasRoom b middle → IsBetween b middle unmet
+pub between_met : (b : Bundle) (met unmet middle : ℤ) → IsBetween b met unmet → met <ℤ middle → middle <ℤ unmet → HasPositions b middle → IsBetween b middle unmet
 between_met b met unmet middle h less more found = record {
   low = omega (arith, ints, h.low, less);
   apart = more;
   high = h.high;
-  room = found;
+  positions = found;
   none = h.none;
 }
 
-pub between_unmet : (b : Bundle) (met unmet middle : ℤ) → IsBetween b met unmet → met <ℤ middle → middle <ℤ unmet → HasNoRoom b middle → IsBetween b met middle
+pub between_unmet : (b : Bundle) (met unmet middle : ℤ) → IsBetween b met unmet → met <ℤ middle → middle <ℤ unmet → HasNoPositions b middle → IsBetween b met middle
 between_unmet b met unmet middle h less more none = record {
   low = h.low;
   apart = less;
   high = omega (arith, ints, h.high, more);
-  room = h.room;
+  positions = h.positions;
   none = λ wider up k den place m. none den place (narrower_meets b wider middle den place up m);
 }
 
@@ -80,6 +80,6 @@ pub between_all : (b : Bundle) (met unmet : ℤ) → IsBetween b met unmet → u
 between_all b met unmet h near = record {
   low = h.low;
   high = omega (arith, ints, h.apart, h.high);
-  room = h.room;
+  positions = h.positions;
   widest = λ wider den place more k m. h.none wider (omega (arith, ints, near, more)) k den place m;
 }

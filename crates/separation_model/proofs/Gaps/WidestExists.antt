@@ -5,8 +5,8 @@ use Rattle.separation_model.specs.declared.bundle.Item.{Item}
 use Rattle.separation_model.specs.declared.bundle.Rule.{Rule}
 use Rattle.separation_model.specs.declared.bundle.Bundle.{Bundle}
 use Rattle.separation_model.specs.Bundle.{IsBundle, item_at, rule_at, int_at, asked}
-use Rattle.separation_model.specs.Gap.{HasRoom, IsWidestGap}
-use Rattle.separation_model.specs.Latest.{HasNoRoom}
+use Rattle.separation_model.specs.Gap.{HasPositions, IsWidestGap}
+use Rattle.separation_model.specs.Latest.{HasNoPositions}
 use Rattle.separation_model.proofs.Arithmetic.Order.{le_both, nonneg_is}
 use Rattle.separation_model.proofs.Arithmetic.Sorting.{ordered}
 use Rattle.separation_model.proofs.Gaps.Bounds.{IsBound, IsByLeft, bound_none, bound_kept, bound_moved, bound_all, no_room}
@@ -14,7 +14,7 @@ use Rattle.separation_model.proofs.Gaps.Widest.{IsBetween, between_none, between
 
 -- either no fractions meet the bundle, or there are places that hold the rules from the j-th on, and none stand right of them
 abbrev IsTaken : Bundle → ℤ → List Rule → ℕ → Type 0
-IsTaken b gap rs j = HasNoRoom b gap ⊎ ((places : List ℤ) × IsBound b gap rs j places)
+IsTaken b gap rs j = HasNoPositions b gap ⊎ ((places : List ℤ) × IsBound b gap rs j places)
 
 -- one rule more
 take_rule : (b : Bundle) (gap : ℤ) (rs : List Rule) (j : ℕ) → IsBundle b → IsByLeft b rs → j < length rs → IsTaken b gap rs (j + 1) → IsTaken b gap rs j
@@ -40,7 +40,7 @@ take_rules b gap rs (suc k) ok by l =
     take_rule b gap rs j ok by (omega (arith, l)) (subst (IsTaken b gap rs) next (take_rules b gap rs k ok by (omega (arith, l))))
 
 -- whether some positions meet the bundle with the gap
-room_or_none : (b : Bundle) (gap : ℤ) → IsBundle b → HasRoom b gap ⊎ HasNoRoom b gap
+room_or_none : (b : Bundle) (gap : ℤ) → IsBundle b → HasPositions b gap ⊎ HasNoPositions b gap
 room_or_none b gap ok =
     let order = ordered (λ (r : Rule). r.left) b.rules.items in
     let rs = order.0 in
@@ -55,7 +55,7 @@ widest_below b zero ok h = (pos 0, between_all b (pos 0) (pos 1) h (omega (arith
 widest_below b (suc k) ok h =
     let middle = pos (suc k) in
     ⊎_elim
-    (λ room. (middle, between_all b middle (pos (suc (suc k))) (between_met b (pos 0) (pos (suc (suc k))) middle h (omega (arith, ints)) (omega (arith, ints)) room) (omega (arith, ints))))
+    (λ positions. (middle, between_all b middle (pos (suc (suc k))) (between_met b (pos 0) (pos (suc (suc k))) middle h (omega (arith, ints)) (omega (arith, ints)) positions) (omega (arith, ints))))
     (λ none. widest_below b k ok (between_unmet b (pos 0) (pos (suc (suc k))) middle h (omega (arith, ints)) (omega (arith, ints)) none))
     (room_or_none b middle ok)
 
@@ -65,7 +65,7 @@ widest_exists b ok =
     widest_below b wanted.0 ok (between_none b (pos 0) (pos (suc wanted.0)) ok refl (omega (arith, ints, wanted.1)))
 
 not_wider : (b : Bundle) (gap other : ℤ) → IsWidestGap b gap → IsWidestGap b other → other ≤ℤ gap
-not_wider b gap other h k = by_lt_z {P = other ≤ℤ gap} gap other (λ wider. absurd (h.widest other _ k.room.places wider k.high k.room.meets)) (λ le. le)
+not_wider b gap other h k = by_lt_z {P = other ≤ℤ gap} gap other (λ wider. absurd (h.widest other _ k.positions.places wider k.high k.positions.meets)) (λ le. le)
 
 pub one_widest : (b : Bundle) (gap other : ℤ) → IsWidestGap b gap → IsWidestGap b other → gap ≡ other
 one_widest b gap other h k = le_both gap other (not_wider b other gap k h) (not_wider b gap other h k)

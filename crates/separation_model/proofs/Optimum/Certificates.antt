@@ -5,7 +5,7 @@ use Rattle.std.proofs.lemmas.List.Elements.{All-get_or}
 use Rattle.separation_model.specs.declared.bundle.Bundle.{Bundle}
 use Rattle.separation_model.specs.declared.bundle.Solution.{Solution}
 use Rattle.separation_model.specs.Sum.{sum_below, product}
-use Rattle.separation_model.specs.Bundle.{IsBundle, Meets, item_at, rule_at, int_at, asked, no_rule}
+use Rattle.separation_model.specs.Bundle.{IsBundle, MeetsBundle, item_at, rule_at, int_at, asked, no_rule}
 use Rattle.separation_model.specs.Least.{IsLeast, square, squared_displacement, over_product}
 use Rattle.separation_model.specs.Certified.{IsCertified, from_left, from_right}
 use Rattle.separation_model.proofs.Arithmetic.Ring.{ring, var, num, ◌⊕◌, ◌⊗◌, ◌⊖◌}
@@ -71,7 +71,7 @@ work_is s f t g low high e =
     ap (λ x. s *ℤ x) e ∙ ring (s ∷ t ∷ g ∷ low ∷ high ∷ []) (var 0 ⊗ (var 1 ⊗ ((var 2 ⊕ var 3) ⊖ var 4)))
     (((var 0 ⊗ var 1) ⊗ var 2) ⊕ ((var 3 ⊗ (var 0 ⊗ var 1)) ⊕ (var 4 ⊗ (num (pos 0) ⊖ (var 0 ⊗ var 1))))) refl
 
-module _ (b : Bundle) (s : Solution) (ok : IsBundle b) (cert : IsCertified b s) (q : ℕ) (other : List ℤ) (positive : 0 < q) (met : Meets b s.gap (replicate (length b.items.items) q) other) where
+module _ (b : Bundle) (s : Solution) (ok : IsBundle b) (cert : IsCertified b s) (q : ℕ) (other : List ℤ) (positive : 0 < q) (met : MeetsBundle b s.gap (replicate (length b.items.items) q) other) where
   abbrev den : List ℕ
   den = s.den.items
 

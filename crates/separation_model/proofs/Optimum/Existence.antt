@@ -164,7 +164,7 @@ pub least_exist : (b : Bundle) (gap : ℤ) → IsBundle b → IsGap b gap → (d
 least_exist b gap ok is =
     let n = length b.items.items in
     let unit : ℕ = 1 in
-    let room = is.is_widest.room in
+    let room = is.is_widest.positions in
     let met = narrower_meets b is.widest gap (replicate n unit) room.places is.not_above room.meets in
     let start = fits_from b gap unit (int_at room.places) ok (common_meets b gap unit room.places ok (omega arith) met) in
     let best = best_of b.items.items (λ i l. ((ok.items i no_item l).weight_low, (ok.items i no_item l).weight_high)) (all_limits b gap) [] unit (int_at room.places) start in

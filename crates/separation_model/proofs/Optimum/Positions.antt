@@ -12,7 +12,7 @@ use Rattle.separation_model.specs.declared.bundle.Rule.{Rule}
 use Rattle.separation_model.specs.Apart.{FractionIsOnSheet}
 use Rattle.separation_model.specs.declared.bundle.Bundle.{Bundle}
 use Rattle.separation_model.specs.Sum.{product}
-use Rattle.separation_model.specs.Bundle.{IsBundle, IsItem, IsWithinLimits, Meets, item_at, int_at, asked}
+use Rattle.separation_model.specs.Bundle.{IsBundle, IsItem, IsWithinLimits, MeetsBundle, item_at, int_at, asked}
 use Rattle.separation_model.specs.Least.{over_product}
 use Rattle.separation_model.proofs.Arithmetic.Ring.{ring, var, num, ◌⊗◌, ◌⊖◌, mul_comm}
 use Rattle.separation_model.proofs.Arithmetic.Order.{nat_mul_positive, mul-nonneg, mul-mono, cancel_nonneg, cancel}
@@ -112,7 +112,7 @@ scaled_tight a pl pr dl dr sl sr D p e f h =
     omega (arith, ints, cancel D z (pos 0) p g)
 
 -- positions over any denominators, over their product
-pub over_product_meets : (b : Bundle) (gap : ℤ) (den : List ℕ) (place : List ℤ) → IsBundle b → Meets b gap den place →
+pub over_product_meets : (b : Bundle) (gap : ℤ) (den : List ℕ) (place : List ℤ) → IsBundle b → MeetsBundle b gap den place →
     MeetsOver b gap (product den) (over_product den place)
 over_product_meets b gap den place ok m =
     let share_at = λ (i : ℕ) (l : i < length b.items.items). share_is den i m.positive (omega (arith, m.dens, l)) in
@@ -128,7 +128,7 @@ over_product_meets b gap den place ok m =
     }
 
 -- positions over one denominator
-pub common_meets : (b : Bundle) (gap : ℤ) (q : ℕ) (place : List ℤ) → IsBundle b → 0 < q → Meets b gap (replicate (length b.items.items) q) place →
+pub common_meets : (b : Bundle) (gap : ℤ) (q : ℕ) (place : List ℤ) → IsBundle b → 0 < q → MeetsBundle b gap (replicate (length b.items.items) q) place →
     MeetsOver b gap q (int_at place)
 common_meets b gap q place ok p m =
     let n = length b.items.items in
@@ -158,7 +158,7 @@ int_at-listed n X i l = get_or-map-range_with_len X 0 n i i (pos 0) l (omega ari
 
 -- and back
 pub listed_meets : (b : Bundle) (gap : ℤ) (d : ℕ) (X : ℕ → ℤ) → IsBundle b → MeetsOver b gap d X →
-    Meets b gap (replicate (length b.items.items) d) (listed (length b.items.items) X)
+    MeetsBundle b gap (replicate (length b.items.items) d) (listed (length b.items.items) X)
 listed_meets b gap d X ok m =
     let n = length b.items.items in
     record {

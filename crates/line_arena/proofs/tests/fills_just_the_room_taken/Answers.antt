@@ -66,8 +66,8 @@ put_crossing-crossing-requires-clause-meet g c =
       down_runs = refl;
       across_runs = refl;
       point = record { x = pos 5; y = pos 7 };
-      on_down = record { place = pos 7; from = omega (arith, ints); to = omega (arith, ints); here = refl };
-      on_across = record { place = pos 5; from = omega (arith, ints); to = omega (arith, ints); here = refl };
+      on_down = record { along = pos 7; from = omega (arith, ints); to = omega (arith, ints); here = refl };
+      on_across = record { along = pos 5; from = omega (arith, ints); to = omega (arith, ints); here = refl };
     }
 
 pub put_crossing-crossing-requires-clause-new_pair : goal.put_crossing-crossing-requires-clause-new_pair

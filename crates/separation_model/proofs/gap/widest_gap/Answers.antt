@@ -2,8 +2,8 @@
 use Rattle.std.proofs.Common.{pos, arith, refl, to_z, of_z}
 use Rattle.std.specs.Int.{w64}
 use Rattle.std.proofs.lemmas.Bool.Decides.{when_true, when_false}
-use Rattle.separation_model.specs.Gap.{HasRoom}
-use Rattle.separation_model.specs.Latest.{HasNoRoom}
+use Rattle.separation_model.specs.Gap.{HasPositions}
+use Rattle.separation_model.specs.Latest.{HasNoPositions}
 use Rattle.std.proofs.lemmas.Int.{ints}
 use Rattle.separation_model.proofs.Gaps.Widest.{between_none, between_met, between_unmet, between_all}
 use Rattle.separation_model.proofs.gap.widest_gap.Goals as goal
@@ -18,7 +18,7 @@ loop-met-preserved-then-branch c =
     let half = c.halfway-middle.ensures in
     let middle = to_z w64 (of_z w64 c.halfway-middle.result) in
     between_met b _ _ middle inv (omega (arith, ints, half.low, half.high, inv.low, inv.high, c.requires.wanted_high)) (omega (arith, ints, half.low, half.high, inv.low, inv.high, c.requires.wanted_high))
-    (when_true (HasRoom b middle) (HasNoRoom b middle) c.if-branch.true c.in_ok-has_room.ensures)
+    (when_true (HasPositions b middle) (HasNoPositions b middle) c.if-branch.true c.in_ok-has_room.ensures)
 
 pub loop-met-preserved : goal.loop-met-preserved
 loop-met-preserved c =
@@ -27,7 +27,7 @@ loop-met-preserved c =
     let half = c.halfway-middle.ensures in
     let middle = to_z w64 (of_z w64 c.halfway-middle.result) in
     between_unmet b _ _ middle inv (omega (arith, ints, half.low, half.high, inv.low, inv.high, c.requires.wanted_high)) (omega (arith, ints, half.low, half.high, inv.low, inv.high, c.requires.wanted_high))
-    (when_false (HasRoom b middle) (HasNoRoom b middle) c.if-branch.false c.in_ok-has_room.ensures)
+    (when_false (HasPositions b middle) (HasNoPositions b middle) c.if-branch.false c.in_ok-has_room.ensures)
 
 pub returns : goal.returns
 returns c = let inv = c.loop-met.invariant in between_all c.args.bundle.now _ _ inv (omega (arith, ints, c.loop-met-test.false, inv.low, inv.apart, inv.high, c.requires.wanted_high))

@@ -6,7 +6,7 @@ use Rattle.std.proofs.lemmas.List.{get_or_read}
 use Rattle.separation_model.specs.declared.bundle.Item.{Item}
 use Rattle.separation_model.specs.declared.bundle.Rule.{Rule}
 use Rattle.separation_model.specs.Bundle.{asked, rule_at, int_at, item_at, no_item}
-use Rattle.separation_model.specs.Latest.{IsLatest, HasNoRoom}
+use Rattle.separation_model.specs.Latest.{IsLatest, HasNoPositions}
 use Rattle.separation_model.proofs.Gaps.Bounds.{IsBound, IsBoundStep, IsByLeft, bound_step, bound_none, no_room, bound_kept, bound_moved, bound_all}
 use Rattle.separation_model.proofs.latest.latest_positions.Goals as goal
 use Rattle.separation_model.proofs.latest.latest_positions.Goals.{In-loop-j, After-asked, After-index-in-loop-j, After-index-in-loop-j-2}
@@ -70,7 +70,7 @@ pub returns-then-bound-index : goal.returns-then-bound-index
 returns-then-bound-index c =
     let here = goal.at.returns-then-bound-index c in
     let is = step here.In-loop-j in
-    subst (HasNoRoom c.args.bundle.now) (to_z-of_z w64 c.args.gap c.ranges.gap)
+    subst (HasNoPositions c.args.bundle.now) (to_z-of_z w64 c.args.gap c.ranges.gap)
     (no_room c.args.bundle.now (gap_read c.args.gap) c.args.by_left.now (c.loop-j.j - 1) c.loop-j.places.items c.requires.bundle is.by_left is.before is.bound
     (omega (arith, ints, bound_is here.After-asked, lo_is here.After-index-in-loop-j, is.lo.low, is.lo.high, c.if-bound-index.true)))
 

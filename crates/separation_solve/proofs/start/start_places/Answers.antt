@@ -12,7 +12,7 @@ use Rattle.std.proofs.Math.Seq.{take-append_seam}
 use Rattle.std.proofs.lemmas.List.Sorted.{All-permutation}
 use Rattle.separation_model.specs.declared.bundle.Item.{Item}
 use Rattle.separation_model.specs.Bundle.{IsRule, int_at}
-use Rattle.separation_model.specs.Latest.{HasNoRoom, IsLatest, IsRuleKept}
+use Rattle.separation_model.specs.Latest.{HasNoPositions, IsLatest, IsRuleKept}
 use Rattle.separation_model.proofs.Gaps.Widest.{narrower_meets}
 use Rattle.separation_solve.proofs.Starting.StartPlaces.{AreDrawn, are_start, drawn_whole, walled, want_coordinate}
 use Rattle.separation_solve.proofs.start.start_places.Goals as goal
@@ -22,9 +22,9 @@ unreachable-requires c =
     let b = c.args.bundle.now in
     let fits : FitsSigned w64 c.args.gap = c.ranges.gap in
     let gap = c.requires.gap in
-    let room = gap.is_widest.room in
-    let found : MatchOption c.in_ok-latest.field-0 (HasNoRoom b c.args.gap) (λ places. IsLatest b c.args.gap places.items) = simp to_z-of_z at c.in_ok-latest.ensures in
-    MatchOption-at_none (HasNoRoom b c.args.gap) (λ places. IsLatest b c.args.gap places.items) c.in_default.is found _ _ (narrower_meets b gap.widest c.args.gap _ _ gap.not_above room.meets)
+    let room = gap.is_widest.positions in
+    let found : MatchOption c.in_ok-latest.field-0 (HasNoPositions b c.args.gap) (λ places. IsLatest b c.args.gap places.items) = simp to_z-of_z at c.in_ok-latest.ensures in
+    MatchOption-at_none (HasNoPositions b c.args.gap) (λ places. IsLatest b c.args.gap places.items) c.in_default.is found _ _ (narrower_meets b gap.widest c.args.gap _ _ gap.not_above room.meets)
 
 pub press_on-requires-clause-rules : goal.press_on-requires-clause-rules
 press_on-requires-clause-rules c =
@@ -53,11 +53,11 @@ returns c =
     let latest = c.in-Some.latest.items in
     let wants = c.deref_mut.result.now in
     let pressed = c.press_on.new.places in
-    let found : MatchOption c.in_ok-latest.field-0 (HasNoRoom b c.args.gap) (λ places. IsLatest b c.args.gap places.items) = simp to_z-of_z at c.in_ok-latest.ensures in
+    let found : MatchOption c.in_ok-latest.field-0 (HasNoPositions b c.args.gap) (λ places. IsLatest b c.args.gap places.items) = simp to_z-of_z at c.in_ok-latest.ensures in
     let keeps : All (IsRuleKept c.args.gap pressed) c.deref-4.result.now = simp to_z-of_z at c.press_on.ensures.keeps in
     let same = subst (λ rs. IsPermutation rs by_left) c.deref.ensures.value c.in_ok-by_left.ensures.same in
     let wanted : wants ≡ map (λ (item : Item). item.want) b.items.items = c.deref_mut.ensures.value ∙ c.in_ok-places.ensures ∙ ap (map (λ (item : Item). item.want)) c.deref-3.ensures.value in
-    let is_latest : IsLatest b c.args.gap latest = MatchOption-at_some (HasNoRoom b c.args.gap) (λ places. IsLatest b c.args.gap places.items) c.in-Some.latest c.in-Some.is found in
+    let is_latest : IsLatest b c.args.gap latest = MatchOption-at_some (HasNoPositions b c.args.gap) (λ places. IsLatest b c.args.gap places.items) c.in-Some.latest c.in-Some.is found in
     let n : length pressed ≡ length wants = c.press_on.auto.places in
     let lent : c.deref_mut-2.result.now ≡ pressed = c.deref_mut-2.ensures.value ∙ written_back c.in_ok-places.places.len pressed _ (n ∙ c.deref_mut.ensures.len) in
     let m : length c.draw_back.new.places ≡ length pressed = c.draw_back.auto.places ∙ ap length lent in

@@ -1,4 +1,5 @@
-use Rattle.std.proofs.Common.{◌∙◌, ap, refl}
+use Rattle.std.proofs.Common.{◌≤◌, ◌-◌, ◌∙◌, ap, refl, sym, subst, arith}
+use Rattle.slab.specs.Slab.{slab_len}
 use Rattle.line_arena.specs.View.{pair_of}
 use Rattle.line_arena.proofs.ArenaLemmas.{lists_same}
 use Rattle.line_arena.proofs.Seen.{seen_slots}
@@ -25,3 +26,9 @@ returns-clause-lines c =
 pub returns-clause-crossings : goal.returns-clause-crossings
 returns-clause-crossings c =
     seen_slots pair_of c.self.inside.lists.crossings.slab c.reserve-2.new.self.slab c.reserve-2.ensures.slots ∙ ap (λ v. v.crossings) c.self.view_is
+
+pub returns-clause-had_room : goal.returns-clause-had_room
+returns-clause-had_room c = λ few.
+    let old = c.self.inside.lists.crossings in
+    let spare : c.args.crossings ≤ old.room - slab_len old.slab = subst (λ v. c.args.crossings ≤ v.spare_crossings) (sym c.self.view_is) few in
+    c.reserve-2.ensures.had_room (omega (arith, spare, c.reserve-2.ensures.within)) ∙ ap (λ v. v.places) c.self.view_is

@@ -1,13 +1,14 @@
 -- Directions that are read letter by letter are those of the whole word.
 use Rattle.std.proofs.Common.{◌≡◌, ℕ, ◌<◌, ◌≤◌, Bool, true, false, cond, suc, List, [], ◌∷◌, length, get_or, drop, Some, None, refl, sym, ap, subst, ◌∙◌, arith, drop-cons}
-use Rattle.std.specs.Prelude.{◌&&◌, ◌||◌, ◌==◌, not, codes, option_and_then}
+use Rattle.std.specs.Prelude.{◌&&◌, ◌||◌, ◌==◌, nat_lt, not, codes, option_and_then, IsTrue}
 use Rattle.std.specs.List.{list_all}
-use Rattle.std.proofs.lemmas.Bool.{lt-ltb}
+use Rattle.std.proofs.lemmas.Bool.{and_parts, lt-ltb}
 use Rattle.std.proofs.lemmas.Bool.Decides.{nat_tests}
 use Rattle.std.proofs.lemmas.List.{drop_all}
 use Rattle.scene_model.specs.declared.pin.Dirs.{Dirs}
+use Rattle.scene_model.specs.Valid.{HasDirection}
 use Rattle.scene_model.specs.Letters.{has_letter, are_different, dirs_of}
-use Rattle.edit_script.specs.Letters.{with_letter, with_letters}
+use Rattle.scene_model.specs.LetterSteps.{with_letter, with_letters}
 
 -- the directions of letters, and whether a letter is one
 abbrev dirs_in : List ℕ → Dirs
@@ -146,3 +147,52 @@ letters_end d word i within none =
 -- where no letter is left, these are the directions
 pub letters_done : (d : Dirs) (word : List ℕ) (i : ℕ) → length word ≤ i → with_letters d (drop i word) ≡ Some d
 letters_done d word i over = rw (drop_all i word over) refl
+
+-- letters that spell directions spell one at least
+second : (e w n : Bool) → IsTrue (((e || true) || w) || n)
+second true w n = refl
+second false w n = refl
+
+third : (e s n : Bool) → IsTrue (((e || s) || true) || n)
+third true s n = refl
+third false true n = refl
+third false false n = refl
+
+fourth : (e s w : Bool) → IsTrue (((e || s) || w) || true)
+fourth true s w = refl
+fourth false true w = refl
+fourth false false true = refl
+fourth false false false = refl
+
+-- the directions of letters of which the first is one
+abbrev Leads : List ℕ → ℕ → Type 0
+Leads ls l = IsTrue (((has_letter 69 (l ∷ ls) || has_letter 83 (l ∷ ls)) || has_letter 87 (l ∷ ls)) || has_letter 78 (l ∷ ls))
+
+leads : (l : ℕ) (ls : List ℕ) → is_known l ≡ true → Leads ls l
+leads l ls known = elim (told (69 == l)) as (λ _. Leads ls l) [
+  | yes h ↦ subst (Leads ls) (is 69 l h) refl
+  | no h ↦ elim (told (83 == l)) as (λ _. Leads ls l) [
+    | yes k ↦ subst (Leads ls) (is 83 l k) (second (has_letter 69 ls) (has_letter 87 ls) (has_letter 78 ls))
+    | no k ↦ elim (told (87 == l)) as (λ _. Leads ls l) [
+      | yes m ↦ subst (Leads ls) (is 87 l m) (third (has_letter 69 ls) (has_letter 83 ls) (has_letter 78 ls))
+      | no m ↦ elim (told (78 == l)) as (λ _. Leads ls l) [
+        | yes n ↦ subst (Leads ls) (is 78 l n) (fourth (has_letter 69 ls) (has_letter 83 ls) (has_letter 87 ls))
+        | no n ↦ (let e : false ≡ true = rw (h, k, m, n) at known in cc)
+      ]
+    ]
+  ]
+]
+
+pub dirs_lead : (ls : List ℕ) (d : Dirs) → dirs_of ls ≡ Some d → HasDirection d
+dirs_lead [] d h = cc
+dirs_lead (l ∷ ls) d h = elim (told (nat_lt 0 (length (l ∷ ls)) && (list_all is_known (l ∷ ls) && are_different (l ∷ ls)))) as (λ _. HasDirection d) [
+  | yes t ↦
+      (let parts = and_parts (nat_lt 0 (length (l ∷ ls))) (list_all is_known (l ∷ ls) && are_different (l ∷ ls)) t in
+      let known = and_parts (is_known l) (list_all is_known ls) (and_parts (list_all is_known (l ∷ ls)) (are_different (l ∷ ls)) parts.1).0 in
+      let same : Some (record { east = has_letter 69 (l ∷ ls); south = has_letter 83 (l ∷ ls); west = has_letter 87 (l ∷ ls); north = has_letter 78 (l ∷ ls) }) ≡ Some d = rw t at h in
+      subst HasDirection (inside same) (leads l ls known.0))
+  | no t ↦ (let none : None ≡ Some d = rw t at h in cc)
+]
+  where
+    inside : {a b : Dirs} → Some a ≡ Some b → a ≡ b
+    inside h = cc

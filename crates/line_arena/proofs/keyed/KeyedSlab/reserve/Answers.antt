@@ -1,0 +1,23 @@
+use Rattle.std.proofs.Common.{◌≡◌, ◌+◌, ◌≤◌, ℕ, sym, ap, subst, ◌∙◌, arith}
+use Rattle.slab.specs.Slab.{Slab, slab_len, HasRoomFor}
+use Rattle.line_arena.specs.Keyed.{Keyed}
+use Rattle.line_arena.proofs.keyed.KeyedSlab.reserve.Goals as goal
+
+-- a slab that has room stays as it is
+kept_capacity : {K V : Type 0} (old inside : Keyed K V) (new : Slab (K × V)) (more : ℕ) → inside ≡ old → inside.room ≤ inside.slab.capacity
+    → (HasRoomFor inside.slab more → new ≡ inside.slab) → slab_len old.slab + more ≤ old.room → new.capacity ≡ old.slab.capacity
+kept_capacity old inside new more same places had_room fits =
+    let within : slab_len inside.slab + more ≤ inside.room = subst (λ (k : Keyed _ _). slab_len k.slab + more ≤ k.room) (sym same) fits in
+    ap (λ s. s.capacity) (had_room (omega (arith, within, places))) ∙ ap (λ (k : Keyed _ _). k.slab.capacity) same
+
+pub returns-in_err-reserve-clause-had_room : goal.returns-in_err-reserve-clause-had_room
+returns-in_err-reserve-clause-had_room g c =
+    kept_capacity c.args.self.now (record { slab = c.self.inside.slab; room = c.self.inside.room }) c.reserve.new.self c.args.more c.self.view_is c.self.invariant.places c.reserve.ensures.had_room
+
+pub returns-in_err-reserve-2-clause-had_room : goal.returns-in_err-reserve-2-clause-had_room
+returns-in_err-reserve-2-clause-had_room g c =
+    kept_capacity c.args.self.now (record { slab = c.self.inside.slab; room = c.self.inside.room }) c.reserve.new.self c.args.more c.self.view_is c.self.invariant.places c.reserve.ensures.had_room
+
+pub returns-clause-had_room : goal.returns-clause-had_room
+returns-clause-had_room g c =
+    kept_capacity c.args.self.now (record { slab = c.self.inside.slab; room = c.self.inside.room }) c.reserve.new.self c.args.more c.self.view_is c.self.invariant.places c.reserve.ensures.had_room
