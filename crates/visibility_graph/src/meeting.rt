@@ -1,0 +1,108 @@
+//! Which lines meet, and how many.
+ghost use Rattle.std.specs.Prelude.{◌≡◌, ◌+◌, ◌≤◌, not, int_lt, true, false, filter, count_by, length, IfOk, OnOk};
+ghost use Rattle.std.specs.List.{AllWithin};
+ghost use Rattle.plane_geom.specs.declared.point.Way.{Way};
+ghost use Rattle.sweep_lines.specs.Kept.{AreOrdered};
+ghost use Rattle.visibility_graph.specs.Meeting.{coming, meets, reaches, sorted_out};
+
+use plane_geom::{Line, Way};
+use std::alloc::AllocError;
+
+/// How many crossings come where `new` lines are put beside those that stay.
+///
+/// Both lists are in order. The only error is want of memory: what no `usize` counts fits no memory.
+pub fn crossings_of(new: &[Line], stay: &[Line]) -> Result<usize, AllocError>
+    requires new_ordered { AreOrdered new.now }
+    requires stay_ordered { AreOrdered stay.now }
+    ensures { IfOk result (λ n. n ≡ coming new.now stay.now) }
+{
+    let mut count: usize = 0;
+    for (place, line) in new.iter().enumerate() {
+        let (before, _) = new.split_at(place);
+        count = added(count, count_met(line, stay))?;
+        count = added(count, count_met(line, before))?;
+    }
+    Ok(count)
+}
+
+/// The sum, or want of memory where no `usize` holds it.
+pub(crate) fn added(a: usize, b: usize) -> Result<usize, AllocError>
+    ensures sum { IfOk result (λ n. n ≡ a + b) }
+    ensures within { OnOk result (a + b ≤ usize.MAX) }
+{
+    a.checked_add(b).ok_or(AllocError)
+}
+
+/// How many of the others the line meets.
+fn count_met(line: &Line, others: &[Line]) -> usize
+    requires { AreOrdered others.now }
+    ensures { result ≡ count_by (meets line.now) others.now }
+{
+    beside(line, others)
+        .iter()
+        .filter(|other| do_meet(line, other))
+        .count()
+}
+
+/// Whether the lines run different ways and have a point in common.
+pub(crate) fn do_meet(line: &Line, other: &Line) -> bool
+    ensures { result ≡ meets line.now other.now }
+{
+    match (line.way, other.way) {
+        (Way::Vertical, Way::Vertical) | (Way::Horizontal, Way::Horizontal) => false,
+        _ => reaches(line, other.at) && reaches(other, line.at),
+    }
+}
+
+/// Whether the line runs past the coordinate along it, or ends there.
+fn reaches(line: &Line, at: i64) -> bool
+    ensures { result ≡ reaches line.now at }
+{
+    line.lo <= at && at <= line.hi
+}
+
+/// Those of the others that run across the line's whole line between its ends.
+///
+/// The line meets no more of the others than of these.
+pub(crate) fn beside<'a>(line: &Line, others: &'a [Line]) -> &'a [Line]
+    requires { AreOrdered others.now }
+    ensures met { filter (meets line.now) result.now ≡ filter (meets line.now) others.now }
+    ensures ordered { AreOrdered result.now }
+{
+    let (front, _) = others.split_at(count_upto_end(line, others));
+    let (_, here) = front.split_at(count_before(line, front));
+    here
+}
+
+/// How many of the others stand before all those that the line may meet.
+fn count_before(line: &Line, others: &[Line]) -> usize
+    requires { AreOrdered others.now }
+    ensures bound { result ≤ length others.now }
+    ensures front { AllWithin (λ m. meets line.now m ≡ false) others.now 0 result }
+{
+    let (way, lo) = (line.way, line.lo);
+    others.partition_point(|other| sorts_out(way, other.way, other.at < lo))
+}
+
+/// How many of the others stand before all those that run across beyond the line's end.
+fn count_upto_end(line: &Line, others: &[Line]) -> usize
+    requires { AreOrdered others.now }
+    ensures bound { result ≤ length others.now }
+    ensures back { AllWithin (λ m. meets line.now m ≡ false) others.now result (length others.now) }
+{
+    let (way, hi) = (line.way, line.hi);
+    others.partition_point(|other| sorts_out(way, other.way, other.at <= hi))
+}
+
+/// Whether a line of the other way stands before those across a line of this way; `rest` tells lines across.
+///
+/// Vertical lines stand first.
+fn sorts_out(way: Way, other: Way, rest: bool) -> bool
+    ensures { result ≡ sorted_out way other rest }
+{
+    match (way, other) {
+        (Way::Vertical, Way::Vertical) => true,
+        (Way::Horizontal, Way::Horizontal) => false,
+        _ => rest,
+    }
+}
