@@ -1,0 +1,7 @@
+-- The lemmas on repairs, callees first.
+pub mod Counted
+pub mod Taken
+pub mod Pairs
+pub mod Listing
+pub mod Exchanged
+pub mod OneCount

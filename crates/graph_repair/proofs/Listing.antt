@@ -1,0 +1,239 @@
+-- Whether a line stands in a list, and lists that part the kept lines of two floors.
+use Rattle.std.proofs.Common.{◌≡◌, ◌≢◌, ◌⊎◌, inl, inr, ℕ, ℤ, ◌<◌, ◌≤◌, Bool, true, false, not, ◌&&◌, List, ◌++◌, length, get_or, refl, sym, ap, subst, ◌∙◌, arith, rules}
+use Rattle.std.specs.Prelude.{Contains, filter, int_lt, ◌||◌, ◌↔◌, IsTrue}
+use Rattle.std.specs.List.{AllWithin}
+use Rattle.std.specs.List.Sorted.{IsPartitionedBy}
+use Rattle.std.specs.Ordering.{int_eq}
+use Rattle.std.proofs.lemmas.Bool.{cases_Bool, cases_lt}
+use Rattle.std.proofs.lemmas.Bool.Decides.{Decides-int_eq}
+use Rattle.std.proofs.lemmas.Int.{ints}
+use Rattle.std.proofs.lemmas.List.{get_or_default}
+use Rattle.std.proofs.lemmas.List.Elements.{Contains-get_or}
+use Rattle.std.proofs.lemmas.List.Folds.{Any-from_list_any, list_any-from_Any}
+use Rattle.std.proofs.lemmas.List.Kept.{AllPairs-filter}
+use Rattle.plane_geom.specs.declared.point.Way.{Way}
+use Rattle.plane_geom.specs.declared.point.Way.TheVariants.{Vertical, Horizontal}
+use Rattle.plane_geom.specs.declared.floor.Line.{Line}
+use Rattle.plane_geom.specs.declared.floor.Floor.{Floor}
+use Rattle.plane_geom.specs.Floor.{IsKept}
+use Rattle.sweep_lines.specs.Kept.{AreAllKept, AreOrdered, stands_before, way_before}
+use Rattle.sweep_lines.proofs.Members.{Among, among_filter, among_filtered, among_of_any, among_of_contains, any_of_among, contains_of_among, rising_joined, rising_of_pairs}
+use Rattle.sweep_lines.proofs.OneList.{never_both}
+use Rattle.visibility_graph.specs.Meeting.{same_way}
+use Rattle.visibility_graph.proofs.KeptList.{is_kept}
+use Rattle.visibility_graph.proofs.Counts.{no_line}
+use Rattle.graph_repair.specs.Listed.{is_listed, same_line}
+use Rattle.graph_repair.specs.Change.{AreAlone, AreShared}
+use Rattle.graph_repair.proofs.Counted.{AreDistinct}
+use Rattle.graph_repair.proofs.Pairs.{rising_more}
+
+-- ---- equal lines
+
+same_ways : (v w : Way) → same_way v w ≡ true → v ≡ w
+same_ways Vertical Vertical e = refl
+same_ways Vertical Horizontal e = absurd (cc)
+same_ways Horizontal Vertical e = absurd (cc)
+same_ways Horizontal Horizontal e = refl
+
+way_itself : (w : Way) → same_way w w ≡ true
+way_itself Vertical = refl
+way_itself Horizontal = refl
+
+all_four : (a b c d : Bool) → (a && (b && (c && d))) ≡ true → (a ≡ true) × (b ≡ true) × (c ≡ true) × (d ≡ true)
+all_four true true true true e = (refl, refl, refl, refl)
+all_four true true true false e = absurd (cc)
+all_four true true false d e = absurd (cc)
+all_four true false c d e = absurd (cc)
+all_four false b c d e = absurd (cc)
+
+same_int : (a b : ℤ) → int_eq a b ≡ true → a ≡ b
+same_int a b e = (Decides-int_eq a b).0 e
+
+int_itself : (a b : ℤ) → a ≡ b → int_eq a b ≡ true
+int_itself a b e = (Decides-int_eq a b).1 e
+
+pub line_of_same : (l m : Line) → same_line l m ≡ true → l ≡ m
+line_of_same l m e =
+    let r = all_four (same_way l.way m.way) (int_eq l.at m.at) (int_eq l.lo m.lo) (int_eq l.hi m.hi) e in
+    let way = same_ways l.way m.way r.0 in
+    let at = same_int l.at m.at r.1 in
+    let lo = same_int l.lo m.lo r.2 in
+    let hi = same_int l.hi m.hi r.3 in
+    λ i. record { way = way i; at = at i; lo = lo i; hi = hi i }
+
+all_true : (a b c d : Bool) → a ≡ true → b ≡ true → c ≡ true → d ≡ true → (a && (b && (c && d))) ≡ true
+all_true true true true true e f g h = refl
+all_true true true true false e f g h = h
+all_true true true false d e f g h = absurd (cc)
+all_true true false c d e f g h = absurd (cc)
+all_true false b c d e f g h = absurd (cc)
+
+pub same_itself : (l : Line) → same_line l l ≡ true
+same_itself l = all_true (same_way l.way l.way) (int_eq l.at l.at) (int_eq l.lo l.lo) (int_eq l.hi l.hi) (way_itself l.way) (int_itself l.at l.at refl) (int_itself l.lo l.lo refl) (int_itself l.hi l.hi refl)
+
+-- ---- lines that are listed
+
+pub among_of_listed : (ls : List Line) (l : Line) → is_listed ls l ≡ true → Among l ls
+among_of_listed ls l e =
+    let a = Any-from_list_any (same_line l) ls e in
+    subst (λ (x : Line). Among x ls) (sym (line_of_same l a.1 a.4)) (among_of_any (λ m. same_line l m ≡ true) ls a)
+
+pub listed_of_among : (ls : List Line) (l : Line) → Among l ls → is_listed ls l ≡ true
+listed_of_among ls l h = list_any-from_Any (same_line l) ls (any_of_among (λ m. same_line l m ≡ true) ls l h (same_itself l))
+
+-- a line stands in a list or not
+pub is_there : (ls : List Line) (l : Line) → Contains ls l ⊎ (Contains ls l → ⊥)
+is_there ls l = elim (cases_Bool (is_listed ls l)) as (λ _. Contains ls l ⊎ (Contains ls l → ⊥)) [
+  | inl stands ↦ inl (contains_of_among ls l (among_of_listed ls l stands))
+  | inr none ↦ inr (λ c. let stands = listed_of_among ls l (among_of_contains ls l c) in let both : true ≡ false = sym stands ∙ none in absurd (cc))
+]
+
+-- ---- the kept lines of two floors
+
+module _ (a b : Floor) (ls ms : List Line) (of_a : AreAllKept a ls) (of_b : AreAllKept b ms) where
+  pub shared_lines : AreShared a b (filter (is_listed ms) ls)
+  shared_lines = record {
+    listed = λ l. (
+      λ c.
+          let f = among_filtered (is_listed ms) ls l (among_of_contains (filter (is_listed ms) ls) l c) in (
+            is_kept a ls of_a l (contains_of_among ls l f.0),
+            is_kept b ms of_b l (contains_of_among ms l (among_of_listed ms l f.1)),
+          ),
+      λ k.
+          contains_of_among (filter (is_listed ms) ls) l
+          (among_filter (is_listed ms) ls l (among_of_contains ls l (of_a.all l k.0 tt)) (listed_of_among ms l (among_of_contains ms l (of_b.all l k.1 tt)))),
+    );
+    ordered = AllPairs-filter (λ l m. stands_before l m ≡ true) (is_listed ms) ls of_a.ordered;
+  }
+
+  not_listed : (l : Line) → not (is_listed ms l) ≡ true → IsKept b l → ⊥
+  not_listed l e k =
+      let stands = listed_of_among ms l (among_of_contains ms l (of_b.all l k tt)) in
+      let both : false ≡ true = ap not (sym stands) ∙ e in
+      cc
+
+  strange_listed : (l : Line) → (IsKept b l → ⊥) → not (is_listed ms l) ≡ true
+  strange_listed l none = elim (cases_Bool (is_listed ms l)) as (λ _. not (is_listed ms l) ≡ true) [
+    | inl stands ↦ absurd (none (is_kept b ms of_b l (contains_of_among ms l (among_of_listed ms l stands))))
+    | inr none ↦ ap not none
+  ]
+
+  pub lines_alone : AreAlone a b (filter (λ l. not (is_listed ms l)) ls)
+  lines_alone = record {
+    listed = λ l. (
+      λ c.
+          let f = among_filtered (λ l. not (is_listed ms l)) ls l (among_of_contains (filter (λ l. not (is_listed ms l)) ls) l c) in (
+            is_kept a ls of_a l (contains_of_among ls l f.0),
+            not_listed l f.1,
+          ),
+      λ k.
+          contains_of_among (filter (λ l. not (is_listed ms l)) ls) l
+          (among_filter (λ l. not (is_listed ms l)) ls l (among_of_contains ls l (of_a.all l k.0 tt)) (strange_listed l k.1)),
+    );
+    ordered = AllPairs-filter (λ l m. stands_before l m ≡ true) (λ l. not (is_listed ms l)) ls of_a.ordered;
+  }
+
+-- the same of lists that are read as slices
+pub shared_at : (a b : Floor) (ls ms lines others xs : List Line) → AreAllKept a ls → AreAllKept b ms → lines ≡ ls → others ≡ ms → xs ≡ filter (is_listed others) lines → AreShared a b xs
+shared_at a b ls ms lines others xs of_a of_b e f g =
+    subst (AreShared a b) (sym (g ∙ ap (λ (o : List Line). filter (is_listed o) lines) f ∙ ap (filter (is_listed ms)) e)) (shared_lines a b ls ms of_a of_b)
+
+pub alone_at : (a b : Floor) (ls ms lines others xs : List Line) → AreAllKept a ls → AreAllKept b ms → lines ≡ ls → others ≡ ms → xs ≡ filter (λ l. not (is_listed others l)) lines → AreAlone a b xs
+alone_at a b ls ms lines others xs of_a of_b e f g =
+    subst (AreAlone a b) (sym (g ∙ ap (λ (o : List Line). filter (λ l. not (is_listed o l)) lines) f ∙ ap (filter (λ l. not (is_listed ms l))) e)) (lines_alone a b ls ms of_a of_b)
+
+-- ---- the two parts of the kept lines of a floor
+
+never_itself : (l m : Line) → stands_before l m ≡ true → l ≢ m
+never_itself l m e same = let r : stands_before m m ≡ true = subst (λ (x : Line). stands_before x m ≡ true) same e in never_both m m r r
+
+distinct_ordered : (ls : List Line) → AreOrdered ls → AreDistinct ls
+distinct_ordered ls ordered = rising_more (λ l m. stands_before l m ≡ true) (λ l m. l ≢ m) never_itself ls (rising_of_pairs (λ l m. stands_before l m ≡ true) ls ordered)
+
+module _ (a b : Floor) (stay here : List Line) (shared : AreShared a b stay) (alone : AreAlone a b here) where
+  pub in_a_part : (l : Line) → IsKept a l → Contains stay l ⊎ Contains here l
+  in_a_part l k = elim (is_there stay l) as (λ _. Contains stay l ⊎ Contains here l) [
+    | inl s ↦ inl s
+    | inr none ↦ inr ((alone.listed l).1 (k, λ other. none ((shared.listed l).1 (k, other))))
+  ]
+
+  pub in_one_part : (l : Line) → Contains stay l → Contains here l → ⊥
+  in_one_part l s h = ((alone.listed l).0 h).1 ((shared.listed l).0 s).1
+
+  pub of_a_part : (l : Line) → Contains stay l ⊎ Contains here l → IsKept a l
+  of_a_part l c = elim c as (λ _. IsKept a l) [ inl s ↦ ((shared.listed l).0 s).0 | inr h ↦ ((alone.listed l).0 h).0 ]
+
+  pub distinct_parts : AreDistinct (stay ++ here)
+  distinct_parts =
+      rising_joined (λ l m. l ≢ m) stay here (distinct_ordered stay shared.ordered) (distinct_ordered here alone.ordered)
+      (λ l m s h e. in_one_part m (subst (λ (x : Line). Contains stay x) e (contains_of_among stay l s)) (contains_of_among here m h))
+
+pub distinct_shared : (a b : Floor) (stay : List Line) → AreShared a b stay → AreDistinct stay
+distinct_shared a b stay shared = distinct_ordered stay shared.ordered
+
+-- ---- where a line stands in a list in order
+
+by_place : (a b c x y z : ℤ) → (int_lt a b || (int_eq a b && int_lt x y)) ≡ true → (int_lt b c || (int_eq b c && int_lt y z)) ≡ true → (int_lt a c || (int_eq a c && int_lt x z)) ≡ true
+by_place a b c x y z e f = grind (arith, ints, Decides-int_eq a b, Decides-int_eq b c, Decides-int_eq a c)
+
+before_by : (u v w : Way) (a b c x y z : ℤ) → way_before u v (int_lt a b || (int_eq a b && int_lt x y)) ≡ true → way_before v w (int_lt b c || (int_eq b c && int_lt y z)) ≡ true → way_before u w (int_lt a c || (int_eq a c && int_lt x z)) ≡ true
+before_by Vertical Vertical Vertical a b c x y z e f = by_place a b c x y z e f
+before_by Vertical Vertical Horizontal a b c x y z e f = refl
+before_by Vertical Horizontal Vertical a b c x y z e f = absurd (cc)
+before_by Vertical Horizontal Horizontal a b c x y z e f = refl
+before_by Horizontal Vertical w a b c x y z e f = absurd (cc)
+before_by Horizontal Horizontal Vertical a b c x y z e f = absurd (cc)
+before_by Horizontal Horizontal Horizontal a b c x y z e f = by_place a b c x y z e f
+
+pub stands_through : (k l m : Line) → stands_before k l ≡ true → stands_before l m ≡ true → stands_before k m ≡ true
+stands_through k l m e f = before_by k.way l.way m.way k.at l.at m.at k.lo l.lo m.lo e f
+
+pub parted_at : (line : Line) (ls : List Line) → AreOrdered ls → IsPartitionedBy (λ m. stands_before m line) ls
+parted_at line ls ordered = λ i j d h l e. elim (cases_lt i j) [
+  | inl k ↦ stands_through (get_or ls i d) (get_or ls j d) line (ordered i j d k l) e
+  | inr k ↦ (let same : i ≡ j = omega arith in subst (λ (n : ℕ). stands_before (get_or ls n d) line ≡ true) (sym same) e)
+]
+
+-- a line that is listed stands where those before it end
+pub listed_place : (line : Line) (ls : List Line) (p : ℕ) → AreOrdered ls → AllWithin (λ m. stands_before m line ≡ true) ls 0 p → AllWithin (λ m. stands_before m line ≡ false) ls p (length ls)
+    → Contains ls line → (p < length ls) × (get_or ls p line ≡ line)
+listed_place line ls p ordered front back c =
+    by_lt c.0 p
+    (λ low. absurd (let r : stands_before line line ≡ true = subst (λ (m : Line). stands_before m line ≡ true) c.2 (front c.0 line (omega arith) low) in never_both line line r r))
+    (λ high. by_lt p c.0
+    (λ less. absurd (
+    let r : stands_before (get_or ls p line) line ≡ true = subst (λ (m : Line). stands_before (get_or ls p line) m ≡ true) c.2 (ordered p c.0 line less c.1) in
+    let s = back p line (omega arith) (omega (arith, c.1)) in
+    let both : true ≡ false = sym r ∙ s in cc))
+    (λ more. let same : c.0 ≡ p = omega arith in subst (λ (n : ℕ). (n < length ls) × (get_or ls n line ≡ line)) same (c.1, c.2)))
+  where
+    by_lt : {A : Type 0} (m n : ℕ) → (m < n → A) → (n ≤ m → A) → A
+    by_lt {A} m n f g = elim (cases_lt m n) as (λ _. A) [ inl h ↦ f h | inr h ↦ g h ]
+
+not_true : (b : Bool) → (b ≡ true → ⊥) → b ≡ false
+not_true true f = absurd (f refl)
+not_true false f = refl
+
+pub not_listed_there : (line : Line) (ls : List Line) → (Contains ls line → ⊥) → is_listed ls line ≡ false
+not_listed_there line ls none = not_true (is_listed ls line) (λ e. none (contains_of_among ls line (among_of_listed ls line e)))
+
+-- the answer of a look-up at the place where those before the line end
+pub listed_answer : (line : Line) (ls : List Line) (p : ℕ) (b : Bool) → AreOrdered ls → AllWithin (λ m. stands_before m line ≡ true) ls 0 p → AllWithin (λ m. stands_before m line ≡ false) ls p (length ls)
+    → p < length ls → (IsTrue b ↔ (get_or ls p no_line ≡ line)) → b ≡ is_listed ls line
+listed_answer line ls p true ordered front back inside answer =
+    let same : get_or ls p no_line ≡ line = answer.0 (search rules) in
+    sym (listed_of_among ls line (among_of_contains ls line (subst (Contains ls) same (Contains-get_or ls p no_line inside))))
+listed_answer line ls p false ordered front back inside answer =
+    sym (not_listed_there line ls (λ c.
+    let at = listed_place line ls p ordered front back c in
+    let same : get_or ls p no_line ≡ line = get_or_default ls p no_line line inside ∙ at.1 in
+    let wrong = answer.1 same in
+    absurd (not_so wrong)))
+  where
+    not_so : IsTrue false → ⊥
+    not_so h = search rules
+
+pub past_answer : (line : Line) (ls : List Line) (p : ℕ) → AreOrdered ls → AllWithin (λ m. stands_before m line ≡ true) ls 0 p → AllWithin (λ m. stands_before m line ≡ false) ls p (length ls)
+    → length ls ≤ p → false ≡ is_listed ls line
+past_answer line ls p ordered front back outside =
+    sym (not_listed_there line ls (λ c. let at = listed_place line ls p ordered front back c in omega (arith, at.0)))

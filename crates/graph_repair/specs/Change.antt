@@ -1,0 +1,44 @@
+-- What a repair is seen as, when it leads where, and what it writes.
+use Rattle.std.specs.Prelude.{◌≡◌, ◌↔◌, ℕ, ◌+◌, ◌≤◌, Bool, List, Contains, length}
+use Rattle.std.specs.FinMap.{len}
+use Rattle.plane_geom.specs.declared.floor.Line.{Line}
+use Rattle.plane_geom.specs.declared.floor.Floor.{Floor}
+use Rattle.plane_geom.specs.Floor.{IsKept}
+use Rattle.sweep_lines.specs.Kept.{AreOrdered}
+use Rattle.visibility_graph.specs.Drawing.{Drawing}
+use Rattle.visibility_graph.specs.Meeting.{coming, meets, pairs_by}
+
+-- the floor for which the graph does not stand; the kept lines of both floors, those of the graph's floor alone,
+-- and those of the other floor alone; and whether the repair was applied
+pub record Change : Type 0 where
+  pub floor : Floor
+  pub stay : List Line
+  pub here : List Line
+  pub there : List Line
+  pub applied : Bool
+
+-- the kept lines of both floors, each once, in order
+pub record AreShared (a b : Floor) (ls : List Line) : Type 0 where
+  pub listed : (l : Line) → Contains ls l ↔ (IsKept a l × IsKept b l)
+  pub ordered : AreOrdered ls
+
+-- the kept lines of the one floor that the other has not, each once, in order
+pub record AreAlone (a b : Floor) (ls : List Line) : Type 0 where
+  pub listed : (l : Line) → Contains ls l ↔ (IsKept a l × (IsKept b l → ⊥))
+  pub ordered : AreOrdered ls
+
+-- the repair leads from the graph's floor to its own, and the arena has places for all lines and crossings there
+pub record LeadsFrom (graph : Drawing) (change : Change) : Type 0 where
+  pub stay : AreShared graph.floor change.floor change.stay
+  pub here : AreAlone graph.floor change.floor change.here
+  pub there : AreAlone change.floor graph.floor change.there
+  pub line_places : length change.stay + length change.there ≤ len graph.arena.lines + graph.arena.spare_lines
+  pub crossing_places : pairs_by meets change.stay + coming change.there change.stay ≤ len graph.arena.crossings + graph.arena.spare_crossings
+
+-- n is the number of kept lines that the old floor has not, and of crossings that have such a line
+pub record IsWriteCount (old new : Floor) (n : ℕ) : Type 0 where
+  pub stay : List Line
+  pub come : List Line
+  pub are_stay : AreShared old new stay
+  pub are_come : AreAlone new old come
+  pub count : n ≡ length come + coming come stay

@@ -1,0 +1,4 @@
+-- What a repair is seen as, when it leads where, and what it writes.
+pub mod Change
+pub mod Listed
+pub mod Take

@@ -1,0 +1,134 @@
+//! What changes from one floor to another, and the room for it.
+ghost use Rattle.std.specs.Prelude.{◌≡◌, ◌↔◌, ◌-◌, ◌≤◌, false, not, IsTrue, Contains, filter, length, IfOk, OnOk};
+ghost use Rattle.plane_geom.specs.Floor.{IsFloor};
+ghost use Rattle.sweep_lines.specs.Kept.{AreOrdered, stands_before};
+ghost use Rattle.visibility_graph.specs.Meeting.{coming};
+ghost use Rattle.graph_repair.specs.Change.{LeadsFrom};
+ghost use Rattle.graph_repair.specs.Listed.{is_listed};
+
+use crate::exchange::take;
+use crate::repair::Repair;
+use plane_geom::{Floor, Line, Way};
+use std::alloc::{AllocError, Global};
+use sweep_lines::all_lines;
+use visibility_graph::{Graph, crossings_of};
+
+/// Plans a repair of the graph to the new floor, and takes all memory that it and the way back will need.
+///
+/// The graph's floor, lines, crossings and `written` stay as they are, also where memory is wanting, which is the
+/// only error.
+pub fn plan(alloc: Global, graph: &mut Graph, new: &Floor) -> Result<Repair, AllocError>
+    requires old_floor { IsFloor graph.old.floor }
+    requires new_floor { IsFloor new.now }
+    ensures floor { graph.new.floor ≡ graph.old.floor }
+    ensures lines { graph.new.arena.lines ≡ graph.old.arena.lines }
+    ensures crossings { graph.new.arena.crossings ≡ graph.old.arena.crossings }
+    ensures written { graph.new.arena.written ≡ graph.old.arena.written }
+    ensures leads { IfOk result (λ r. LeadsFrom graph.new r) }
+    ensures planned { IfOk result (λ r. r.applied ≡ false) }
+    ensures new_floor { IfOk result (λ r. r.floor ≡ new.now) }
+{
+    let floor = new.copy(alloc)?;
+    let old_lines = all_lines(alloc, graph.floor())?;
+    let new_lines = all_lines(alloc, &floor)?;
+    let stay = shared(alloc, old_lines.as_slice(), new_lines.as_slice())?;
+    let here = alone(alloc, old_lines.as_slice(), new_lines.as_slice())?;
+    let there = alone(alloc, new_lines.as_slice(), old_lines.as_slice())?;
+    graph.arena().laws();
+    make_room(
+        alloc,
+        graph,
+        stay.as_slice(),
+        here.as_slice(),
+        there.as_slice(),
+    )?;
+    Ok(Repair {
+        alloc,
+        floor,
+        stay,
+        here,
+        there,
+        applied: false,
+    })
+}
+
+/// The lines that stand among the others.
+fn shared(alloc: Global, lines: &[Line], others: &[Line]) -> Result<Vec<Line>, AllocError>
+    requires { AreOrdered others.now }
+    ensures { IfOk result (λ v. v.items ≡ filter (is_listed others.now) lines.now) }
+{
+    lines
+        .iter()
+        .copied()
+        .filter(|line| is_among(line, others))
+        .collect(alloc)
+}
+
+/// The lines that do not stand among the others.
+fn alone(alloc: Global, lines: &[Line], others: &[Line]) -> Result<Vec<Line>, AllocError>
+    requires { AreOrdered others.now }
+    ensures { IfOk result (λ v. v.items ≡ filter (λ l. not (is_listed others.now l)) lines.now) }
+{
+    lines
+        .iter()
+        .copied()
+        .filter(|line| !is_among(line, others))
+        .collect(alloc)
+}
+
+/// Whether the line is one of the others.
+fn is_among(line: &Line, others: &[Line]) -> bool
+    requires { AreOrdered others.now }
+    ensures { result ≡ is_listed others.now line.now }
+{
+    let place = others.partition_point(|other| is_before(other, line));
+    if place == others.len() {
+        return false;
+    }
+    is_same(&others[place], line)
+}
+
+/// Whether the lines are one.
+fn is_same(line: &Line, other: &Line) -> bool
+    ensures { IsTrue result ↔ (line.now ≡ other.now) }
+{
+    line == other
+}
+
+/// Whether one line stands before another: vertical ones first, then by coordinate, then by begin.
+fn is_before(line: &Line, other: &Line) -> bool
+    ensures { result ≡ stands_before line.now other.now }
+{
+    match (line.way, other.way) {
+        (Way::Vertical, Way::Horizontal) => true,
+        (Way::Horizontal, Way::Vertical) => false,
+        _ => line.at < other.at || (line.at == other.at && line.lo < other.lo),
+    }
+}
+
+/// Makes room for the lines and crossings that come, less those that go.
+fn make_room(
+    alloc: Global,
+    graph: &mut Graph,
+    stay: &[Line],
+    here: &[Line],
+    there: &[Line],
+) -> Result<(), AllocError>
+    requires stay_ordered { AreOrdered stay.now }
+    requires here_ordered { AreOrdered here.now }
+    requires there_ordered { AreOrdered there.now }
+    ensures floor { graph.new.floor ≡ graph.old.floor }
+    ensures lines { graph.new.arena.lines ≡ graph.old.arena.lines }
+    ensures crossings { graph.new.arena.crossings ≡ graph.old.arena.crossings }
+    ensures written { graph.new.arena.written ≡ graph.old.arena.written }
+    ensures room_for_lines { OnOk result (length there.now - length here.now ≤ graph.new.arena.spare_lines) }
+    ensures room_for_crossings { OnOk result (coming there.now stay.now - coming here.now stay.now ≤ graph.new.arena.spare_crossings) }
+{
+    let lines = there.len().saturating_sub(here.len());
+    let come = crossings_of(there, stay)?;
+    let go = crossings_of(here, stay)?;
+    let mut parts = take(alloc, graph);
+    let reserved = parts.arena.reserve(lines, come.saturating_sub(go));
+    *graph = Graph::from_parts(parts);
+    reserved
+}

@@ -1,0 +1,106 @@
+//! The repair, either way.
+ghost use Rattle.std.specs.Prelude.{◌≡◌, ℕ, true, false, not, All, [], ◌∷◌};
+ghost use Rattle.line_arena.specs.Stands.{HasLine, IsComplete, StandsFor};
+ghost use Rattle.sweep_lines.specs.Kept.{AreOrdered};
+ghost use Rattle.visibility_graph.specs.Meeting.{counted_by};
+ghost use Rattle.graph_repair.specs.Change.{IsWriteCount, LeadsFrom};
+ghost use Rattle.graph_repair.specs.Take.{AreTaken};
+
+use crate::repair::Repair;
+use line_arena::LineArena;
+use plane_geom::Line;
+use std::alloc::Global;
+use std::mem;
+use visibility_graph::{Graph, GraphParts, put_lines};
+
+/// Repairs the graph to the new floor. Takes no memory.
+///
+/// The graph is the one that the repair was planned for, as `plan` or `revert` left it. `written` rises by the
+/// number of lines that the old floor has not and of crossings that have such a line, and stays once it is 2^64 - 1.
+pub fn apply(graph: &mut Graph, repair: &mut Repair)
+    requires leads { LeadsFrom graph.old repair.old }
+    requires planned { repair.old.applied ≡ false }
+    ensures applied { repair.new.applied ≡ true }
+    ensures there { graph.new.floor ≡ repair.old.floor }
+    ensures here { repair.new.floor ≡ graph.old.floor }
+    ensures back { LeadsFrom graph.new repair.new }
+    ensures written { (n : ℕ) × IsWriteCount graph.old.floor graph.new.floor n × (graph.new.arena.written ≡ counted_by n graph.old.arena.written) }
+{
+    exchange(graph, repair);
+}
+
+/// Repairs the graph back to the old floor. Takes no memory.
+///
+/// The graph is the one that the repair was planned for, as `apply` left it. `written` rises by the number of lines
+/// that the new floor has not and of crossings that have such a line, and stays once it is 2^64 - 1.
+pub fn revert(graph: &mut Graph, repair: &mut Repair)
+    requires leads { LeadsFrom graph.old repair.old }
+    requires applied { repair.old.applied ≡ true }
+    ensures planned { repair.new.applied ≡ false }
+    ensures there { graph.new.floor ≡ repair.old.floor }
+    ensures here { repair.new.floor ≡ graph.old.floor }
+    ensures back { LeadsFrom graph.new repair.new }
+    ensures written { (n : ℕ) × IsWriteCount graph.old.floor graph.new.floor n × (graph.new.arena.written ≡ counted_by n graph.old.arena.written) }
+{
+    exchange(graph, repair);
+}
+
+/// Lets the graph stand for the repair's floor, and the repair lead back.
+fn exchange(graph: &mut Graph, repair: &mut Repair)
+    requires { LeadsFrom graph.old repair.old }
+    ensures there { graph.new.floor ≡ repair.old.floor }
+    ensures here { repair.new.floor ≡ graph.old.floor }
+    ensures back { LeadsFrom graph.new repair.new }
+    ensures applied { repair.new.applied ≡ not repair.old.applied }
+    ensures written { (n : ℕ) × IsWriteCount graph.old.floor graph.new.floor n × (graph.new.arena.written ≡ counted_by n graph.old.arena.written) }
+{
+    let mut parts = take(repair.alloc, graph);
+    parts.arena.laws();
+    take_lines(&mut parts.arena, repair.here.as_slice());
+    parts.arena.laws();
+    put_lines(
+        &mut parts.arena,
+        repair.there.as_slice(),
+        repair.stay.as_slice(),
+    );
+    mem::swap(&mut parts.floor, &mut repair.floor);
+    mem::swap(&mut repair.here, &mut repair.there);
+    repair.applied = !repair.applied;
+    *graph = Graph::from_parts(parts);
+}
+
+/// Takes the graph out and leaves an empty one.
+pub(crate) fn take(alloc: Global, graph: &mut Graph) -> GraphParts
+    ensures floor { result.floor ≡ graph.old.floor }
+    ensures arena { result.arena ≡ graph.old.arena }
+    ensures stands { StandsFor result.floor result.arena }
+{
+    mem::replace(graph, Graph::empty(alloc)).into_parts()
+}
+
+/// Takes the lines out with all their crossings.
+fn take_lines(arena: &mut LineArena, lines: &[Line])
+    requires there { All (HasLine arena.old) lines.now }
+    requires ordered { AreOrdered lines.now }
+    requires complete { IsComplete arena.old }
+    ensures { AreTaken arena.old arena.new lines.now }
+{
+    for line in lines {
+        take_line(arena, *line);
+    }
+}
+
+/// Takes the line out with all its crossings.
+fn take_line(arena: &mut LineArena, line: Line)
+    requires there { HasLine arena.old line }
+    requires complete { IsComplete arena.old }
+    ensures { AreTaken arena.old arena.new (line ∷ []) }
+{
+    let Some(id) = arena.line_at(line) else {
+        unreachable!()
+    };
+    while let Some(crossing) = arena.first_on_line(id) {
+        arena.remove_crossing(crossing);
+    }
+    arena.remove_line(id);
+}

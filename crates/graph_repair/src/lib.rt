@@ -1,0 +1,15 @@
+//! Local repair of a visibility graph: only the lines and crossings that change are taken out and put in.
+#![tactic(auto)]
+
+mod difference;
+mod exchange;
+mod laws;
+mod repair;
+
+pub use difference::plan;
+pub use exchange::{apply, revert};
+pub use laws::one_write_count;
+pub use repair::Repair;
+
+#[cfg(test)]
+mod tests;
