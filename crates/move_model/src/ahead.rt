@@ -1,0 +1,100 @@
+//! What a walk has ahead of it.
+ghost use Rattle.std.specs.Prelude.{◌≡◌, ◌≢◌, ◌+◌, ◌*◌, ◌<◌, ◌≤◌, ◌^◌, ◌+ℤ◌, unsigned_abs};
+ghost use Rattle.move_model.specs.Ahead.{with_stretch};
+ghost use Rattle.plane_geom.specs.Along.{across, way_of};
+ghost use Rattle.walk_model.specs.Cost.{turn};
+
+use plane_geom::{Dir, Point};
+
+/// Steps in one direction, from a point on.
+#[derive(Clone, Copy, Debug, PartialEq, Eq, Hash)]
+pub struct Stretch {
+    pub from: Point,
+    pub dir: Dir,
+    pub steps: u64,
+}
+
+/// What is ahead of a walk, in the order of walks: by cost, by the number of runs that begin, and by lean.
+///
+/// Costs and leans are in thousandths.
+#[derive(Clone, Copy, Debug, PartialEq, Eq, PartialOrd, Ord, Hash)]
+pub struct Ahead {
+    pub cost: u64,
+    pub runs: u32,
+    pub lean: i64,
+}
+
+impl Ahead {
+    /// The same with one run more, at the coordinate across.
+    fn with_run(self, across: i64) -> Ahead
+        requires runs { self.runs + 1 < 2 ^ 32 }
+        requires lean { unsigned_abs self.lean + unsigned_abs across < 2 ^ 63 }
+        ensures cost { result.cost ≡ self.cost }
+        ensures runs { result.runs ≡ self.runs + 1 }
+        ensures lean { result.lean ≡ self.lean +ℤ across }
+    {
+        Ahead {
+            runs: self.runs + 1,
+            lean: self.lean + across,
+            ..self
+        }
+    }
+
+    /// The same with the stretch in front of it, for a walk that comes to the stretch in the heading.
+    ///
+    /// A turn costs the penalty once and a doubling back twice.
+    pub fn behind(self, heading: Dir, stretch: Stretch, penalty: u64) -> Ahead
+        requires cost { self.cost + stretch.steps + penalty * 2 < 2 ^ 64 }
+        requires runs { self.runs + 1 < 2 ^ 32 }
+        requires lean { unsigned_abs self.lean + unsigned_abs (across (way_of stretch.dir) stretch.from) < 2 ^ 63 }
+        ensures { result ≡ with_stretch penalty heading stretch self }
+    {
+        let cost = self.cost + stretch.steps;
+        if heading == stretch.dir {
+            return Ahead { cost, ..self };
+        }
+        let bends = bends_between(heading, stretch.dir);
+        let costlier = Ahead {
+            cost: cost + penalty * bends,
+            ..self
+        };
+        costlier.with_run(stretch.from.across(stretch.dir.way()))
+    }
+}
+
+/// The bends between two different directions.
+fn bends_between(from: Dir, to: Dir) -> u64
+    requires { from ≢ to }
+    ensures bends { result ≡ turn from to }
+    ensures few { result ≤ 2 }
+{
+    if from == to.opposite() { 2 } else { 1 }
+}
+
+#[cfg(test)]
+mod tests {
+    use super::*;
+
+    #[test]
+    fn puts_a_stretch_in_front(rt: HostRuntime) {
+        let rest = Ahead {
+            cost: 100,
+            runs: 2,
+            lean: -7,
+        };
+        let stretch = Stretch {
+            from: Point { x: 30, y: 40 },
+            dir: Dir::East,
+            steps: 5,
+        };
+        let cases = [
+            ("straight on", Dir::East, 105, 2, -7),
+            ("turn", Dir::South, 155, 3, 33),
+            ("doubling back", Dir::West, 205, 3, 33),
+        ];
+        for (case, heading, cost, runs, lean) in cases {
+            let whole = rest.behind(heading, stretch, 50);
+            assert_eq!(rt; whole, Ahead { cost, runs, lean }, "{case}");
+        }
+    }
+}
