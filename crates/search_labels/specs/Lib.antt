@@ -1,0 +1,7 @@
+-- The definitions on what a search reads and keeps.
+pub mod Ends
+pub mod Origins
+pub mod Bounds
+pub mod Labels
+pub mod Tables
+pub mod Problems

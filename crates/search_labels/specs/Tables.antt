@@ -1,0 +1,43 @@
+-- What a table of labels holds.
+use Rattle.std.specs.Prelude.{ℕ, ◌≡◌, ◌≢◌, ◌⊎◌, ◌+◌, ◌*◌, ◌<◌, nat_lt, if◌then◌else◌, [], Contains, All, length, slice_index_or, slice_set}
+use Rattle.move_model.specs.declared.place.Place.{Place}
+use Rattle.search_labels.specs.declared.label.Label.{Label}
+use Rattle.search_labels.specs.declared.label.Label.TheVariants.{Absent}
+use Rattle.search_labels.specs.declared.label.Row.{Row}
+use Rattle.search_labels.specs.declared.table.Table.{Table}
+use Rattle.search_labels.specs.Labels.{empty_row, label_in, with_label}
+
+-- where the row of the place stands
+abbrev pub row_of : Table → Place → ℕ
+row_of t x = x.stage * t.places + x.crossing
+
+-- the label of the place
+abbrev pub label_of : Table → Place → Label
+label_of t x = if nat_lt x.crossing t.places then label_in (slice_index_or t.rows.items (row_of t x) empty_row) x.heading else Absent
+
+-- the table has a row for the place
+pub record HasRow (t : Table) (x : Place) : Type 0 where
+  pub crossing : x.crossing < t.places
+  pub stage : row_of t x < length t.rows.items
+
+-- a row that has a label is marked, and what is marked is a row
+pub record IsMarked (t : Table) : Type 0 where
+  pub rows : (k : ℕ) (d : Row) → k < length t.rows.items → (slice_index_or t.rows.items k d ≡ empty_row) ⊎ Contains t.marked.items k
+  pub marks : All (λ k. k < length t.rows.items) t.marked.items
+
+-- no row has a label, and none is marked
+pub record IsClear (t : Table) : Type 0 where
+  pub rows : All (λ r. r ≡ empty_row) t.rows.items
+  pub marks : t.marked.items ≡ []
+
+-- both have rows for the same places
+pub record SameRooms (old new : Table) : Type 0 where
+  pub places : new.places ≡ old.places
+  pub rows : length new.rows.items ≡ length old.rows.items
+
+-- of all labels this one alone has changed
+pub record Puts (old new : Table) (x : Place) (label : Label) : Type 0 where
+  pub rooms : SameRooms old new
+  pub changed : label_of new x ≡ label
+  pub written : new.rows.items ≡ slice_set old.rows.items (row_of old x) (with_label (slice_index_or old.rows.items (row_of old x) empty_row) x.heading label)
+  pub others : (y : Place) → y ≢ x → label_of new y ≡ label_of old y

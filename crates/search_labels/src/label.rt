@@ -1,0 +1,81 @@
+//! Labels of places.
+ghost use Rattle.std.specs.Prelude.{◌≡◌, ◌↔◌, IsTrue};
+ghost use Rattle.search_labels.specs.Labels.{ahead_in, empty_row, label_in, with_label};
+
+use move_model::Ahead;
+use plane_geom::Dir;
+
+/// The least that is known to lie ahead of a place. What is open is still to be handed on.
+#[derive(Clone, Copy, Debug)]
+pub enum Label {
+    Absent,
+    Open(Ahead),
+    Closed(Ahead),
+}
+
+impl Label {
+    /// What is known to lie ahead, whether open or closed.
+    pub fn ahead(self) -> Option<Ahead>
+        ensures { result ≡ ahead_in self }
+    {
+        match self {
+            Label::Absent => None,
+            Label::Open(ahead) | Label::Closed(ahead) => Some(ahead),
+        }
+    }
+}
+
+/// The labels of a crossing in a stage, by heading.
+#[derive(Clone, Copy, Debug)]
+pub struct Row {
+    east: Label,
+    south: Label,
+    west: Label,
+    north: Label,
+}
+
+/// A row without labels.
+pub const EMPTY: Row = Row {
+    east: Label::Absent,
+    south: Label::Absent,
+    west: Label::Absent,
+    north: Label::Absent,
+};
+
+impl Row {
+    /// The label of the heading.
+    pub fn label(&self, heading: Dir) -> Label
+        ensures { result ≡ label_in self.now heading }
+    {
+        match heading {
+            Dir::East => self.east,
+            Dir::South => self.south,
+            Dir::West => self.west,
+            Dir::North => self.north,
+        }
+    }
+
+    /// The row with this label at the heading.
+    pub fn with(&self, heading: Dir, label: Label) -> Row
+        ensures { result ≡ with_label self.now heading label }
+    {
+        let mut row = *self;
+        match heading {
+            Dir::East => row.east = label,
+            Dir::South => row.south = label,
+            Dir::West => row.west = label,
+            Dir::North => row.north = label,
+        }
+        row
+    }
+
+    /// Whether the row has no label.
+    pub fn is_empty(&self) -> bool
+        ensures { IsTrue result ↔ (self.now ≡ empty_row) }
+    {
+        matches!(
+            (self.east, self.south, self.west, self.north),
+            (Label::Absent, Label::Absent, Label::Absent, Label::Absent)
+        )
+    }
+}

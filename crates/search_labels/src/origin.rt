@@ -1,0 +1,201 @@
+//! What it costs at least to come to a point from the ports that walks leave in one direction.
+ghost use Rattle.std.specs.Prelude.{◌≡◌, ◌+◌, ◌*◌, ◌^◌, ◌≤◌, ◌≤ℤ◌, ◌↔◌, All, IfSome, IsNone, IsTrue};
+ghost use Rattle.move_model.specs.Boxes.{beside, distance_from, fewest_bends, outside};
+ghost use Rattle.plane_geom.specs.Along.{way_of};
+ghost use Rattle.plane_geom.specs.Point.{IsCoordinate, PointIsOnSheet};
+ghost use Rattle.std.specs.Int.{int_gap};
+ghost use Rattle.search_labels.specs.Origins.{Covers, IsOrigin, IsSmallEntry, bound_from, cost_from};
+ghost use Rattle.search_labels.specs.declared.ends.Entry.{Entry};
+
+use crate::ends::Entry;
+use plane_geom::{Dir, Point, Rect, Way};
+
+/// The box of the ports that walks leave in one direction, and the least that it costs to come to one of them.
+#[derive(Clone, Copy, Debug)]
+pub struct Origin {
+    pub dir: Dir,
+    pub ports: Rect,
+    pub lead: u64,
+}
+
+/// How far the second number is above the first.
+fn gap(from: i64, to: i64) -> u64
+    requires from { IsCoordinate from }
+    requires to { IsCoordinate to }
+    ensures exact { result ≡ int_gap from to }
+    ensures small { result ≤ 4 * 10 ^ 9 }
+{
+    if from < to { (to - from) as u64 } else { 0 }
+}
+
+/// The lesser of the two.
+fn lesser(a: i64, b: i64) -> i64
+    requires a { IsCoordinate a }
+    requires b { IsCoordinate b }
+    ensures within { IsCoordinate result }
+    ensures first { result ≤ℤ a }
+    ensures second { result ≤ℤ b }
+{
+    if a < b { a } else { b }
+}
+
+/// The greater of the two.
+fn greater(a: i64, b: i64) -> i64
+    requires a { IsCoordinate a }
+    requires b { IsCoordinate b }
+    ensures within { IsCoordinate result }
+    ensures first { a ≤ℤ result }
+    ensures second { b ≤ℤ result }
+{
+    if a < b { b } else { a }
+}
+
+/// How far the number is from those between the two.
+fn outside(low: i64, z: i64, high: i64) -> u64
+    requires low { IsCoordinate low }
+    requires z { IsCoordinate z }
+    requires high { IsCoordinate high }
+    ensures exact { result ≡ outside low z high }
+    ensures small { result ≤ 8 * 10 ^ 9 }
+{
+    gap(z, low) + gap(high, z)
+}
+
+impl Origin {
+    /// Whether the point lies in the box.
+    pub fn holds(&self, p: Point) -> bool
+        requires origin { IsOrigin self.now }
+        requires within { PointIsOnSheet p }
+        ensures { IsTrue result ↔ (distance_from self.now.ports p ≡ 0) }
+    {
+        self.distance(p) == 0
+    }
+
+    /// How many steps lead at least from the box to the point.
+    fn distance(&self, p: Point) -> u64
+        requires origin { IsOrigin self.now }
+        requires within { PointIsOnSheet p }
+        ensures exact { result ≡ distance_from self.now.ports p }
+        ensures small { result ≤ 16 * 10 ^ 9 }
+    {
+        outside(self.ports.left, p.x, self.ports.right)
+            + outside(self.ports.top, p.y, self.ports.bottom)
+    }
+
+    /// Whether the point lies to a side of the box, for one who leaves it in the direction.
+    fn is_beside(&self, p: Point) -> bool
+        requires origin { IsOrigin self.now }
+        requires within { PointIsOnSheet p }
+        ensures { IsTrue result ↔ (beside (way_of self.now.dir) self.now.ports p ≡ 0 → ⊥) }
+    {
+        match self.dir.way() {
+            Way::Vertical => outside(self.ports.left, p.x, self.ports.right) > 0,
+            Way::Horizontal => outside(self.ports.top, p.y, self.ports.bottom) > 0,
+        }
+    }
+
+    /// No walk from the box to the point in the heading has fewer bends.
+    fn bends(&self, p: Point, heading: Dir) -> u64
+        requires origin { IsOrigin self.now }
+        requires within { PointIsOnSheet p }
+        ensures exact { result ≡ fewest_bends self.now.dir self.now.ports p heading }
+        ensures few { result ≤ 2 }
+    {
+        if heading == self.dir {
+            if self.is_beside(p) { 2 } else { 0 }
+        } else if heading == self.dir.opposite() {
+            2
+        } else {
+            1
+        }
+    }
+
+    /// What it costs at least to come to the point.
+    pub fn cost(&self, p: Point) -> u64
+        requires origin { IsOrigin self.now }
+        requires within { PointIsOnSheet p }
+        ensures exact { result ≡ cost_from self.now p }
+        ensures small { result ≤ 21 * 10 ^ 9 }
+    {
+        self.lead + self.distance(p)
+    }
+
+    /// What it costs at least to come to the point in the heading.
+    pub fn bound(&self, p: Point, heading: Dir, penalty: u64) -> u64
+        requires origin { IsOrigin self.now }
+        requires within { PointIsOnSheet p }
+        requires penalty { penalty ≤ 10 ^ 9 }
+        ensures { result ≡ bound_from penalty self.now p heading }
+    {
+        self.cost(p) + penalty * self.bends(p, heading)
+    }
+
+    /// With one entry more.
+    fn with(self, entry: Entry) -> Origin
+        requires origin { IsOrigin self }
+        requires entry { IsSmallEntry entry }
+        ensures origin { IsOrigin result }
+        ensures dir { result.dir ≡ self.dir }
+        ensures entry { entry.place.heading ≡ self.dir → Covers result entry }
+        ensures others { (e : Entry) → Covers self e → Covers result e }
+    {
+        Origin {
+            dir: self.dir,
+            ports: Rect {
+                left: lesser(self.ports.left, entry.port.x),
+                top: lesser(self.ports.top, entry.port.y),
+                right: greater(self.ports.right, entry.port.x),
+                bottom: greater(self.ports.bottom, entry.port.y),
+            },
+            lead: self.lead.min(entry.lead),
+        }
+    }
+}
+
+/// The origin of one more entry in the direction.
+fn joined(origin: Option<Origin>, entry: Entry) -> Origin
+    requires origin { IfSome origin (λ o. IsOrigin o × (o.dir ≡ entry.place.heading)) }
+    requires entry { IsSmallEntry entry }
+    ensures origin { IsOrigin result }
+    ensures dir { result.dir ≡ entry.place.heading }
+    ensures entry { Covers result entry }
+    ensures others { IfSome origin (λ o. (e : Entry) → Covers o e → Covers result e) }
+{
+    match origin {
+        None => Origin {
+            dir: entry.place.heading,
+            ports: Rect {
+                left: entry.port.x,
+                top: entry.port.y,
+                right: entry.port.x,
+                bottom: entry.port.y,
+            },
+            lead: entry.lead,
+        },
+        Some(origin) => origin.with(entry),
+    }
+}
+
+/// Whether a walk enters in the direction.
+fn leads(entry: &Entry, dir: Dir) -> bool
+    ensures { IsTrue result ↔ (entry.now.place.heading ≡ dir) }
+{
+    entry.place.heading == dir
+}
+
+/// The origin of the entries in the direction, if there are any.
+pub fn origin_of(entries: &[Entry], dir: Dir) -> Option<Origin>
+    requires { All IsSmallEntry entries.now }
+    ensures origin { IfSome result IsOrigin }
+    ensures dir { IfSome result (λ o. o.dir ≡ dir) }
+    ensures covers { IfSome result (λ o. All (λ e. e.place.heading ≡ dir → Covers o e) entries.now) }
+    ensures none { IsNone result → All (λ e. e.place.heading ≡ dir → ⊥) entries.now }
+{
+    let mut found = None;
+    for &entry in entries {
+        if leads(&entry, dir) {
+            found = Some(joined(found, entry));
+        }
+    }
+    found
+}
