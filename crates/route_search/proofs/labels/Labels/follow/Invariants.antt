@@ -1,0 +1,12 @@
+-- The first walk has been followed to where it stands, and each step leaves less ahead.
+use Rattle.std.proofs.Common.{◌≡◌, ℕ}
+use Rattle.walk_model.specs.Order.{Triple}
+use Rattle.route_search.specs.Starting.{EntersAt}
+use Rattle.route_search.proofs.Following.{IsFollowing}
+use Rattle.route_search.proofs.labels.Labels.follow.Given as goal
+
+abbrev pub invariant-loop-dir : goal.invariant-loop-dir
+invariant-loop-dir l = (t : Triple) × (e : EntersAt l.problem l.self l.entry l.ahead t) × IsFollowing l.problem l.self t e.labelled l.standing l.points.items
+
+abbrev pub decreases-loop-dir : goal.decreases-loop-dir
+decreases-loop-dir l = l.standing.ahead.cost

@@ -1,0 +1,6 @@
+-- What lies ahead of the place has been offered to all stages so far from which a walk comes to it.
+use Rattle.route_search.proofs.HandingOn.{Handing}
+use Rattle.route_search.proofs.labels.Labels.hand_on.Given as goal
+
+abbrev pub invariant-loop-stage : goal.invariant-loop-stage
+invariant-loop-stage l = Handing l.problem l.initial.self l.self l.crossing l.stage l.at l.place.stage l.stretch l.ahead

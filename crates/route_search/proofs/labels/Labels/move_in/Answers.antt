@@ -1,0 +1,89 @@
+-- The move to the nearest crossing is the only one, and its label says whether it fits.
+use Rattle.std.proofs.Common.{◌≡◌, ◌≤◌, ◌+◌, ◌*◌, ◌<◌, Some, None, refl, sym, ap, subst, ◌∙◌, arith, unsigned_abs, rules}
+use Rattle.plane_geom.specs.declared.point.Dir.{Dir}
+use Rattle.plane_geom.specs.declared.point.Point.{Point}
+use Rattle.plane_geom.specs.Along.{across, way_of}
+use Rattle.line_arena.specs.Arena.{LiesFurther}
+use Rattle.move_model.specs.declared.place.Place.{Place}
+use Rattle.move_model.specs.Ahead.{with_stretch}
+use Rattle.search_labels.specs.Labels.{ahead_in}
+use Rattle.route_search.specs.Labels.{label_at}
+use Rattle.search_labels.proofs.Legs.{distance_small}
+use Rattle.route_search.proofs.Sizes.{across_small, crossing_on_sheet}
+use Rattle.route_search.proofs.Tails.{the_only}
+use Rattle.route_search.proofs.TheMoves.{the_move}
+use Rattle.route_search.proofs.labels.Labels.move_in.Goals as goal
+
+pub returns-in_err-crossing-clause-none : goal.returns-in_err-crossing-clause-none
+returns-in_err-crossing-clause-none c none m is =
+    c.in_err-crossing.ensures.absent.0 (search rules) m.to.crossing (subst (λ (d : Dir). LiesFurther c.args.problem.now.arena.now d c.args.standing.now.place.crossing m.to.crossing) is.dir is.move.next.lies)
+
+pub distance-requires-clause-from_within : goal.distance-requires-clause-from_within
+distance-requires-clause-from_within c = crossing_on_sheet c.args.problem.now c.args.standing.now.place.crossing c.point-from.result c.requires.ready c.point-from.ensures
+
+pub distance-requires-clause-to_within : goal.distance-requires-clause-to_within
+distance-requires-clause-to_within c = crossing_on_sheet c.args.problem.now c.in_ok-crossing.crossing c.point-at.result c.requires.ready c.point-at.ensures
+
+pub returns-in_err-ahead-clause-none : goal.returns-in_err-ahead-clause-none
+returns-in_err-ahead-clause-none c none m is =
+    let p = c.args.problem.now in
+    let s = c.args.standing.now in
+    let stage = rw c.as_slice.ensures at c.stage_at-stage.ensures in
+    let there = the_move p s.place c.args.dir c.in_ok-crossing.crossing c.stage_at-stage.result c.distance.result c.point-from.result c.point-at.result c.distance.ensures c.requires.ready c.point-from.ensures c.point-at.ensures c.in_ok-crossing.ensures.nearest stage in
+    let to : Place = record { crossing = c.in_ok-crossing.crossing; stage = c.stage_at-stage.result; heading = c.args.dir } in
+    let only = the_only p c.args.self.now s c.args.dir c.requires.ready.arena m _ to is there.0 refl in
+    let label : ahead_in (label_at c.args.self.now to) ≡ Some m.ahead = ap (λ (x : Place). ahead_in (label_at c.args.self.now x)) (sym only.1.0) ∙ is.label in
+    absurd (let e : Some m.ahead ≡ None = sym label ∙ sym c.ahead_of.ensures ∙ c.in_err-ahead.was in cc)
+
+pub makes-requires-clause-cost : goal.makes-requires-clause-cost
+makes-requires-clause-cost c =
+    let p = c.args.problem.now in
+    let small = c.requires.searching.small _ c.in_ok-ahead.ahead (sym c.ahead_of.ensures ∙ c.in_ok-ahead.was) in
+    let from = crossing_on_sheet p c.args.standing.now.place.crossing c.point-from.result c.requires.ready c.point-from.ensures in
+    let at = crossing_on_sheet p c.in_ok-crossing.crossing c.point-at.result c.requires.ready c.point-at.ensures in
+    let far = distance_small c.point-from.result c.point-at.result from at in
+    omega (arith, far, c.distance.ensures, small.cost, c.requires.ready.problem.is_task.penalty)
+
+pub makes-requires-clause-runs : goal.makes-requires-clause-runs
+makes-requires-clause-runs c =
+    let small = c.requires.searching.small _ c.in_ok-ahead.ahead (sym c.ahead_of.ensures ∙ c.in_ok-ahead.was) in
+    omega (arith, small.runs)
+
+pub makes-requires-clause-lean : goal.makes-requires-clause-lean
+makes-requires-clause-lean c =
+    let small = c.requires.searching.small _ c.in_ok-ahead.ahead (sym c.ahead_of.ensures ∙ c.in_ok-ahead.was) in
+    let from = crossing_on_sheet c.args.problem.now c.args.standing.now.place.crossing c.point-from.result c.requires.ready c.point-from.ensures in
+    let h = across_small c.args.dir c.point-from.result from in
+    omega (arith, small.runs, small.lean, h)
+
+pub returns-then-not-makes-clause-none : goal.returns-then-not-makes-clause-none
+returns-then-not-makes-clause-none c none m is =
+    let p = c.args.problem.now in
+    let s = c.args.standing.now in
+    let stage = rw c.as_slice.ensures at c.stage_at-stage.ensures in
+    let there = the_move p s.place c.args.dir c.in_ok-crossing.crossing c.stage_at-stage.result c.distance.result c.point-from.result c.point-at.result c.distance.ensures c.requires.ready c.point-from.ensures c.point-at.ensures c.in_ok-crossing.ensures.nearest stage in
+    let to : Place = record { crossing = c.in_ok-crossing.crossing; stage = c.stage_at-stage.result; heading = c.args.dir } in
+    let only = the_only p c.args.self.now s c.args.dir c.requires.ready.arena m _ to is there.0 refl in
+    let label : Some c.in_ok-ahead.ahead ≡ Some m.ahead = sym c.in_ok-ahead.was ∙ c.ahead_of.ensures ∙ ap (λ (x : Place). ahead_in (label_at c.args.self.now x)) (sym only.1.0) ∙ is.label in
+    let ahead : c.in_ok-ahead.ahead ≡ m.ahead = cc in
+    let begin : is.move.begin ≡ c.point-from.result = only.1.1 ∙ there.1 in
+    let steps : m.steps ≡ c.distance.result = only.0 in
+    let fits : with_stretch p.task.now.penalty s.place.heading (record { from = c.point-from.result; dir = c.args.dir; steps = c.distance.result }) c.in_ok-ahead.ahead ≡ s.ahead =
+    (λ i. with_stretch p.task.now.penalty s.place.heading (record { from = sym begin i; dir = c.args.dir; steps = sym steps i }) (ahead i)) ∙ is.fits in
+    let told = c.makes.ensures.1 fits in
+    let test = c.if-not-makes.true in
+    absurd (cc)
+
+pub returns-clause-is : goal.returns-clause-is
+returns-clause-is c =
+    let p = c.args.problem.now in
+    let s = c.args.standing.now in
+    let stage = rw c.as_slice.ensures at c.stage_at-stage.ensures in
+    let there = the_move p s.place c.args.dir c.in_ok-crossing.crossing c.stage_at-stage.result c.distance.result c.point-from.result c.point-at.result c.distance.ensures c.requires.ready c.point-from.ensures c.point-at.ensures c.in_ok-crossing.ensures.nearest stage in
+    let fits : with_stretch p.task.now.penalty s.place.heading (record { from = c.point-from.result; dir = c.args.dir; steps = c.distance.result }) c.in_ok-ahead.ahead ≡ s.ahead = c.makes.ensures.0 (search rules) in
+    record {
+      move = there.0;
+      dir = refl;
+      label = sym c.ahead_of.ensures ∙ c.in_ok-ahead.was;
+      fits = ap (λ (q : Point). with_stretch p.task.now.penalty s.place.heading (record { from = q; dir = c.args.dir; steps = c.distance.result }) c.in_ok-ahead.ahead) there.1 ∙ fits;
+    }

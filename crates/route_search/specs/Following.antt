@@ -1,0 +1,92 @@
+-- How the first walk is followed along labels. No public clause cites this module.
+use Rattle.std.specs.Prelude.{ℕ, ◌≡◌, ◌⊎◌, ◌-◌, ◌<◌, ◌≤◌, List, ◌++◌, length, Option, Some, None, Contains, IfSome}
+use Rattle.plane_geom.specs.declared.point.Point.{Point}
+use Rattle.plane_geom.specs.declared.point.Dir.{Dir}
+use Rattle.walk_model.specs.Order.{Triple, IsFirst, rank}
+use Rattle.move_model.specs.declared.place.Place.{Place}
+use Rattle.move_model.specs.declared.ahead.Ahead.{Ahead}
+use Rattle.move_model.specs.Ahead.{ahead, nothing, with_stretch}
+use Rattle.move_model.specs.Places.{IsMove}
+use Rattle.move_model.specs.Ways.{GoesAlongWay, Leads, Leg, steps_of_way}
+use Rattle.search_labels.specs.Labels.{ahead_in}
+use Rattle.search_labels.specs.declared.ends.Ending.{Ending}
+use Rattle.search_labels.specs.declared.ends.Entry.{Entry}
+use Rattle.search_labels.specs.declared.problem.Problem.{Problem}
+use Rattle.route_search.specs.declared.follow.Move.{Move}
+use Rattle.route_search.specs.declared.follow.Next.{Next}
+use Rattle.route_search.specs.declared.follow.Next.TheVariants.{Stop, Go}
+use Rattle.route_search.specs.declared.follow.Standing.{Standing}
+use Rattle.route_search.specs.declared.follow.Tail.{Tail}
+use Rattle.route_search.specs.declared.labels.Labels.{Labels}
+use Rattle.route_search.specs.Labels.{label_at}
+
+-- the one is shorter, or as long with no later choice
+pub record IsNoLater (a b : Tail) : Type 0 where
+  pub steps : a.steps ≤ b.steps
+  pub end : a.steps ≡ b.steps → a.end ≤ b.end
+
+-- there is such a tail where any is there, and it is an earliest one
+pub record IsEarliest (P : Tail → Type 0) (best : Option Tail) : Type 0 where
+  pub is : IfSome best P
+  pub first : (b : Tail) → P b → (a : Tail) × (best ≡ Some a) × IsNoLater a b
+
+-- a walk that stands there may end with the stub of the ending, which leads in the direction
+pub record MayEnd (p : Problem) (s : Standing) (d : Dir) (e : Ending) : Type 0 where
+  pub stage : s.place.stage ≡ length p.task.now.via
+  pub crossing : e.crossing ≡ s.place.crossing
+  pub dir : e.dir ≡ d
+  pub fits : with_stretch p.task.now.penalty s.place.heading (record { from = e.port; dir = d; steps = e.rest }) nothing ≡ s.ahead
+
+-- with the tail the walk may end in the direction: it is under way, or the stub of one of the endings
+abbrev pub IsTailIn : Problem → Standing → Dir → List Ending → Tail → Type 0
+IsTailIn p s d endings b =
+    ((d ≡ s.place.heading) × (s.tail ≡ Some b))
+    ⊎ ((e : Ending) × Contains endings e × MayEnd p s d e × (b ≡ record { steps = e.stub; end = e.choice }))
+
+-- the move in the direction leads to a label that makes what is ahead
+pub record IsMoveIn (p : Problem) (l : Labels) (s : Standing) (d : Dir) (m : Move) : Type 0 where
+  pub move : IsMove p.arena.now p.task.now.via s.place m.steps m.to
+  pub dir : m.to.heading ≡ d
+  pub label : ahead_in (label_at l m.to) ≡ Some m.ahead
+  pub fits : with_stretch p.task.now.penalty s.place.heading (record { from = move.begin; dir = d; steps = m.steps }) m.ahead ≡ s.ahead
+
+-- no walk that stands there goes on in the direction
+pub record IsNoneIn (p : Problem) (l : Labels) (s : Standing) (d : Dir) : Type 0 where
+  pub tails : (b : Tail) → IsTailIn p s d p.endings.items b → ⊥
+  pub moves : (m : Move) → IsMoveIn p l s d m → ⊥
+
+-- it ends with the earliest tail, which is no longer than a move
+pub record StopsIn (p : Problem) (l : Labels) (s : Standing) (d : Dir) (b : Tail) : Type 0 where
+  pub tail : IsEarliest (IsTailIn p s d p.endings.items) (Some b)
+  pub short : (m : Move) → IsMoveIn p l s d m → b.steps ≤ m.steps
+
+-- what is left of the tail behind so many steps
+abbrev pub left_behind : ℕ → Option Tail → Option Tail
+left_behind n None = None
+left_behind n (Some b) = Some (record { steps = b.steps - n; end = b.end })
+
+-- it goes on by a move, along an earliest tail that is longer, if there is one
+pub record GoesIn (p : Problem) (l : Labels) (s : Standing) (d : Dir) (after : Standing) : Type 0 where
+  pub move : Move
+  pub is_move : IsMoveIn p l s d move
+  pub best : Option Tail
+  pub tail : IsEarliest (IsTailIn p s d p.endings.items) best
+  pub long : IfSome best (λ b. move.steps < b.steps)
+  pub further : after ≡ record { place = move.to; ahead = move.ahead; tail = left_behind move.steps best }
+
+-- how a walk goes on that ends with the tail or goes on by the move, where both are in one direction
+abbrev pub IsJoined : Option Tail → Option Move → Next → Type 0
+IsJoined tail step (Stop b) = (tail ≡ Some b) × IfSome step (λ m. b.steps ≤ m.steps)
+IsJoined tail step (Go further) =
+    (m : Move) × (step ≡ Some m) × IfSome tail (λ b. m.steps < b.steps)
+    × (further ≡ record { place = m.to; ahead = m.ahead; tail = left_behind m.steps tail })
+
+-- how the earliest of the walks that stand there goes on in the direction
+abbrev pub IsNextIn : Problem → Labels → Standing → Dir → Next → Type 0
+IsNextIn p l s d (Stop b) = StopsIn p l s d b
+IsNextIn p l s d (Go further) = GoesIn p l s d further
+
+-- and in no earlier direction one goes on
+pub record IsNext (p : Problem) (l : Labels) (s : Standing) (d : Dir) (n : Next) : Type 0 where
+  pub next : IsNextIn p l s d n
+  pub none_before : (e : Dir) → rank e < rank d → IsNoneIn p l s e

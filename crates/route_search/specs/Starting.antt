@@ -1,0 +1,62 @@
+-- Where the first walk enters the lines, and what the labels along it say. No public clause cites this module.
+use Rattle.std.specs.Prelude.{◌≡◌, ◌≢◌, ◌+◌, ◌+ℤ◌, List, ◌++◌, Option, Some, None, Contains, All}
+use Rattle.std.specs.Ordering.{nat_cmp, ordering_then}
+use Rattle.std.specs.declared.cmp.Ordering.TheVariants.{Less, Greater}
+use Rattle.plane_geom.specs.Along.{across, way_of}
+use Rattle.plane_geom.specs.declared.point.Point.{Point}
+use Rattle.line_arena.specs.Arena.{StandsAt}
+use Rattle.walk_model.specs.Order.{Triple, IsFirst}
+use Rattle.move_model.specs.declared.place.Place.{Place}
+use Rattle.move_model.specs.declared.ahead.Ahead.{Ahead}
+use Rattle.move_model.specs.Ahead.{ahead, ahead_cmp}
+use Rattle.move_model.specs.Ways.{GoesAlongWay, Leads, Leg, steps_of_way}
+use Rattle.search_labels.specs.Labels.{ahead_in}
+use Rattle.search_labels.specs.declared.ends.Entry.{Entry}
+use Rattle.search_labels.specs.declared.problem.Problem.{Problem}
+use Rattle.route_search.specs.declared.labels.Labels.{Labels}
+use Rattle.route_search.specs.Labels.{label_at}
+
+-- a whole walk that enters there and has so much ahead
+abbrev pub whole_from : Entry → Ahead → Ahead
+whole_from e v = record { cost = e.lead + v.cost; runs = v.runs + 1; lean = v.lean +ℤ across (way_of e.place.heading) e.port }
+
+-- a walk that enters at the one is no greater than one at the other, and of equals it has no later start choice
+abbrev pub EntersNoLater : Entry → Ahead → Entry → Ahead → Type 0
+EntersNoLater d v e w = ordering_then (ahead_cmp (whole_from d v) (whole_from e w)) (nat_cmp d.choice e.choice) ≢ Greater
+
+-- of the entries that have a label no other is better, and so much is ahead of this one
+pub record IsLeastEntry (l : Labels) (entries : List Entry) (entry : Entry) (v : Ahead) : Type 0 where
+  pub is : Contains entries entry
+  pub label : ahead_in (label_at l entry.place) ≡ Some v
+  pub least : All (λ e. (w : Ahead) → ahead_in (label_at l e.place) ≡ Some w → EntersNoLater entry v e w) entries
+
+-- so it is of the entry that was found, or none was found, since none has a label
+abbrev pub IsLeastOf : Labels → List Entry → Option (Entry × Ahead) → Type 0
+IsLeastOf l entries None = All (λ e. ahead_in (label_at l e.place) ≡ None) entries
+IsLeastOf l entries (Some found) = IsLeastEntry l entries found.0 found.1
+
+-- a walk that enters there and has so much ahead is less than one at the entry that was found, if one was
+abbrev pub IsLessThan : Entry → Ahead → Option (Entry × Ahead) → Type 0
+IsLessThan e v None = Unit {0}
+IsLessThan e v (Some found) = ahead_cmp (whole_from e v) (whole_from found.0 found.1) ≡ Less
+
+-- of the entry and the one that was found, this is the better one: the entry where its label makes a walk less
+pub record IsBetterOf (l : Labels) (e : Entry) (found better : Option (Entry × Ahead)) : Type 0 where
+  pub none : ahead_in (label_at l e.place) ≡ None → better ≡ found
+  pub less : (v : Ahead) → ahead_in (label_at l e.place) ≡ Some v → IsLessThan e v found → better ≡ Some (e, v)
+  pub not_less : (v : Ahead) → ahead_in (label_at l e.place) ≡ Some v → (IsLessThan e v found → ⊥) → better ≡ found
+
+-- a first walk, its way, and the labels along it: each says what is ahead
+pub record IsLabelled (p : Problem) (l : Labels) (t : Triple) : Type 0 where
+  pub first : IsFirst p.solids.now p.task.now t
+  pub along : GoesAlongWay p.solids.now p.arena.now p.task.now t
+  pub known : (passed legs : List Leg) (x : Place) (at : Point) → along.legs ≡ passed ++ legs →
+      Leads p.arena.now p.task.now.via along.entry passed x → StandsAt p.arena.now x.crossing at →
+      ahead_in (label_at l x) ≡ Some (ahead p.task.now.penalty x.heading at (steps_of_way legs along.end) along.end.cost)
+
+-- a first walk enters there, and so much is ahead of it
+pub record EntersAt (p : Problem) (l : Labels) (entry : Entry) (v : Ahead) (t : Triple) : Type 0 where
+  pub labelled : IsLabelled p l t
+  pub start : entry.choice ≡ t.start
+  pub place : entry.place ≡ labelled.along.entry
+  pub label : ahead_in (label_at l entry.place) ≡ Some v

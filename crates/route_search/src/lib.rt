@@ -1,0 +1,16 @@
+//! The first of the legal walks of a task, by a search over the crossings of an arena.
+//!
+//! Lengths and costs are in thousandths of a GML unit.
+#![tactic(auto)]
+
+mod finder;
+mod follow;
+mod labels;
+mod spread;
+mod tally;
+
+pub use finder::{Finder, find_first};
+pub use tally::Tally;
+
+#[cfg(test)]
+mod tests;
