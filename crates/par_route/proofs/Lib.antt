@@ -1,0 +1,6 @@
+-- The proofs of searches side by side.
+pub mod OneList
+pub mod Zips
+pub mod Cutting
+pub mod Joining
+pub mod Idle

@@ -1,0 +1,3 @@
+-- How searches go side by side.
+pub mod Pieces
+pub mod Routes

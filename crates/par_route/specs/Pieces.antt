@@ -1,0 +1,42 @@
+-- How tasks are cut into pieces, and what comes of each.
+use Rattle.std.specs.Prelude.{◌≡◌, ℕ, ◌+◌, ◌/◌, ◌%◌, ◌<◌, ◌≤◌, List, [], Result, Ok, Err, Option, if◌then◌else◌, nat_lt, length, slice_index_or}
+use Rattle.std.specs.List.{flat_map}
+use Rattle.std.specs.declared.alloc.AllocError.{AllocError}
+use Rattle.plane_geom.specs.declared.rect.Solid.{Solid}
+use Rattle.walk_model.specs.declared.task.Task.{Task}
+use Rattle.walk_model.specs.declared.route.Route.{Route}
+use Rattle.route_search.specs.Finds.{counted_by}
+use Rattle.par_route.specs.declared.pieces.Piece.{Piece}
+use Rattle.par_route.specs.declared.pieces.Searched.{Searched}
+use Rattle.par_route.specs.Routes.{AreAnswers}
+
+-- the tasks of all pieces, in order
+abbrev pub all_tasks : List Piece → List Task
+all_tasks pieces = flat_map (λ p. p.tasks.now) pieces
+
+-- how many of the tasks the piece with this place, from 0, of `count` pieces has
+abbrev pub piece_length : ℕ → ℕ → ℕ → ℕ
+piece_length tasks count place = tasks / count + (if nat_lt place (tasks % count) then 1 else 0)
+
+-- the tasks are cut in order, into so many pieces with numbers from 1; longer pieces come first, by one task at most
+pub record AreCut (all : List Task) (many : ℕ) (pieces : List Piece) : Type 0 where
+  pub count : length pieces ≡ many
+  pub tasks : all_tasks pieces ≡ all
+  pub numbers : (i : ℕ) (d : Piece) → i < length pieces → (slice_index_or pieces i d).number ≡ i + 1
+  pub longer_first : (i j : ℕ) (d : Piece) → i < j → j < length pieces → length (slice_index_or pieces j d).tasks.now ≤ length (slice_index_or pieces i d).tasks.now
+  pub even : (i j : ℕ) (d : Piece) → i < j → j < length pieces → length (slice_index_or pieces i d).tasks.now ≤ length (slice_index_or pieces j d).tasks.now + 1
+  pub idle : (i : ℕ) (d : Piece) → i < length pieces → (slice_index_or pieces i d).tally ≡ 0
+
+-- the piece has its right answers, and its tally one search for each
+pub record IsSearched (solids : List Solid) (piece : Piece) (searched : Searched) : Type 0 where
+  pub answers : AreAnswers solids piece.tasks.now searched.answers.items
+  pub tally : searched.tally ≡ counted_by (length piece.tasks.now) piece.tally
+
+-- what a piece answers, and how often it searched, where memory sufficed
+abbrev pub answers_in : Result Searched AllocError → List (Option Route)
+answers_in (Ok s) = s.answers.items
+answers_in (Err e) = []
+
+abbrev pub searches_in : Result Searched AllocError → ℕ
+searches_in (Ok s) = s.tally
+searches_in (Err e) = 0

@@ -1,0 +1,114 @@
+//! Pieces of the tasks, each of which is searched in one go.
+ghost use Rattle.std.specs.Prelude.{◌≡◌, ◌<◌, ◌≤◌, All, IfOk, OnOk, IsOk, length, min};
+ghost use Rattle.std.specs.List.{flat_map, sum_by};
+ghost use Rattle.route_search.specs.Finds.{counted_by};
+ghost use Rattle.par_route.specs.Pieces.{AreCut, IsSearched, answers_in, piece_length, searches_in};
+ghost use Rattle.par_route.specs.Routes.{MayBeSearched};
+
+use crate::gate::Gate;
+use line_arena::LineArena;
+use plane_geom::Solid;
+use route_search::{Finder, Tally};
+use std::alloc::{AllocError, Global};
+use walk_model::{Route, Task};
+
+/// Tasks that stand in a row, with the piece's number from 1 and a tally of its own.
+#[derive(Drop)]
+pub(crate) struct Piece<'a> {
+    pub number: u32,
+    pub tasks: &'a [Task],
+    pub tally: Tally,
+}
+
+/// The answers of a piece, and how often it searched.
+#[derive(Drop)]
+pub(crate) struct Searched {
+    pub answers: Vec<Option<Route>>,
+    pub tally: Tally,
+}
+
+/// How many of so many tasks the piece has before which so many of the `count` pieces stand.
+fn piece_len(tasks: usize, count: usize, before: usize) -> usize
+    requires { before < count }
+    ensures { result ≡ piece_length tasks count before }
+{
+    let longer = before < tasks % count;
+    tasks / count + usize::from(longer)
+}
+
+/// The tasks in as many pieces as the lesser of `workers` and their number.
+pub(crate) fn cut<'a>(
+    alloc: Global,
+    tasks: &'a [Task],
+    workers: u32,
+    tally: &mut Tally,
+) -> Result<Vec<Piece<'a>>, AllocError>
+    requires { 1 ≤ workers }
+    ensures cut { IfOk result (λ pieces. AreCut tasks.entry.now (min workers (length tasks.entry.now)) pieces.items) }
+    ensures tally { tally.new ≡ tally.old }
+{
+    let count = tasks.len().min(workers as usize);
+    let mut pieces = Vec::new(alloc);
+    let mut rest = tasks;
+    for before in 0..count {
+        let (mine, others) = rest.split_at(piece_len(tasks.len(), count, before));
+        pieces.push(Piece {
+            number: before as u32 + 1,
+            tasks: mine,
+            tally: tally.split(),
+        })?;
+        rest = others;
+    }
+    Ok(pieces)
+}
+
+impl<'a> Piece<'a> {
+    /// Searches for each task of the piece, once the gate has let it pass.
+    pub(crate) fn search<G: Gate>(
+        self,
+        alloc: Global,
+        arena: &LineArena,
+        solids: &[Solid],
+        gate: &G,
+    ) -> Result<Searched, AllocError>
+        requires { All (MayBeSearched arena.now solids.now) self.tasks.now }
+        ensures { IfOk result (IsSearched solids.now self.entry) }
+    {
+        let Piece {
+            number,
+            tasks,
+            mut tally,
+        } = self;
+        gate.pass(number);
+        let mut finder = Finder::new(alloc, arena, solids);
+        let mut answers = Vec::new(alloc);
+        for task in tasks {
+            answers.push(finder.find(task, &mut tally)?)?;
+        }
+        Ok(Searched { answers, tally })
+    }
+}
+
+/// The answers of all pieces, in order, with all tallies joined to this one.
+pub(crate) fn join(
+    alloc: Global,
+    pieces: Vec<Result<Searched, AllocError>>,
+    tally: &mut Tally,
+) -> Result<Vec<Option<Route>>, AllocError>
+    ensures memory { OnOk result (All (λ p. IsOk p) pieces.items) }
+    ensures answers { IfOk result (λ answers. answers.items ≡ flat_map answers_in pieces.items) }
+    ensures tally { OnOk result (tally.new ≡ counted_by (counted_by (sum_by searches_in pieces.items) 0) tally.old) }
+{
+    let mut all = Vec::new(alloc);
+    let mut searches = tally.split();
+    for piece in pieces {
+        let Searched {
+            mut answers,
+            tally: part,
+        } = piece?;
+        searches.join(part);
+        all.append(&mut answers)?;
+    }
+    tally.join(searches);
+    Ok(all)
+}

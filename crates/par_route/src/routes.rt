@@ -1,0 +1,49 @@
+//! The answers of many tasks, by searches side by side.
+ghost use Rattle.std.specs.Prelude.{◌≡◌, ◌≤◌, All, IfOk, OnOk, length};
+ghost use Rattle.route_search.specs.Finds.{counted_by};
+ghost use Rattle.par_route.specs.Pieces.{IsSearched};
+ghost use Rattle.par_route.specs.Routes.{AreAnswers, HaveOneList, MayBeSearched};
+
+use crate::gate::Gate;
+use crate::pieces::{Piece, Searched, cut, join};
+use line_arena::LineArena;
+use plane_geom::Solid;
+use route_search::Tally;
+use std::alloc::{AllocError, Global};
+use std::thread;
+use std::thread::Threads;
+use walk_model::{Route, Task};
+
+/// The right answers of the tasks, in order, by at most `workers` searches side by side.
+pub fn route_all<R: Threads + Sync, G: Gate>(
+    rt: &R,
+    alloc: Global,
+    arena: &LineArena,
+    solids: &[Solid],
+    tasks: &[Task],
+    workers: u32,
+    gate: &G,
+    tally: &mut Tally,
+) -> Result<Vec<Option<Route>>, AllocError>
+    requires some { 1 ≤ workers }
+    requires few { workers ≤ 4 }
+    requires tasks { All (MayBeSearched arena.now solids.now) tasks.now }
+    ensures answers { IfOk result (λ answers. AreAnswers solids.now tasks.now answers.items) }
+    ensures tally { OnOk result (tally.new ≡ counted_by (length tasks.now) tally.old) }
+{
+    let pieces = cut(alloc, tasks, workers, tally)?;
+    let searched = thread::map_vec(
+        rt,
+        pieces,
+        &|piece: Piece| -> Result<Searched, AllocError>
+            requires { All (MayBeSearched arena.now solids.now) piece.tasks.now }
+            ensures { IfOk result (IsSearched solids.entry.now piece.entry) }
+        { piece.search(alloc, arena, solids, gate) },
+    )?;
+    join(alloc, searched, tally)
+}
+
+/// The law that tasks have one list of right answers: so whatever `workers` is, the answer is that of one worker.
+pub fn one_list()
+    ensures { HaveOneList }
+{}
