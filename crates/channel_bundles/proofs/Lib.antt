@@ -1,0 +1,11 @@
+-- The lemmas on the bundles of a phase, callees first.
+pub mod Ranges
+pub mod Trees
+pub mod Sweeping
+pub mod Neighbours
+pub mod Numbering
+pub mod Listing
+pub mod Clear
+pub mod Linking
+pub mod Placing
+pub mod Bundling

@@ -1,0 +1,148 @@
+-- How the links of one run after another are joined, and listed as rules.
+use Rattle.std.proofs.Common.{◌≡◌, ℕ, suc, ◌+◌, ◌<◌, ◌≤◌, ℤ, None, List, [], ◌∷◌, ◌++◌, length, get_or, drop, inl, inr, refl, sym, ap, subst, ◌∙◌, arith, add-one, append_assoc, true≢false, map, Vec, Global, Result, Ok, Err}
+use Rattle.std.specs.Prelude.{IsSome, All, IfOk}
+use Rattle.std.specs.declared.alloc.AllocError.{AllocError}
+use Rattle.std.proofs.lemmas.List.{drop_more}
+use Rattle.separation_model.specs.declared.bundle.Rule.{Rule}
+use Rattle.channel_bundles.specs.declared.member.Member.{Member}
+use Rattle.channel_bundles.specs.Classes.{AreClasses, Connected, FollowsLinks, IsForest, LeadsUp, LeadsUpOr}
+use Rattle.channel_bundles.specs.Links.{IsLink, link, member_at, no_member, rule_if, rules_after, rules_from}
+use Rattle.channel_bundles.proofs.Trees.{connected_by, connected_link, cases_same, cases_below}
+
+unlinked : (nudge : ℤ) (members : List Member) (i j : ℕ) → link nudge (member_at members i) (member_at members j) ≡ None → IsLink nudge members i j → ⊥
+unlinked nudge members i j none l = true≢false (sym (subst IsSome none l.linked))
+
+-- the run's links to the runs before `later` are joined
+pub record IsLinking (nudge : ℤ) (members : List Member) (old above : List ℕ) (at later : ℕ) : Type 0 where
+  pub forest : IsForest above
+  pub count : length above ≡ length members
+  pub kept : (i j : ℕ) → LeadsUp old i j → Connected (LeadsUp above) i j
+  pub joined : (j : ℕ) → j < later → IsLink nudge members at j → Connected (LeadsUp above) at j
+  pub only : FollowsLinks (IsLink nudge members) old → FollowsLinks (IsLink nudge members) above
+
+pub linking_begins : (nudge : ℤ) (members : List Member) (old : List ℕ) (at : ℕ) → IsForest old → length old ≡ length members → IsLinking nudge members old old at (at + 1)
+linking_begins nudge members old at forest count = record {
+  forest = forest;
+  count = count;
+  kept = λ i j up. connected_link i j up;
+  joined = λ j before l. absurd (omega (arith, l.forward));
+  only = λ follows. follows;
+}
+
+-- the next run is not linked
+pub linking_past : (nudge : ℤ) (members : List Member) (old above : List ℕ) (at later : ℕ) → IsLinking nudge members old above at later →
+    link nudge (member_at members at) (member_at members later) ≡ None → IsLinking nudge members old above at (later + 1)
+linking_past nudge members old above at later is none = record {
+  forest = is.forest;
+  count = is.count;
+  kept = is.kept;
+  joined = λ j before l. cases_same j later
+      (λ e. absurd (unlinked nudge members at later none (subst (λ n. IsLink nudge members at n) e l)))
+      (λ ne. is.joined j (omega arith) l);
+  only = is.only;
+}
+
+-- the next run is linked, and its tree is joined
+pub linking_more : (nudge : ℤ) (members : List Member) (old above made : List ℕ) (at later : ℕ) → IsLinking nudge members old above at later → IsLink nudge members at later →
+    IsForest made → length made ≡ length above → ((i j : ℕ) → LeadsUp above i j → Connected (LeadsUp made) i j) → Connected (LeadsUp made) at later →
+    ((i j : ℕ) → LeadsUp made i j → Connected (LeadsUpOr above at later) i j) → IsLinking nudge members old made at (later + 1)
+linking_more nudge members old above made at later is l forest count kept ends only = record {
+  forest = forest;
+  count = count ∙ is.count;
+  kept = λ i j up. connected_by kept i j (is.kept i j up);
+  joined = λ j before m. cases_same j later
+      (λ e. subst (λ n. Connected (LeadsUp made) at n) (sym e) ends)
+      (λ ne. connected_by kept at j (is.joined j (omega arith) m));
+  only = λ follows i j up. connected_by (λ a b either. elim either as (λ _. Connected (IsLink nudge members) a b) [
+    | inl one ↦ is.only follows a b one
+    | inr pair ↦ subst (λ n. Connected (IsLink nudge members) n b) (sym pair.0) (subst (λ n. Connected (IsLink nudge members) at n) (sym pair.1) (connected_link at later l))
+  ]) i j (only i j up);
+}
+
+-- all links of the run are joined
+pub linking_ends : (nudge : ℤ) (members : List Member) (old above : List ℕ) (at later : ℕ) → IsLinking nudge members old above at later →
+    ((j : ℕ) → later ≤ j → j < length members → link nudge (member_at members at) (member_at members j) ≡ None) → (j : ℕ) → IsLink nudge members at j → Connected (LeadsUp above) at j
+linking_ends nudge members old above at later is none j l = cases_below j later (λ before. is.joined j before l) (λ behind. absurd (unlinked nudge members at j (none j behind l.within) l))
+
+-- the links of the runs before `at` are joined
+pub record AreLinked (nudge : ℤ) (members : List Member) (above : List ℕ) (at : ℕ) : Type 0 where
+  pub forest : IsForest above
+  pub count : length above ≡ length members
+  pub joined : (i j : ℕ) → i < at → IsLink nudge members i j → Connected (LeadsUp above) i j
+  pub only : FollowsLinks (IsLink nudge members) above
+
+pub linked_begins : (nudge : ℤ) (members : List Member) (above : List ℕ) → length above ≡ length members → ((k : ℕ) → k < length above → get_or above k 0 ≡ k) → AreLinked nudge members above 0
+linked_begins nudge members above count own = record {
+  forest = λ k h. omega (arith, own k h);
+  count = count;
+  joined = λ i j before l. absurd (omega arith);
+  only = λ i j up. subst (λ n. Connected (IsLink nudge members) i n) (sym (own i up.0) ∙ up.1) (Connected.same i);
+}
+
+pub linked_more : (nudge : ℤ) (members : List Member) (above made : List ℕ) (at : ℕ) → AreLinked nudge members above at → IsForest made → length made ≡ length members →
+    ((i j : ℕ) → LeadsUp above i j → Connected (LeadsUp made) i j) → ((j : ℕ) → IsLink nudge members at j → Connected (LeadsUp made) at j) →
+    (FollowsLinks (IsLink nudge members) above → FollowsLinks (IsLink nudge members) made) → AreLinked nudge members made (at + 1)
+linked_more nudge members above made at are forest count kept joined only = record {
+  forest = forest;
+  count = count;
+  joined = λ i j before l. cases_same i at
+      (λ e. subst (λ n. Connected (LeadsUp made) n j) (sym e) (joined j (subst (λ n. IsLink nudge members n j) e l)))
+      (λ ne. connected_by kept i j (are.joined i j (omega arith) l));
+  only = only are.only;
+}
+
+-- one rule more of the run's
+pub rule_more : (nudge : ℤ) (at later : ℕ) (m : Member) (members : List Member) (rules made all : List Rule) → later < length members →
+    rules ++ rules_from nudge at m later (drop later members) ≡ all → made ≡ rules ++ rule_if at later (link nudge m (member_at members later)) →
+    made ++ rules_from nudge at m (later + 1) (drop (later + 1) members) ≡ all
+rule_more nudge at later m members rules made all h so is_made =
+    ap (λ xs. xs ++ rules_from nudge at m (later + 1) (drop (later + 1) members)) is_made
+    ∙ append_assoc rules (rule_if at later (link nudge m (member_at members later))) (rules_from nudge at m (later + 1) (drop (later + 1) members))
+    ∙ ap (λ n. rules ++ (rule_if at later (link nudge m (member_at members later)) ++ rules_from nudge at m n (drop (later + 1) members))) (add-one later)
+    ∙ ap (λ ms. rules ++ rules_from nudge at m later ms) (sym (drop_more members later no_member h))
+    ∙ so
+
+-- no rule where no run is linked
+pub no_rules : (nudge : ℤ) (at j : ℕ) (m : Member) (ms : List Member) → ((k : ℕ) → k < length ms → link nudge m (get_or ms k no_member) ≡ None) → rules_from nudge at m j ms ≡ []
+no_rules nudge at j m [] none = refl
+no_rules nudge at j m (s ∷ rest) none =
+    ap (λ o. rule_if at j o ++ rules_from nudge at m (suc j) rest) (none 0 (omega arith)) ∙ no_rules nudge at (suc j) m rest (λ k h. none (suc k) (omega arith))
+
+-- the rules of one run more
+pub rules_more : (nudge : ℤ) (at : ℕ) (members : List Member) (rules made all : List Rule) → at < length members → rules ++ rules_after nudge at (drop at members) ≡ all →
+    made ≡ rules ++ rules_from nudge at (member_at members at) (at + 1) (drop (at + 1) members) → made ++ rules_after nudge (at + 1) (drop (at + 1) members) ≡ all
+rules_more nudge at members rules made all h so is_made =
+    let m = member_at members at in
+    let rest = drop (at + 1) members in
+    ap (λ xs. xs ++ rules_after nudge (at + 1) rest) is_made
+    ∙ append_assoc rules (rules_from nudge at m (at + 1) rest) (rules_after nudge (at + 1) rest)
+    ∙ ap (λ n. rules ++ (rules_from nudge at m n rest ++ rules_after nudge n rest)) (add-one at)
+    ∙ ap (λ ms. rules ++ rules_after nudge at ms) (sym (drop_more members at no_member h))
+    ∙ so
+
+-- the trees are the classes
+linked_classes : (nudge : ℤ) (members : List Member) (above : List ℕ) (at : ℕ) (lists : List (List ℕ)) → AreLinked nudge members above at → length members ≤ at →
+    AreClasses (Connected (LeadsUp above)) (length above) lists → AreClasses (Connected (IsLink nudge members)) (length members) lists
+linked_classes nudge members above at lists are whole is =
+    let count = are.count in
+    record {
+      within = subst (λ n. All (All (λ i. i < n)) lists) count is.within;
+      some = is.some;
+      rising = is.rising;
+      firsts = is.firsts;
+      whole = λ i h. is.whole i (omega (arith, h, count));
+      linked = λ places i j has_places has_i h.
+          let was = is.linked places i j has_places has_i (omega (arith, h, count)) in (
+            λ c. connected_by are.only i j (was.0 c),
+            λ way. was.1 (connected_by (λ a b l. are.joined a b (omega (arith, l.forward, l.within)) l) i j way),
+          );
+    }
+
+abbrev Lists : Type 0
+Lists = Vec (Vec ℕ Global) Global
+
+pub linked_all : (nudge : ℤ) (members : List Member) (above : List ℕ) (at : ℕ) → AreLinked nudge members above at → length members ≤ at →
+    (r : Result Lists AllocError) → IfOk r (λ lists. AreClasses (Connected (LeadsUp above)) (length above) (map (λ list. list.items) lists.items)) →
+    IfOk r (λ lists. AreClasses (Connected (IsLink nudge members)) (length members) (map (λ list. list.items) lists.items))
+linked_all nudge members above at are whole (Ok lists) is = linked_classes nudge members above at (map (λ list. list.items) lists.items) are whole is
+linked_all nudge members above at are whole (Err e) is = tt

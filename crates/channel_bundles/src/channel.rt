@@ -1,0 +1,234 @@
+//! The bundles of a phase.
+ghost use Rattle.std.specs.Prelude.{◌≡◌, ◌≢◌, ◌<◌, ◌≤◌, ◌++◌, All, AllPairs, IfOk, length, map};
+ghost use Rattle.plane_geom.specs.Floor.{IsSolid};
+ghost use Rattle.segment_order.specs.declared.run.Run.{Run};
+ghost use Rattle.separation_model.specs.Bundle.{IsBundle, most_items};
+ghost use Rattle.channel_bundles.specs.declared.route.PhaseRoute.{PhaseRoute};
+ghost use Rattle.channel_bundles.specs.Route.{IsPhaseRoute, of_way, runs_of_way};
+ghost use Rattle.channel_bundles.specs.Limits.{MayMove};
+ghost use Rattle.channel_bundles.specs.Classes.{Rise};
+ghost use Rattle.channel_bundles.specs.Links.{IsMember, IsNudge, item_of};
+ghost use Rattle.channel_bundles.specs.Bundles.{AreBundles, AreBundlesOf, AreInOrder, IsBundleOf, members_at};
+ghost use Rattle.channel_bundles.specs.Placed.{AreRising, IsPlaced, pairs_of, standings_of};
+
+use crate::links::{linked_classes, rules_of};
+use crate::member::Member;
+use crate::route::PhaseRoute;
+use plane_geom::{Solid, Way};
+use segment_order::{Run, line_order};
+use separation_model::{Bundle, Item};
+use std::alloc::{AllocError, Global};
+use std::cmp::Ordering;
+
+/// Runs that links join, in their order on the line, with the separation constraints on them.
+///
+/// The bundle's items are the runs, in this order.
+#[derive(Debug, Drop)]
+pub struct RunBundle {
+    pub bundle: Bundle,
+    pub runs: Vec<Run>,
+}
+
+/// A run with its limits, and its route.
+#[derive(Clone, Copy)]
+struct Placed<'a> {
+    route: &'a PhaseRoute,
+    member: Member,
+}
+
+impl Placed<'_> {
+    ghost use Rattle.segment_order.specs.Order.{compare_keys};
+    ghost use Rattle.channel_bundles.specs.Placed.{key_of_placed};
+
+    /// The order on the line.
+    fn compare(&self, other: &Placed<'_>) -> Ordering
+        ensures { result ≡ compare_keys (key_of_placed self.now) (key_of_placed other.now) }
+    {
+        line_order(
+            &self.member.run,
+            &self.route.runs,
+            &other.member.run,
+            &other.route.runs,
+        )
+    }
+}
+
+/// Adds the route's runs of the way.
+fn add_runs<'a>(
+    placed: &mut Vec<Placed<'a>>,
+    solids: &[Solid],
+    route: &'a PhaseRoute,
+    way: Way,
+) -> Result<(), AllocError>
+    requires solids { All IsSolid solids.now }
+    requires route { IsPhaseRoute route.now }
+    requires movable { MayMove solids.now way route.now }
+    requires so_far { All (IsPlaced solids.now) placed.old.items }
+    ensures each { IfOk result (λ _. All (IsPlaced solids.now) placed.new.items) }
+    ensures runs { IfOk result (λ _. pairs_of placed.new.items ≡
+        pairs_of placed.old.items ++ map (λ r. (route.now, r)) (of_way way route.now.runs.items)) }
+{
+    for k in 0..route.runs.len() {
+        if route.is_of_way(k, way) {
+            placed.push(Placed {
+                route,
+                member: route.member(solids, k),
+            })?;
+        }
+    }
+    Ok(())
+}
+
+/// The runs of the way of all routes.
+fn runs_of<'a>(
+    alloc: Global,
+    solids: &[Solid],
+    routes: &'a [PhaseRoute],
+    way: Way,
+) -> Result<Vec<Placed<'a>>, AllocError>
+    requires solids { All IsSolid solids.now }
+    requires routes { All IsPhaseRoute routes.now }
+    requires movable { All (MayMove solids.now way) routes.now }
+    ensures each { IfOk result (λ placed. All (IsPlaced solids.now) placed.items) }
+    ensures runs { IfOk result (λ placed. pairs_of placed.items ≡ runs_of_way way routes.now) }
+{
+    let mut placed = Vec::new(alloc);
+    for route in routes {
+        add_runs(&mut placed, solids, route, way)?;
+    }
+    Ok(placed)
+}
+
+/// The runs of the way of all routes, in their order on the line.
+fn runs_in_order<'a>(
+    alloc: Global,
+    solids: &[Solid],
+    routes: &'a [PhaseRoute],
+    way: Way,
+) -> Result<Vec<Placed<'a>>, AllocError>
+    requires solids { All IsSolid solids.now }
+    requires routes { All IsPhaseRoute routes.now }
+    requires movable { All (MayMove solids.now way) routes.now }
+    ensures order { IfOk result (λ placed. AreInOrder solids.now routes.now way (standings_of placed.items)) }
+    ensures each { IfOk result (λ placed. All (IsPlaced solids.now) placed.items) }
+{
+    let mut placed = runs_of(alloc, solids, routes, way)?;
+    placed.sort_unstable_by(|a, b| a.compare(b));
+    Ok(placed)
+}
+
+/// The runs without their routes.
+fn own_members(alloc: Global, placed: &[Placed<'_>]) -> Result<Vec<Member>, AllocError>
+    ensures { IfOk result (λ members. members.items ≡ map (λ p. p.member) placed.now) }
+{
+    placed.iter().map(|p| p.member).collect(alloc)
+}
+
+/// The runs as items.
+fn items_of(alloc: Global, members: &[Member]) -> Result<Vec<Item>, AllocError>
+    ensures { IfOk result (λ items. items.items ≡ map item_of members.now) }
+{
+    members.iter().map(|m| m.item()).collect(alloc)
+}
+
+/// The runs without their limits.
+fn own_runs(alloc: Global, members: &[Member]) -> Result<Vec<Run>, AllocError>
+    ensures { IfOk result (λ runs. runs.items ≡ map (λ m. m.run) members.now) }
+{
+    members.iter().map(|m| m.run).collect(alloc)
+}
+
+/// The bundle of the runs.
+fn bundle_of(alloc: Global, members: &[Member], nudge: i64) -> Result<RunBundle, AllocError>
+    requires members { All IsMember members.now }
+    requires few { length members.now ≤ most_items }
+    requires rising { AreRising members.now }
+    requires nudge { IsNudge nudge }
+    ensures bundle { IfOk result (λ b. IsBundleOf nudge members.now b) }
+    ensures good { IfOk result (λ b. IsBundle b.bundle) }
+{
+    let bundle = Bundle {
+        items: items_of(alloc, members)?,
+        rules: rules_of(alloc, members, nudge)?,
+        wanted: nudge,
+    };
+    Ok(RunBundle {
+        bundle,
+        runs: own_runs(alloc, members)?,
+    })
+}
+
+/// The runs at the places.
+fn chosen(alloc: Global, members: &[Member], places: &[usize]) -> Result<Vec<Member>, AllocError>
+    requires { All (λ i. i < length members.now) places.now }
+    ensures { IfOk result (λ found. found.items ≡ members_at members.now places.now) }
+{
+    let mut found = Vec::new(alloc);
+    for place in places {
+        found.push(members[*place])?;
+    }
+    Ok(found)
+}
+
+/// The bundle of the runs at the places, which rise.
+fn class_bundle(
+    alloc: Global,
+    members: &[Member],
+    places: &[usize],
+    nudge: i64,
+) -> Result<RunBundle, AllocError>
+    requires members { All IsMember members.now }
+    requires few { length members.now ≤ most_items }
+    requires rising { AreRising members.now }
+    requires nudge { IsNudge nudge }
+    requires within { All (λ i. i < length members.now) places.now }
+    requires places { Rise places.now }
+    ensures bundle { IfOk result (λ b. IsBundleOf nudge (members_at members.now places.now) b) }
+    ensures good { IfOk result (λ b. IsBundle b.bundle) }
+{
+    let runs = chosen(alloc, members, places)?;
+    bundle_of(alloc, &runs, nudge)
+}
+
+/// The bundles of the runs, which stand in their order on the line.
+fn bundles_of(alloc: Global, members: &[Member], nudge: i64) -> Result<Vec<RunBundle>, AllocError>
+    requires members { All IsMember members.now }
+    requires few { length members.now ≤ most_items }
+    requires rising { AreRising members.now }
+    requires nudge { IsNudge nudge }
+    ensures bundles { IfOk result (λ found. AreBundlesOf nudge members.now found.items) }
+    ensures each { IfOk result (λ found. All (λ b. IsBundle b.bundle) found.items) }
+{
+    let classes = linked_classes(alloc, members, nudge)?;
+    let mut found = Vec::new(alloc);
+    for class in &classes {
+        found.push(class_bundle(alloc, members, class, nudge)?)?;
+    }
+    Ok(found)
+}
+
+/// The bundles of a phase, in the order of their first runs. Its only error is want of memory.
+///
+/// A phase moves the runs of one way. The routes are of different edges, all on the sheet, and have weights from 1 to 4;
+/// there are at most 850,000,000 runs of the way, and the wanted nudge is from 0 to 1,000,000 thousandths. Each movable
+/// run may stand where it stands: no part of it lies in a solid, and both its neighbours keep what they have to keep.
+pub fn bundles(
+    alloc: Global,
+    solids: &[Solid],
+    routes: &[PhaseRoute],
+    way: Way,
+    nudge: i64,
+) -> Result<Vec<RunBundle>, AllocError>
+    requires solids { All IsSolid solids.now }
+    requires routes { All IsPhaseRoute routes.now }
+    requires edges { AllPairs (λ r s. r.edge ≢ s.edge) routes.now }
+    requires movable { All (MayMove solids.now way) routes.now }
+    requires few { length (runs_of_way way routes.now) ≤ most_items }
+    requires nudge { IsNudge nudge }
+    ensures bundles { IfOk result (λ found. AreBundles solids.now routes.now way nudge found.items) }
+    ensures each { IfOk result (λ found. All (λ b. IsBundle b.bundle) found.items) }
+{
+    let placed = runs_in_order(alloc, solids, routes, way)?;
+    let members = own_members(alloc, &placed)?;
+    bundles_of(alloc, &members, nudge)
+}

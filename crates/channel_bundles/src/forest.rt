@@ -1,0 +1,127 @@
+//! Numbers in classes, as trees that are joined two at a time.
+ghost use Rattle.std.specs.Prelude.{◌≡◌, ℕ, ◌<◌, ◌≤◌, [], All, IfOk, EachIndex, length, map, slice_set, slice_index};
+ghost use Rattle.channel_bundles.specs.Classes.{AreClasses, AreTreeNumbers, Connected, IsForest, LeadsUp, LeadsUpOr};
+
+use std::alloc::{AllocError, Global};
+
+/// Numbers from 0 on in trees. Above each number stands a smaller one of its tree; the root stands above itself.
+#[derive(Drop)]
+pub(crate) struct Forest {
+    above: Vec<usize>,
+}
+
+/// The trees' roots, and of each number which root it has.
+#[derive(Drop)]
+struct TreeNumbers {
+    roots: Vec<usize>,
+    numbers: Vec<usize>,
+}
+
+impl Forest {
+    /// So many numbers, each a tree by itself.
+    pub(crate) fn new(alloc: Global, count: usize) -> Result<Forest, AllocError>
+        ensures count { IfOk result (λ f. length f.above.items ≡ count) }
+        ensures apart { IfOk result (λ f. EachIndex f.above.items (λ k. slice_index f.above.items k ≡ k)) }
+    {
+        let mut above = Vec::new(alloc);
+        for number in 0..count {
+            above.push(number)?;
+        }
+        Ok(Forest { above })
+    }
+
+    /// Puts the number below what stands above the other, and returns what stood above it.
+    fn lift(&mut self, number: usize, other: usize) -> usize
+        requires number { number < length self.old.above.items }
+        requires other { other < length self.old.above.items }
+        ensures above { self.new.above.items ≡
+            slice_set self.old.above.items number (slice_index self.old.above.items other) }
+        ensures was { result ≡ slice_index self.old.above.items number }
+    {
+        let was = self.above[number];
+        self.above[number] = self.above[other];
+        was
+    }
+
+    /// Makes one tree of the two numbers' trees.
+    ///
+    /// On the way up each number that is passed is put below a smaller one, so that later ways are short.
+    pub(crate) fn join(&mut self, a: usize, b: usize)
+        requires forest { IsForest self.old.above.items }
+        requires a { a < length self.old.above.items }
+        requires b { b < length self.old.above.items }
+        ensures forest { IsForest self.new.above.items }
+        ensures count { length self.new.above.items ≡ length self.old.above.items }
+        ensures kept { (i j : ℕ) → LeadsUp self.old.above.items i j → Connected (LeadsUp self.new.above.items) i j }
+        ensures joined { Connected (LeadsUp self.new.above.items) a b }
+        ensures only { (i j : ℕ) → LeadsUp self.new.above.items i j → Connected (LeadsUpOr self.old.above.items a b) i j }
+    {
+        let (mut low, mut high) = (a, b);
+        loop {
+            let (p, q) = (self.above[low], self.above[high]);
+            if p == q {
+                return;
+            }
+            if p < q {
+                let next = self.lift(high, low);
+                if next == high {
+                    return;
+                }
+                high = next;
+            } else {
+                let next = self.lift(low, high);
+                if next == low {
+                    return;
+                }
+                low = next;
+            }
+        }
+    }
+
+    /// Numbers the trees by their roots.
+    fn tree_numbers(&self, alloc: Global) -> Result<TreeNumbers, AllocError>
+        requires { IsForest self.now.above.items }
+        ensures { IfOk result (λ t. AreTreeNumbers self.now.above.items (length self.now.above.items)
+            t.roots.items t.numbers.items) }
+    {
+        let mut roots = Vec::new(alloc);
+        let mut numbers = Vec::new(alloc);
+        for number in 0..self.above.len() {
+            let above = self.above[number];
+            if above == number {
+                numbers.push(roots.len())?;
+                roots.push(number)?;
+            } else {
+                let tree = numbers[above];
+                numbers.push(tree)?;
+            }
+        }
+        Ok(TreeNumbers { roots, numbers })
+    }
+
+    /// The numbers of each tree, in order, and the trees by their first numbers. Its only error is want of memory.
+    pub(crate) fn classes(&self, alloc: Global) -> Result<Vec<Vec<usize>>, AllocError>
+        requires { IsForest self.now.above.items }
+        ensures { IfOk result (λ lists. AreClasses (Connected (LeadsUp self.now.above.items)) (length self.now.above.items)
+            (map (λ list. list.items) lists.items)) }
+    {
+        let trees = self.tree_numbers(alloc)?;
+        let mut lists = empty_lists(alloc, trees.roots.len())?;
+        for (number, tree) in trees.numbers.iter().enumerate() {
+            lists[*tree].push(number)?;
+        }
+        Ok(lists)
+    }
+}
+
+/// So many empty lists.
+fn empty_lists(alloc: Global, count: usize) -> Result<Vec<Vec<usize>>, AllocError>
+    ensures count { IfOk result (λ lists. length lists.items ≡ count) }
+    ensures empty { IfOk result (λ lists. All (λ list. list.items ≡ []) lists.items) }
+{
+    let mut lists = Vec::new(alloc);
+    while lists.len() < count {
+        lists.push(Vec::new(alloc))?;
+    }
+    Ok(lists)
+}

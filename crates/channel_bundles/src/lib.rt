@@ -1,0 +1,18 @@
+//! The runs of a phase, how far each may move, and which keep their distance together.
+//!
+//! Coordinates are whole thousandths of a GML unit.
+#![tactic(auto)]
+
+mod channel;
+mod forest;
+mod limits;
+mod links;
+mod member;
+mod route;
+
+pub use channel::{RunBundle, bundles};
+pub use member::Member;
+pub use route::{PhaseRoute, RouteAnchors};
+
+#[cfg(test)]
+mod tests;

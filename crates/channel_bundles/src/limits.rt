@@ -1,0 +1,219 @@
+//! How far a run may move.
+ghost use Rattle.std.specs.Prelude.{◌≡◌, ◌↔◌, ℕ, ◌+◌, ◌-◌, ◌<◌, ℤ, ◌<ℤ◌, ◌≤ℤ◌, All, Contains, IsTrue, length};
+ghost use Rattle.plane_geom.specs.declared.point.Point.{Point};
+ghost use Rattle.plane_geom.specs.Along.{across};
+ghost use Rattle.plane_geom.specs.Floor.{Holds, IsSolid};
+ghost use Rattle.plane_geom.specs.Point.{IsCoordinate, opposite};
+ghost use Rattle.plane_geom.specs.Rect.{Overlaps};
+ghost use Rattle.segment_order.specs.Run.{IsRun, line_of, run_at};
+ghost use Rattle.channel_bundles.specs.Route.{HasToLeave, HasToReach, IsFixed, IsPhaseRoute};
+ghost use Rattle.channel_bundles.specs.Limits.{HasLimits, IsFromTo, IsReached, MayStandAt, Sweeps};
+ghost use Rattle.channel_bundles.specs.Links.{IsMember};
+
+use crate::member::Member;
+use crate::route::PhaseRoute;
+use plane_geom::{Dir, Point, SHEET_END, SHEET_START, Solid, Way};
+use segment_order::Run;
+
+/// The coordinates at which a run may stand, from `low` to `high`.
+#[derive(Clone, Copy, Debug)]
+pub(crate) struct Limits {
+    low: i64,
+    high: i64,
+}
+
+/// Whether the range has more than a point in common with the run's range; of a run without length, its one point within.
+fn is_along(start: i64, end: i64, run: &Run) -> bool
+    requires wide { start <ℤ end }
+    requires run { IsRun run.now }
+    ensures { IsTrue result ↔ Overlaps start end run.now.lo run.now.hi }
+{
+    run.lo < end && start < run.hi
+}
+
+impl Limits {
+    /// Those that are not below the coordinate.
+    fn from(self, at: i64) -> Limits
+        ensures { (z : ℤ) → IsFromTo result.low result.high z ↔ (IsFromTo self.low self.high z × (at ≤ℤ z)) }
+    {
+        Limits {
+            low: self.low.max(at),
+            high: self.high,
+        }
+    }
+
+    /// Those that are not above the coordinate.
+    fn up_to(self, at: i64) -> Limits
+        ensures { (z : ℤ) → IsFromTo result.low result.high z ↔ (IsFromTo self.low self.high z × (z ≤ℤ at)) }
+    {
+        Limits {
+            low: self.low,
+            high: self.high.min(at),
+        }
+    }
+
+    /// Those at which one who travels in the direction has come to the coordinate.
+    fn reached(self, dir: Dir, at: i64) -> Limits
+        ensures { (z : ℤ) → IsFromTo result.low result.high z ↔ (IsFromTo self.low self.high z × IsReached dir at z) }
+    {
+        match dir {
+            Dir::East | Dir::South => self.from(at),
+            Dir::West | Dir::North => self.up_to(at),
+        }
+    }
+
+    /// The same, where it is needed.
+    fn reached_if(self, needed: bool, dir: Dir, at: i64) -> Limits
+        ensures { (z : ℤ) → IsFromTo result.low result.high z ↔ (IsFromTo self.low self.high z × (IsTrue needed → IsReached dir at z)) }
+    {
+        if needed { self.reached(dir, at) } else { self }
+    }
+
+    /// Those that are reached from the coordinate without a step into the open interval, in which it does not lie.
+    fn kept_beside(self, low: i64, high: i64, at: i64) -> Limits
+        requires wide { low <ℤ high }
+        requires clear { Overlaps low high at at → ⊥ }
+        ensures { (z : ℤ) → IsFromTo result.low result.high z ↔ (IsFromTo self.low self.high z × (Overlaps low high at z → ⊥)) }
+    {
+        if high <= at {
+            self.from(high)
+        } else {
+            self.up_to(low)
+        }
+    }
+
+    /// Those at which the run has swept no part of the solid.
+    fn kept_out(self, solid: &Solid, run: &Run) -> Limits
+        requires solid { IsSolid solid.now }
+        requires run { IsRun run.now }
+        requires clear { Sweeps run.now.way solid.now.rect run.now.at run.now.at run.now.lo run.now.hi → ⊥ }
+        ensures { (z : ℤ) → IsFromTo result.low result.high z ↔ (IsFromTo self.low self.high z
+            × (Sweeps run.now.way solid.now.rect run.now.at z run.now.lo run.now.hi → ⊥)) }
+    {
+        let rect = solid.rect;
+        match run.way {
+            Way::Vertical => {
+                if is_along(rect.top, rect.bottom, run) {
+                    self.kept_beside(rect.left, rect.right, run.at)
+                } else {
+                    self
+                }
+            }
+            Way::Horizontal => {
+                if is_along(rect.left, rect.right, run) {
+                    self.kept_beside(rect.top, rect.bottom, run.at)
+                } else {
+                    self
+                }
+            }
+        }
+    }
+
+    /// Those at which one who travels in the direction has come to each checkpoint on the run.
+    fn reached_checkpoints(self, via: &[Point], run: &Run, dir: Dir, way: Way) -> Limits
+        ensures { (z : ℤ) → IsFromTo result.low result.high z ↔ (IsFromTo self.low self.high z
+            × ((p : Point) → Contains via.now p → Holds (line_of run.now) p → IsReached dir (across way p) z)) }
+    {
+        let mut limits = self;
+        for p in via {
+            limits = limits.reached_if(run.holds(*p), dir, p.across(way));
+        }
+        limits
+    }
+}
+
+/// The coordinates of the sheet at which the run has swept no part of a solid.
+fn clear_of(solids: &[Solid], run: &Run) -> Limits
+    requires solids { All IsSolid solids.now }
+    requires run { IsRun run.now }
+    requires clear { All (λ s. Sweeps run.now.way s.rect run.now.at run.now.at run.now.lo run.now.hi → ⊥) solids.now }
+    ensures { (z : ℤ) → IsFromTo result.low result.high z ↔ (IsCoordinate z
+        × All (λ s. Sweeps run.now.way s.rect run.now.at z run.now.lo run.now.hi → ⊥) solids.now) }
+{
+    let mut limits = Limits {
+        low: SHEET_START,
+        high: SHEET_END,
+    };
+    for solid in solids {
+        limits = limits.kept_out(solid, run);
+    }
+    limits
+}
+
+impl PhaseRoute {
+    /// Those at which the run before still goes as far as it has to.
+    fn reached_before(&self, limits: Limits, k: usize) -> Limits
+        requires first { 0 < k }
+        requires within { k < length self.now.runs.items }
+        ensures { (z : ℤ) → IsFromTo result.low result.high z ↔ (IsFromTo limits.low limits.high z
+            × ((p : Point) → HasToReach self.now (k - 1) p →
+            IsReached (run_at self.now.runs.items (k - 1)).heading (across (run_at self.now.runs.items k).way p) z)) }
+    {
+        let way = self.run(k).way;
+        let before = self.run(k - 1);
+        let dir = before.heading;
+        let port = limits.reached_if(k == 1, dir, self.anchors.source_port.across(way));
+        let tip = port.reached_if(self.begins_at_tip(k - 1), dir, before.start().across(way));
+        tip.reached_checkpoints(&self.anchors.via, &before, dir, way)
+    }
+
+    /// Those at which the run after still begins where it has to.
+    fn reached_after(&self, limits: Limits, k: usize) -> Limits
+        requires { k + 1 < length self.now.runs.items }
+        ensures { (z : ℤ) → IsFromTo result.low result.high z ↔ (IsFromTo limits.low limits.high z
+            × ((p : Point) → HasToLeave self.now (k + 1) p →
+            IsReached (opposite (run_at self.now.runs.items (k + 1)).heading) (across (run_at self.now.runs.items k).way p) z)) }
+    {
+        let way = self.run(k).way;
+        let after = self.run(k + 1);
+        let dir = after.heading.opposite();
+        let is_last = k + 2 == self.runs.len();
+        let port = limits.reached_if(is_last, dir, self.anchors.target_port.across(way));
+        let tip = port.reached_if(self.ends_at_tip(k + 1), dir, after.end().across(way));
+        tip.reached_checkpoints(&self.anchors.via, &after, dir, way)
+    }
+
+    /// The coordinates at which the run, which is not fixed, may stand.
+    fn movable_limits(&self, solids: &[Solid], k: usize) -> Limits
+        requires route { IsPhaseRoute self.now }
+        requires solids { All IsSolid solids.now }
+        requires first { 0 < k }
+        requires last { k + 1 < length self.now.runs.items }
+        requires stands { MayStandAt solids.now self.now k (run_at self.now.runs.items k).at }
+        ensures { (z : ℤ) → MayStandAt solids.now self.now k z ↔ IsFromTo result.low result.high z }
+    {
+        let clear = clear_of(solids, &self.run(k));
+        self.reached_after(self.reached_before(clear, k), k)
+    }
+
+    /// The run with its limits.
+    pub(crate) fn member(&self, solids: &[Solid], k: usize) -> Member
+        requires route { IsPhaseRoute self.now }
+        requires solids { All IsSolid solids.now }
+        requires within { k < length self.now.runs.items }
+        requires stands { (IsFixed self.now k → ⊥) → MayStandAt solids.now self.now k (run_at self.now.runs.items k).at }
+        ensures run { result.run ≡ run_at self.now.runs.items k }
+        ensures fixed { IsTrue result.fixed ↔ IsFixed self.now k }
+        ensures limits { HasLimits solids.now self.now k result.low result.high }
+        ensures weight { result.weight ≡ self.now.weight }
+        ensures member { IsMember result }
+    {
+        let run = self.run(k);
+        let fixed = self.is_fixed(k);
+        let limits = if fixed {
+            Limits {
+                low: run.at,
+                high: run.at,
+            }
+        } else {
+            self.movable_limits(solids, k)
+        };
+        Member {
+            run,
+            fixed,
+            low: limits.low,
+            high: limits.high,
+            weight: self.weight,
+        }
+    }
+}

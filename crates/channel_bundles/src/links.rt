@@ -1,0 +1,124 @@
+//! The links between runs: the classes that they make, and the rules that they are.
+ghost use Rattle.std.specs.Prelude.{◌≡◌, ℕ, ◌+◌, ◌<◌, ◌≤◌, ◌++◌, All, IfOk, drop, length, map};
+ghost use Rattle.separation_model.specs.Bundle.{most_items};
+ghost use Rattle.channel_bundles.specs.Classes.{AreClasses, Connected, FollowsLinks, IsForest, LeadsUp};
+ghost use Rattle.channel_bundles.specs.Links.{AreClear, IsLink, IsMember, IsNudge, member_at, rules_after, rules_from};
+
+use crate::forest::Forest;
+use crate::member::Member;
+use separation_model::Rule;
+use std::alloc::{AllocError, Global};
+
+/// The lower limits of the runs.
+fn lower_limits(alloc: Global, members: &[Member]) -> Result<Vec<i64>, AllocError>
+    ensures { IfOk result (λ lows. lows.items ≡ map (λ m. m.low) members.now) }
+{
+    members.iter().map(|m| m.low).collect(alloc)
+}
+
+/// The least lower limit from each run on, in their order.
+fn first_clear(alloc: Global, members: &[Member]) -> Result<Vec<i64>, AllocError>
+    ensures { IfOk result (λ clear. AreClear members.now clear.items) }
+{
+    let mut clear = lower_limits(alloc, members)?;
+    let mut next = clear.len();
+    while next > 1 {
+        next -= 1;
+        clear[next - 1] = clear[next - 1].min(clear[next]);
+    }
+    Ok(clear)
+}
+
+/// Joins the run's tree with those of all later runs to which it is linked.
+fn join_links_of(forest: &mut Forest, members: &[Member], clear: &[i64], nudge: i64, at: usize)
+    requires forest { IsForest forest.old.above.items }
+    requires count { length forest.old.above.items ≡ length members.now }
+    requires members { All IsMember members.now }
+    requires clear { AreClear members.now clear.now }
+    requires nudge { IsNudge nudge }
+    requires at { at < length members.now }
+    ensures forest { IsForest forest.new.above.items }
+    ensures count { length forest.new.above.items ≡ length members.now }
+    ensures kept { (i j : ℕ) → LeadsUp forest.old.above.items i j → Connected (LeadsUp forest.new.above.items) i j }
+    ensures joined { (j : ℕ) → IsLink nudge members.now at j → Connected (LeadsUp forest.new.above.items) at j }
+    ensures only { FollowsLinks (IsLink nudge members.now) forest.old.above.items →
+        FollowsLinks (IsLink nudge members.now) forest.new.above.items }
+{
+    for later in at + 1..members.len() {
+        if members[at].is_clear_of(clear[later], nudge) {
+            return;
+        }
+        if members[at].link(&members[later], nudge).is_some() {
+            forest.join(at, later);
+        }
+    }
+}
+
+/// The classes of the runs, by their places, that links join, in the order of their first runs.
+pub(crate) fn linked_classes(
+    alloc: Global,
+    members: &[Member],
+    nudge: i64,
+) -> Result<Vec<Vec<usize>>, AllocError>
+    requires members { All IsMember members.now }
+    requires nudge { IsNudge nudge }
+    ensures { IfOk result (λ lists. AreClasses (Connected (IsLink nudge members.now)) (length members.now)
+        (map (λ list. list.items) lists.items)) }
+{
+    let clear = first_clear(alloc, members)?;
+    let mut forest = Forest::new(alloc, members.len())?;
+    for at in 0..members.len() {
+        join_links_of(&mut forest, members, &clear, nudge, at);
+    }
+    forest.classes(alloc)
+}
+
+/// Adds the rules from the run to all later ones to which it is linked, in their order.
+fn push_rules_of(
+    rules: &mut Vec<Rule>,
+    members: &[Member],
+    clear: &[i64],
+    nudge: i64,
+    at: usize,
+) -> Result<(), AllocError>
+    requires members { All IsMember members.now }
+    requires few { length members.now ≤ most_items }
+    requires clear { AreClear members.now clear.now }
+    requires nudge { IsNudge nudge }
+    requires at { at < length members.now }
+    ensures { IfOk result (λ _. rules.new.items ≡
+        rules.old.items ++ rules_from nudge at (member_at members.now at) (at + 1) (drop (at + 1) members.now)) }
+{
+    for later in at + 1..members.len() {
+        if members[at].is_clear_of(clear[later], nudge) {
+            return Ok(());
+        }
+        if let Some(spaced) = members[at].link(&members[later], nudge) {
+            rules.push(Rule {
+                left: at as u32,
+                right: later as u32,
+                spaced,
+            })?;
+        }
+    }
+    Ok(())
+}
+
+/// All links between the runs as rules, by their earlier runs and then by their later ones.
+pub(crate) fn rules_of(
+    alloc: Global,
+    members: &[Member],
+    nudge: i64,
+) -> Result<Vec<Rule>, AllocError>
+    requires members { All IsMember members.now }
+    requires few { length members.now ≤ most_items }
+    requires nudge { IsNudge nudge }
+    ensures { IfOk result (λ rules. rules.items ≡ rules_after nudge 0 members.now) }
+{
+    let clear = first_clear(alloc, members)?;
+    let mut rules = Vec::new(alloc);
+    for at in 0..members.len() {
+        push_rules_of(&mut rules, members, &clear, nudge, at)?;
+    }
+    Ok(rules)
+}
