@@ -1,0 +1,14 @@
+-- The lemmas on both phases, callees first.
+pub mod Ends
+pub mod Cleared
+pub mod Corners
+pub mod Bundled
+pub mod OneList
+pub mod OnePlace
+pub mod OneOrder
+pub mod OneBundles
+pub mod FromPhase
+pub mod PhaseKept
+pub mod AfterX
+pub mod NudgedLegal
+pub mod RawRuns

@@ -1,0 +1,28 @@
+-- Routes that nudging begins with.
+use Rattle.std.specs.Prelude.{◌≡◌, ◌≢◌, ◌-◌, ◌<ℤ◌, List, length, All, AllPairs}
+use Rattle.plane_geom.specs.declared.point.Way.{Way}
+use Rattle.plane_geom.specs.Floor.{Holds}
+use Rattle.segment_order.specs.declared.run.Run.{Run}
+use Rattle.segment_order.specs.Run.{run_at, line_of}
+use Rattle.channel_bundles.specs.declared.route.PhaseRoute.{PhaseRoute}
+use Rattle.channel_bundles.specs.Route.{IsPhaseRoute}
+
+-- the runs of the way have some length, so that the runs beside them stand in the order of its heading
+abbrev pub HaveLength : Way → List Run → Type 0
+HaveLength way runs = All (λ r. r.way ≡ way → r.lo <ℤ r.hi) runs
+
+-- the ports of the route lie on its first and on its last run
+pub record HoldsPorts (route : PhaseRoute) : Type 0 where
+  pub source : Holds (line_of (run_at route.runs.items 0)) route.anchors.source_port
+  pub target : Holds (line_of (run_at route.runs.items (length route.runs.items - 1))) route.anchors.target_port
+
+-- a route of a phase, with its ports on its end runs
+pub record IsReady (route : PhaseRoute) : Type 0 where
+  pub phase : IsPhaseRoute route
+  pub ports : HoldsPorts route
+
+-- routes of different edges, each of whose runs has some length
+pub record AreRaw (raw : List PhaseRoute) : Type 0 where
+  pub ready : All IsReady raw
+  pub edges : AllPairs (λ r s. r.edge ≢ s.edge) raw
+  pub long : All (λ (route : PhaseRoute). All (λ (r : Run). r.lo <ℤ r.hi) route.runs.items) raw
