@@ -1,0 +1,12 @@
+-- The edges so far, and the pairs that are left, give what the whole graph does.
+use Rattle.std.proofs.Common.{◌≡◌, drop}
+use Rattle.std.specs.Prelude.{codes}
+use Rattle.gml_text.specs.View.{pairs}
+use Rattle.diagram_read.specs.Edges.{with_edges_in}
+use Rattle.diagram_read.specs.Values.{entries_from}
+use Rattle.diagram_read.proofs.scene.Reader.load_edges.Given as goal
+
+abbrev pub invariant-loop-index : goal.invariant-loop-index
+invariant-loop-index l =
+    with_edges_in l.initial.self.scene (entries_from 0 (codes "edge") (pairs l.graph))
+    ≡ with_edges_in l.self.scene (entries_from l.index (codes "edge") (pairs (drop l.index l.graph)))
