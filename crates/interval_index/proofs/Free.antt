@@ -1,4 +1,4 @@
--- The widest free interval round a place, and the spans that touch an interval.
+-- The widest free interval round a coordinate, and the spans that touch an interval.
 use Rattle.std.proofs.Common.{◌≡◌, ◌⊎◌, inl, inr, ℤ, ◌≤ℤ◌, ◌<ℤ◌, Bool, true, false, cond, ◌||◌, ◌&&◌, List, [], ◌∷◌, refl, arith}
 use Rattle.std.specs.Prelude.{int_lt, filter}
 use Rattle.std.specs.Int.{int_max}
@@ -12,7 +12,7 @@ use Rattle.interval_index.specs.Index.{IsListed, IsSpan, IsWidestFree, inside_an
 use Rattle.interval_index.proofs.Everywhere.{all_map, filter_none}
 use Rattle.interval_index.proofs.GreatestEnds.{lo_of_before, end_before_on_sheet}
 
--- a place is inside a span exactly where the spans that begin before it end past it
+-- a coordinate is inside a span exactly where the spans that begin before it end past it
 inside_step : (at lo hi r : ℤ) (b : Bool) → int_lt at r ≡ b → int_lt at (cond (int_lt lo at) (int_max hi r) r) ≡ ((int_lt lo at && int_lt at hi) || b)
 inside_step at lo hi r b e = grind (arith, ints)
 

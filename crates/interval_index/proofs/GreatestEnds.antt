@@ -53,7 +53,7 @@ end_none : (at : ℤ) (l : List Span) → AllByRecursion (λ t. int_lt t.lo at �
 end_none at [] a = refl
 end_none at (s ∷ l) a = rw a.0 (end_none at l a.1)
 
--- the greatest end of the spans on the left of n and on its right that begin before the place, where n does
+-- the greatest end of the spans on the left of n and on its right that begin before the coordinate, where n does
 pub end_past : (at : ℤ) (l : List Span) (n : Span) (r : List Span) → int_lt n.lo at ≡ true → IsSorted (l ++ n ∷ r) → greatest_end_before at (l ++ n ∷ r) ≡ int_max (int_max (greatest_end l) n.hi) (greatest_end_before at r)
 end_past at l n r h s =
     let k = sorted_round l n r s in

@@ -163,7 +163,7 @@ pub found_rest : (k q : ℕ) (l : List Span) → find (λ t. t.key == q) (withou
 found_rest k q [] = none_either (k == q) None refl
 found_rest k q (t ∷ l) = found_rest_by k q t l (without_key k l) (found_rest k q l)
 
--- the key and the place are those of one span
+-- the key and the coordinate are those of one span
 other_than : (k : ℕ) (t u : Span) → (t.key == k) ≡ true → (u.key == t.key) ≡ false → not (u.key == k) ≡ true
 other_than k t u h d = grind (arith, nat_tests)
 

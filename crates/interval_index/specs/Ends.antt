@@ -9,12 +9,12 @@ abbrev pub greatest_end : List Span → ℤ
 greatest_end [] = sheet_start
 greatest_end (s ∷ ss) = int_max s.hi (greatest_end ss)
 
--- the greatest end of the spans that begin before the place, or the start of the sheet
+-- the greatest end of the spans that begin before the coordinate, or the start of the sheet
 abbrev pub greatest_end_before : ℤ → List Span → ℤ
 greatest_end_before at [] = sheet_start
 greatest_end_before at (s ∷ ss) = cond (int_lt s.lo at) (int_max s.hi (greatest_end_before at ss)) (greatest_end_before at ss)
 
--- where the first span begins that does not begin before the place
+-- where the first span begins that does not begin before the coordinate
 abbrev pub start_from : ℤ → ℤ → List Span → ℤ
 start_from at otherwise [] = otherwise
 start_from at otherwise (s ∷ ss) = cond (int_lt s.lo at) (start_from at otherwise ss) s.lo

@@ -40,11 +40,11 @@ has_key k = list_any (λ s. s.key == k)
 abbrev pub without_key : ℕ → List Span → List Span
 without_key k = filter (λ s. not (s.key == k))
 
--- whether the place is strictly between the ends of one of the spans
+-- whether the coordinate is strictly between the ends of one of the spans
 abbrev pub inside_any : ℤ → List Span → Bool
 inside_any at = list_any (λ s. int_lt s.lo at && int_lt at s.hi)
 
--- a closed interval round the place, on the sheet, that has no point inside a span
+-- a closed interval round the coordinate, on the sheet, that has no point inside a span
 pub record IsFree (ss : List Span) (at from to : ℤ) : Type 0 where
   pub from_within : IsCoordinate from
   pub to_within : IsCoordinate to

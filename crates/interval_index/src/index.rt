@@ -83,8 +83,8 @@ impl IntervalIndex {
         true
     }
 
-    /// The ends of the widest closed interval round the place, on the sheet, that has no point inside a span.
-    /// `None` where the place, which lies on the sheet, is inside one. In thousandths. Takes logarithmic time, and no memory.
+    /// The ends of the widest closed interval round the coordinate, on the sheet, that has no point inside a span.
+    /// `None` where the coordinate, which lies on the sheet, is inside one. In thousandths. Takes logarithmic time, and no memory.
     pub fn free_around(&self, at: i64) -> Option<(i64, i64)>
         requires within { IsCoordinate at }
         ensures inside { is_none result ≡ inside_any at self.now }

@@ -28,7 +28,7 @@ fn free_around(index: &IntervalIndex, at: i16) -> Option<(i64, i64)> {
 
 #[test]
 fn finds_free_intervals(rt: HostRuntime) -> Result<(), Fail> {
-    // The last span holds the places between the others' ends.
+    // The last span holds the coordinates between the others' ends.
     let mut index = filled(rt.alloc(), &[(2, 40, 60), (1, 0, 40), (3, -90, 80)])?;
     assert_eq!(rt; free_around(&index, 40), None);
     assert!(rt; index.remove(3) && !index.remove(3));

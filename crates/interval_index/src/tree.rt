@@ -122,7 +122,7 @@ impl Tree {
         }
     }
 
-    /// Takes out the span at the place of this one.
+    /// Takes out the span that neither stands before this one nor after it.
     pub fn remove(self, span: &Span) -> Tree
         requires sorted { IsSorted self.0 }
         requires fits { length self.0 < 2 ^ 62 }
@@ -158,7 +158,7 @@ impl Tree {
         }
     }
 
-    /// The greatest end of the spans that begin before the place, or the start of the sheet.
+    /// The greatest end of the spans that begin before the coordinate, or the start of the sheet.
     pub fn greatest_end_before(&self, at: i64) -> i64
         requires sorted { IsSorted self.now.0 }
         ensures { result ≡ greatest_end_before at self.now.0 }
@@ -176,7 +176,7 @@ impl Tree {
         }
     }
 
-    /// Where the first span begins that begins at the place or after it; `otherwise` if none does.
+    /// Where the first span begins that begins at the coordinate or after it; `otherwise` if none does.
     pub fn start_from(&self, at: i64, otherwise: i64) -> i64
         requires sorted { IsSorted self.now.0 }
         ensures { result ≡ start_from at otherwise self.now.0 }

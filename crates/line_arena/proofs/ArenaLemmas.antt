@@ -162,7 +162,7 @@ module _ (a : Lists) (w : ℕ) (v : Arena) (view : arena_of a w ≡ v) (lists : 
       let line_s = sym (along-pair_at d s) ∙ ap (λ x. seen.line_along d (pair_at x)) (same_spot s pair_s.0 (spot_at a from) es pair_s.1) ∙ ap (seen.line_along d) pair_s.2 in
       let line_t = sym (along-pair_at d t) ∙ ap (λ x. seen.line_along d (pair_at x)) (same_spot t pair_t.0 (spot_at a to) there.1 pair_t.1) ∙ ap (seen.line_along d) pair_t.2 in (
         reach d t.point,
-        record { spot = t; is = there.1; line = line_t ∙ h.line ∙ sym line_s; place = refl },
+        record { spot = t; is = there.1; line = line_t ∙ h.line ∙ sym line_s; along = refl },
         subst (λ p. reach d p <ℤ reach d t.point) (sym here.2 ∙ ap (λ x. x.point) s_is) (subst (λ p. reach d h.start <ℤ reach d p) (sym there.2) h.further),
       )
 
@@ -173,7 +173,7 @@ module _ (a : Lists) (w : ℕ) (v : Arena) (view : arena_of a w ≡ v) (lists : 
         let t = h.1.spot in
         let past : reach d s.point <ℤ h.0 = h.2 in
         record {
-          lies = lies d from n s t es h.1.is h.1.line (subst (λ z. reach d s.point <ℤ z) (sym h.1.place) past);
+          lies = lies d from n s t es h.1.is h.1.line (subst (λ z. reach d s.point <ℤ z) (sym h.1.along) past);
           others = λ c other.
               let u = stands_further d from c s es other in
               elim (cases_eq c n) [
@@ -181,7 +181,7 @@ module _ (a : Lists) (w : ℕ) (v : Arena) (view : arena_of a w ≡ v) (lists : 
                 | inr ne ↦ inr (lies d n c t u.1.spot h.1.is u.1.is (u.1.line ∙ sym h.1.line)
                     (let apart : h.0 ≡ u.0 → ⊥ = λ e. ne (apart_of_sound (line_at a) (spot_at a) lists.sound d _ c n u.0 u.1 (subst (Stands (spot_at a) (line_along d s) d n) e h.1)) in
                     let less = int_apart h.0 u.0 (h.3 c u.0 u.1 u.2) apart in
-                    subst (λ z. z <ℤ reach d u.1.spot.point) (sym h.1.place) (subst (λ z. h.0 <ℤ z) (sym u.1.place) less)))
+                    subst (λ z. z <ℤ reach d u.1.spot.point) (sym h.1.along) (subst (λ z. h.0 <ℤ z) (sym u.1.along) less)))
               ];
         }
 
@@ -206,11 +206,11 @@ module _ (a : Lists) (w : ℕ) (v : Arena) (view : arena_of a w ≡ v) (lists : 
           | inl e ↦
               let down = same_line on.vertical line (line_at a l) (ap (line_at a) (sym e) ∙ on.is_vertical) is in
               let way = sym (ap (λ m. m.way) down) ∙ on.vertical_runs in
-              (reach (rising line.way) s.point, record { spot = s; is = spot.1; line = ap (λ u. line_along (rising u) s) way ∙ e; place = refl })
+              (reach (rising line.way) s.point, record { spot = s; is = spot.1; line = ap (λ u. line_along (rising u) s) way ∙ e; along = refl })
           | inr e ↦
               let across = same_line on.horizontal line (line_at a l) (ap (line_at a) (sym e) ∙ on.is_horizontal) is in
               let way = sym (ap (λ m. m.way) across) ∙ on.horizontal_runs in
-              (reach (rising line.way) s.point, record { spot = s; is = spot.1; line = ap (λ u. line_along (rising u) s) way ∙ e; place = refl })
+              (reach (rising line.way) s.point, record { spot = s; is = spot.1; line = ap (λ u. line_along (rising u) s) way ∙ e; along = refl })
         ]
 
     stands_on : (d : Dir) (c : ℕ) (z : ℤ) → Stands (spot_at a) l d c z → IsOn v l c
@@ -235,7 +235,7 @@ module _ (a : Lists) (w : ℕ) (v : Arena) (view : arena_of a w ≡ v) (lists : 
             | inr ne ↦ inr (lies (rising line.way) n c h.1.spot u.1.spot h.1.is u.1.is (u.1.line ∙ sym h.1.line)
                 (let apart : h.0 ≡ u.0 → ⊥ = λ e. ne (apart_of_sound (line_at a) (spot_at a) lists.sound (rising line.way) l c n u.0 u.1 (subst (Stands (spot_at a) l (rising line.way) n) e h.1)) in
                 let less = int_apart h.0 u.0 (h.3 c u.0 u.1 tt) apart in
-                subst (λ z. z <ℤ reach (rising line.way) u.1.spot.point) (sym h.1.place) (subst (λ z. h.0 <ℤ z) (sym u.1.place) less)))
+                subst (λ z. z <ℤ reach (rising line.way) u.1.spot.point) (sym h.1.along) (subst (λ z. h.0 <ℤ z) (sym u.1.along) less)))
           ];
     }
 

@@ -16,7 +16,7 @@ use Rattle.line_arena.specs.Node.{line_of, next_of}
 use Rattle.plane_geom.specs.Along.{reach, way_of}
 use Rattle.line_arena.specs.Lists.{AreApart, AreLinked, IsNext, IsPast, KnowsNeighbours, Relinks, RunsAlong, Spot, Stands, line_along, line_at, link, spot_at, spot_of, without}
 use Rattle.line_arena.proofs.Nearest.{IsPrevious, int_apart, next_after_removal, next_is, next_is_put, next_kept_at_put, next_kept_at_removal, next_same}
-use Rattle.line_arena.proofs.Linked.{alone, grows, is_other, kept_in, kept_out, line_along-opposite, none_there, on_other, own, own_place, previous_of_next, same_spot, without_other, without_some}
+use Rattle.line_arena.proofs.Linked.{alone, grows, is_other, kept_in, kept_out, line_along-opposite, none_there, on_other, own, own_reach, previous_of_next, same_spot, without_other, without_some}
 
 some_is : (q c : ℕ) → Some q ≡ Some c → q ≡ c
 some_is q c e = cc
@@ -63,7 +63,7 @@ module _ (S : ℕ → Option Spot) (k : ℕ) (d : Dir) (spot : Spot) (is : S k �
   not_itself None before e = none_some k e
   not_itself (Some q) before e = is_other S k d _ q _ before.1 (some_is q k e)
 
-  -- a place before the crossing's lies before its neighbour's, but for that neighbour itself
+  -- a coordinate before the crossing's lies before its neighbour's, but for that neighbour itself
   nearer : (prev : Option ℕ) → IsPrevious Others (reach d spot.point) prev → (c : ℕ) (b : ℤ) → Others c b → prev ≢ Some c
       → b <ℤ reach d spot.point → (q : ℕ) × (y : ℤ) × Others q y × (b <ℤ y) × (y <ℤ reach d spot.point)
   nearer None before c b here ne less = absurd (before c b here less)
@@ -91,7 +91,7 @@ module _ (S : ℕ → Option Spot) (k : ℕ) (d : Dir) (spot : Spot) (is : S k �
   remove_other = next_kept_at_removal All Others k (reach d spot.point) (kept_in S k d _) (kept_out S k d _)
 
   remove_here : (from : Option ℤ) → IsNext All from (Some k) → (answer : Option ℕ) → IsNext Others (Some (reach d spot.point)) answer → IsNext Others from answer
-  remove_here = next_after_removal All Others k (reach d spot.point) (kept_in S k d _) (none_there S k d spot is apart) (own_place S k d spot is _)
+  remove_here = next_after_removal All Others k (reach d spot.point) (kept_in S k d _) (none_there S k d spot is apart) (own_reach S k d spot is _)
 
   -- what is nearest where nothing stands nearer
   is_here : (from : Option ℤ) → IsPast from (reach d spot.point) → ((c : ℕ) (z : ℤ) → Others c z → IsPast from z → z <ℤ reach d spot.point → ⊥)
@@ -102,7 +102,7 @@ module _ (S : ℕ → Option Spot) (k : ℕ) (d : Dir) (spot : Spot) (is : S k �
     where
       ends : (c : ℕ) (z : ℤ) → All c z → z <ℤ reach d spot.point → c ≢ k
       ends c z here less e =
-          let same = own_place S k d spot is _ z (subst (λ i. All i z) e here) in
+          let same = own_reach S k d spot is _ z (subst (λ i. All i z) e here) in
           omega (arith, ints)
 
   -- where another one stands nearer, the crossing is not the nearest
@@ -110,7 +110,7 @@ module _ (S : ℕ → Option Spot) (k : ℕ) (d : Dir) (spot : Spot) (is : S k �
       → (answer : Option ℕ) → IsNext All from answer → answer ≢ Some k
   is_not_here from q y here past less answer h e =
       let n = subst (IsNext All from) e h in
-      let same = own_place S k d spot is _ n.0 n.1 in
+      let same = own_reach S k d spot is _ n.0 n.1 in
       let le = n.3 q y (kept_in S k d _ q y here) past in
       omega (arith, ints)
 
@@ -121,15 +121,15 @@ module _ (S : ℕ → Option Spot) (k : ℕ) (d : Dir) (spot : Spot) (is : S k �
   none_between : (q : ℕ) → (before : IsPrevious Others (reach d spot.point) (Some q)) → (b : ℤ) → Others q b
       → (c : ℕ) (z : ℤ) → Others c z → IsPast (Some b) z → z <ℤ reach d spot.point → ⊥
   none_between q before b there c z here p less =
-      let first = there.place in
+      let first = there.along in
       let le = before.3 c z here less in
-      let same : b ≡ before.0 = sym there.place ∙ ap (λ s. reach d s.point) (same_spot _ _ (without k S q) there.is before.1.is) ∙ before.1.place in
+      let same : b ≡ before.0 = sym there.along ∙ ap (λ s. reach d s.point) (same_spot _ _ (without k S q) there.is before.1.is) ∙ before.1.along in
       let past : b <ℤ z = p in
       omega (arith, ints)
 
   place_before : (q : ℕ) → (before : IsPrevious Others (reach d spot.point) (Some q)) → (b : ℤ) → Others q b → b <ℤ reach d spot.point
   place_before q before b there =
-      let same : b ≡ before.0 = sym there.place ∙ ap (λ s. reach d s.point) (same_spot _ _ (without k S q) there.is before.1.is) ∙ before.1.place in
+      let same : b ≡ before.0 = sym there.along ∙ ap (λ s. reach d s.point) (same_spot _ _ (without k S q) there.is before.1.is) ∙ before.1.along in
       subst (λ w. w <ℤ reach d spot.point) (sym same) before.2
 
 module _ (a b : Lists) (k : ℕ) (d : Dir) (knows : KnowsNeighbours a k) where
@@ -187,12 +187,12 @@ module _ (a b : Lists) (k : ℕ) (d : Dir) (knows : KnowsNeighbours a k) where
     put_next_on : (p : Option ℕ) → prev ≡ p → IsPrevious (Stands T l d) (reach d knows.spot.point) p
         → (c : ℕ) (s : Spot) → T c ≡ Some s → line_along d s ≡ l → IsNext (Stands S l d) (Some (reach d s.point)) (link b l (Some c) d)
     put_next_on None e before c s is on =
-        let here : Stands T l d c (reach d s.point) = record { spot = s; is = is; line = on; place = refl } in
+        let here : Stands T l d c (reach d s.point) = record { spot = s; is = is; line = on; along = refl } in
         let old = subst (λ m. IsNext (Stands T m d) (Some (reach d s.point)) (link a m (Some c) d)) on (others.nexts c s is) in
         subst (IsNext (Stands S l d) (Some (reach d s.point))) (sym (next_same_as (Some k) relinks l c (λ n. none_some c (sym e ∙ n))))
         (put_other S k d knows.spot knows.is (knows.apart d) (Some (reach d s.point)) (λ p. absurd (before c (reach d s.point) here p)) (link a l (Some c) d) old)
     put_next_on (Some q) e before c s is on =
-        let here : Stands T l d c (reach d s.point) = record { spot = s; is = is; line = on; place = refl } in
+        let here : Stands T l d c (reach d s.point) = record { spot = s; is = is; line = on; along = refl } in
         let old = subst (λ m. IsNext (Stands T m d) (Some (reach d s.point)) (link a m (Some c) d)) on (others.nexts c s is) in
         elim (cases_eq q c) [
           | inl same ↦
@@ -257,7 +257,7 @@ module _ (a b : Lists) (k : ℕ) (d : Dir) (knows : KnowsNeighbours a k) where
     remove_next_on p e before c s ne is on = by p e before
       where
         here : Stands T l d c (reach d s.point)
-        here = record { spot = s; is = without_other k S c ne ∙ is; line = on; place = refl }
+        here = record { spot = s; is = without_other k S c ne ∙ is; line = on; along = refl }
 
         old : IsNext (Stands S l d) (Some (reach d s.point)) (link a l (Some c) d)
         old = subst (λ m. IsNext (Stands S m d) (Some (reach d s.point)) (link a m (Some c) d)) on (linked.nexts c s is)
@@ -266,7 +266,7 @@ module _ (a b : Lists) (k : ℕ) (d : Dir) (knows : KnowsNeighbours a k) where
         apart : (p : Option ℕ) → IsPrevious (Stands T l d) (reach d knows.spot.point) p → p ≢ Some c → link a l (Some c) d ≢ Some k
         apart p before other f =
             let n = subst (IsNext (Stands S l d) (Some (reach d s.point))) f old in
-            let less : reach d s.point <ℤ reach d knows.spot.point = subst (λ w. reach d s.point <ℤ w) (own_place S k d knows.spot knows.is l n.0 n.1) n.2 in
+            let less : reach d s.point <ℤ reach d knows.spot.point = subst (λ w. reach d s.point <ℤ w) (own_reach S k d knows.spot knows.is l n.0 n.1) n.2 in
             let near = nearer S k d knows.spot knows.is (knows.apart d) p before c (reach d s.point) here other less in
             is_not_here S k d knows.spot knows.is (knows.apart d) (Some (reach d s.point)) near.0 near.1 near.2 near.3 near.4 (link a l (Some c) d) old f
 

@@ -25,13 +25,13 @@ line_along-opposite North s = refl
 turn_twice : (z : ℤ) → (pos 0 -ℤ (pos 0 -ℤ z)) ≡ z
 turn_twice z = omega (arith, ints)
 
--- against the direction, a crossing stands at the negative of its place
+-- against the direction, a crossing stands at the negative of its coordinate
 pub turned : (S : ℕ → Option Spot) (l : ℕ) (d : Dir) (c : ℕ) (z : ℤ) → Stands S l d c z → Stands S l (opposite d) c (pos 0 -ℤ z)
 turned S l d c z h = record {
   spot = h.spot;
   is = h.is;
   line = line_along-opposite d h.spot ∙ h.line;
-  place = reach-opposite d h.spot.point ∙ ap (λ w. pos 0 -ℤ w) h.place;
+  along = reach-opposite d h.spot.point ∙ ap (λ w. pos 0 -ℤ w) h.along;
 }
 
 pub turned_back : (S : ℕ → Option Spot) (l : ℕ) (d : Dir) (c : ℕ) (z : ℤ) → Stands S l (opposite d) c z → Stands S l d c (pos 0 -ℤ z)
@@ -39,7 +39,7 @@ turned_back S l d c z h = record {
   spot = h.spot;
   is = h.is;
   line = sym (line_along-opposite d h.spot) ∙ h.line;
-  place = sym (turn_twice (reach d h.spot.point)) ∙ ap (λ w. pos 0 -ℤ w) (sym (reach-opposite d h.spot.point) ∙ h.place);
+  along = sym (turn_twice (reach d h.spot.point)) ∙ ap (λ w. pos 0 -ℤ w) (sym (reach-opposite d h.spot.point) ∙ h.along);
 }
 
 -- what is nearest against the direction is nearest before
@@ -78,20 +78,20 @@ without_some k S c s h =
 
 module _ (S : ℕ → Option Spot) (k : ℕ) (d : Dir) where
   pub kept_in : (l c : ℕ) (z : ℤ) → Stands (without k S) l d c z → Stands S l d c z
-  kept_in l c z h = record { spot = h.spot; is = (without_some k S c h.spot h.is).1; line = h.line; place = h.place }
+  kept_in l c z h = record { spot = h.spot; is = (without_some k S c h.spot h.is).1; line = h.line; along = h.along }
 
   pub is_other : (l c : ℕ) (z : ℤ) → Stands (without k S) l d c z → c ≢ k
   is_other l c z h = (without_some k S c h.spot h.is).0
 
   pub kept_out : (l c : ℕ) (z : ℤ) → Stands S l d c z → c ≢ k → Stands (without k S) l d c z
-  kept_out l c z h ne = record { spot = h.spot; is = without_other k S c ne ∙ h.is; line = h.line; place = h.place }
+  kept_out l c z h ne = record { spot = h.spot; is = without_other k S c ne ∙ h.is; line = h.line; along = h.along }
 
   module _ (spot : Spot) (is : S k ≡ Some spot) where
     pub own : Stands S (line_along d spot) d k (reach d spot.point)
-    own = record { spot = spot; is = is; line = refl; place = refl }
+    own = record { spot = spot; is = is; line = refl; along = refl }
 
-    pub own_place : (l : ℕ) (z : ℤ) → Stands S l d k z → z ≡ reach d spot.point
-    own_place l z h = sym h.place ∙ ap (λ s. reach d s.point) (same_spot h.spot spot (S k) h.is is)
+    pub own_reach : (l : ℕ) (z : ℤ) → Stands S l d k z → z ≡ reach d spot.point
+    own_reach l z h = sym h.along ∙ ap (λ s. reach d s.point) (same_spot h.spot spot (S k) h.is is)
 
     pub own_line : (l : ℕ) (z : ℤ) → Stands S l d k z → l ≡ line_along d spot
     own_line l z h = sym h.line ∙ ap (line_along d) (same_spot h.spot spot (S k) h.is is)
@@ -99,7 +99,7 @@ module _ (S : ℕ → Option Spot) (k : ℕ) (d : Dir) where
     pub grows : (l c : ℕ) (z : ℤ) → Stands S l d c z → Stands (without k S) l d c z ⊎ (z ≡ reach d spot.point)
     grows l c z h =
         elim (cases_eq c k) [
-          | inl e ↦ inr (own_place l z (subst (λ i. Stands S l d i z) e h))
+          | inl e ↦ inr (own_reach l z (subst (λ i. Stands S l d i z) e h))
           | inr ne ↦ inl (kept_out l c z h ne)
         ]
 

@@ -1,9 +1,9 @@
--- The nearest past a place, where one comes in or goes out.
+-- The nearest past a coordinate, where one comes in or goes out.
 use Rattle.std.proofs.Common.{◌≡◌, ◌≢◌, ◌⊎◌, ℕ, ℤ, ◌<ℤ◌, ◌≤ℤ◌, Option, Some, None, inl, inr, sym, ap, subst, arith}
 use Rattle.std.proofs.lemmas.Int.{ints, by_lt_z}
 use Rattle.line_arena.specs.Lists.{IsNext, IsPast}
 
--- of what stands at places, this is the nearest before the place
+-- of what stands at coordinates, this is the nearest before the given one
 abbrev pub IsPrevious : (ℕ → ℤ → Type 0) → ℤ → Option ℕ → Type 0
 IsPrevious At at None = (c : ℕ) (z : ℤ) → At c z → z <ℤ at → ⊥
 IsPrevious At at (Some q) = (y : ℤ) × At q y × (y <ℤ at) × ((c : ℕ) (z : ℤ) → At c z → z <ℤ at → z ≤ℤ y)
@@ -18,14 +18,14 @@ pub past_further : (from : Option ℤ) (y z : ℤ) → IsPast from y → y ≤�
 past_further None y z p le = tt
 past_further (Some b) y z p le = omega (arith, ints)
 
--- what stands at the same places has the same nearest
+-- what stands at the same coordinates has the same nearest
 pub next_same : (At To : ℕ → ℤ → Type 0) → ((c : ℕ) (z : ℤ) → At c z → To c z) → ((c : ℕ) (z : ℤ) → To c z → At c z)
     → (from : Option ℤ) (answer : Option ℕ) → IsNext At from answer → IsNext To from answer
 next_same At To there back from None h = λ c z here past. h c z (back c z here) past
 next_same At To there back from (Some n) h = (h.0, there n h.0 h.1, h.2, λ c z here past. h.3 c z (back c z here) past)
 
 module _ (At To : ℕ → ℤ → Type 0) (k : ℕ) (at : ℤ) where
-  -- where one comes in at a place that lies past a nearer one, the nearest stays
+  -- where one comes in at a coordinate that lies past a nearer one, the nearest stays
   pub next_kept_at_put : ((c : ℕ) (z : ℤ) → At c z → To c z) → ((c : ℕ) (z : ℤ) → To c z → At c z ⊎ (z ≡ at))
       → (from : Option ℤ) → (IsPast from at → (q : ℕ) × (y : ℤ) × At q y × IsPast from y × (y <ℤ at))
       → (answer : Option ℕ) → IsNext At from answer → IsNext To from answer
@@ -105,7 +105,7 @@ next_is At k at there alone from past between (Some n) h =
     let same : h.0 ≡ at = omega (arith, ints) in
     ap Some (alone n (subst (At n) same h.1))
 
--- what is nearest past a place that stands before the point, and nothing at the point, is the nearest past the point
+-- what is nearest past a coordinate that stands before the point, and nothing at the point, is the nearest past the point
 pub next_from_previous : (At : ℕ → ℤ → Type 0) (at : ℤ) → ((c : ℕ) → At c at → ⊥)
     → (from : Option ℤ) → IsPast from at → ((c : ℕ) (z : ℤ) → At c z → IsPast from z → z <ℤ at → ⊥)
     → (answer : Option ℕ) → IsNext At from answer → IsNext At (Some at) answer

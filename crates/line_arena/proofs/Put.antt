@@ -19,7 +19,7 @@ use Rattle.line_arena.specs.Node.{next_of, start_of}
 use Rattle.plane_geom.specs.Along.{reach, way_of}
 use Rattle.line_arena.specs.Lists.{AreApart, AreLinked, AreLists, AreMet, IsApart, IsNext, IsSound, IsSpot, KnowsNeighbours, SamePlaces, Spot, Stands, UpdatesAt, line_along, line_at, link, spot_at, spot_of, without}
 use Rattle.line_arena.proofs.Nearest.{next_kept_at_removal}
-use Rattle.line_arena.proofs.Linked.{kept_in, kept_out, own_place, same_spot, without_itself, without_other, without_some}
+use Rattle.line_arena.proofs.Linked.{kept_in, kept_out, own_reach, same_spot, without_itself, without_other, without_some}
 use Rattle.line_arena.proofs.Joined.{spots_are}
 
 -- a point that a line holds is its point there
@@ -76,7 +76,7 @@ one_place lines d s t hs ht on e =
 pub apart_of_sound : (lines : ℕ → Option Line) (S : ℕ → Option Spot) → IsSound lines S → (d : Dir) → AreApart S d
 apart_of_sound lines S sound d l c e z h k =
     sound.single c e h.spot k.spot h.is k.is
-    (one_place lines d h.spot k.spot (sound.on_lines c h.spot h.is) (sound.on_lines e k.spot k.is) (h.line ∙ sym k.line) (h.place ∙ sym k.place))
+    (one_place lines d h.spot k.spot (sound.on_lines c h.spot h.is) (sound.on_lines e k.spot k.is) (h.line ∙ sym k.line) (h.along ∙ sym k.along))
 
 -- two spots at one point are of the same lines
 pub same_pair : (lines : ℕ → Option Line) (S : ℕ → Option Spot) → IsSound lines S → (s t : Spot) → IsSpot lines s → IsSpot lines t → s.point ≡ t.point
@@ -159,7 +159,7 @@ knows_linked a k s lists is = record {
     not_itself d h e =
         let n = subst (IsNext (Stands (spot_at a) (line_along d s) d) (Some (reach d s.point))) e h in
         let past : reach d s.point <ℤ n.0 = n.2 in
-        let place = own_place (spot_at a) k d s is (line_along d s) n.0 n.1 in
+        let along = own_reach (spot_at a) k d s is (line_along d s) n.0 n.1 in
         omega (arith, ints)
 
 -- a crossing that is in no list is taken out
@@ -218,7 +218,7 @@ module _ (lines : ℕ → Option Line) (S : ℕ → Option Spot) (sound : IsSoun
       new c s is pair.0 pair.1
 
   pub free_at : (d : Dir) (c : ℕ) → Stands S (line_along d spot) d c (reach d spot.point) → ⊥
-  free_at d c h = new_point c h.spot h.is (one_place lines d h.spot spot (sound.on_lines c h.spot h.is) at h.line h.place)
+  free_at d c h = new_point c h.spot h.is (one_place lines d h.spot spot (sound.on_lines c h.spot h.is) at h.line h.along)
 
 module _ (a b : Lists) (k : ℕ) (e : Point × Node) (lists : AreLists a) (at : IsSpot (line_at a) (spot_of e)) (gone : spot_at a k ≡ None)
     (new : (c : ℕ) (s : Spot) → spot_at a c ≡ Some s → s.point ≢ e.0) (lines : b.lines ≡ a.lines) (updates : Updates a.crossings.slab b.crossings.slab k (Some e)) where

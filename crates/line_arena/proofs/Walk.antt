@@ -27,10 +27,10 @@ stands_live a l d c z h none = none_some_spot h.spot (sym (ap (option_map spot_o
 pub read_next : (a : Lists) (l c : ℕ) (d : Dir) (e : Point × Node) → entry_at a.crossings c ≡ Some e → (p : Option ℕ) → p ≡ next_of d e.1 → p ≡ link a l (Some c) d
 read_next a l c d e is p read = read ∙ sym (ap (option_and_then (λ x. next_of d x.1)) is)
 
-pub stands_place : (a : Lists) (l : ℕ) (d : Dir) (c : ℕ) (z : ℤ) (e : Point × Node) → entry_at a.crossings c ≡ Some e → Stands (spot_at a) l d c z → reach d e.0 ≡ z
-stands_place a l d c z e is h = ap (λ s. reach d s.point) (same_spot (spot_of e) h.spot (spot_at a c) (ap (option_map spot_of) is) h.is) ∙ h.place
+pub stands_reach : (a : Lists) (l : ℕ) (d : Dir) (c : ℕ) (z : ℤ) (e : Point × Node) → entry_at a.crossings c ≡ Some e → Stands (spot_at a) l d c z → reach d e.0 ≡ z
+stands_reach a l d c z e is h = ap (λ s. reach d s.point) (same_spot (spot_of e) h.spot (spot_at a c) (ap (option_map spot_of) is) h.is) ∙ h.along
 
--- the list's crossing is the nearest past some place that lies before the point
+-- the list's crossing is the nearest past some coordinate that lies before the point
 pub record IsComing (a : Lists) (l : ℕ) (d : Dir) (p : Point) (next : Option ℕ) : Type 0 where
   pub from : Option ℤ
   pub past : IsPast from (reach d p)
@@ -53,14 +53,14 @@ module _ (a : Lists) (l : ℕ) (d : Dir) (p : Point) (lists : AreLists a) (runs 
     pub before_point : (IsFurther d p e.0 → ⊥) → reach d e.0 <ℤ reach d p
     before_point not =
         int_apart (reach d e.0) (reach d p) (not_below (reach d p) (reach d e.0) not)
-        (λ same. free c (subst (Stands (spot_at a) l d c) (sym (stands_place a l d c _ e is here) ∙ same) here))
+        (λ same. free c (subst (Stands (spot_at a) l d c) (sym (stands_reach a l d c _ e is here) ∙ same) here))
 
     pub coming_next : (next : Option ℕ) → next ≡ link a l (Some c) d → IsNext (Stands (spot_at a) l d) (Some (reach d e.0)) next
     coming_next next read =
         let spot = here.spot in
         let on = subst (λ m. IsNext (Stands (spot_at a) m d) (Some (reach d spot.point)) (link a m (Some c) d)) here.line ((lists.linked d).nexts c spot here.is) in
         subst (IsNext (Stands (spot_at a) l d) (Some (reach d e.0))) (sym read)
-        (subst (λ z. IsNext (Stands (spot_at a) l d) (Some z) (link a l (Some c) d)) (here.place ∙ sym (stands_place a l d c _ e is here)) on)
+        (subst (λ z. IsNext (Stands (spot_at a) l d) (Some z) (link a l (Some c) d)) (here.along ∙ sym (stands_reach a l d c _ e is here)) on)
 
     pub coming_more : (IsFurther d p e.0 → ⊥) → (next : Option ℕ) → next ≡ link a l (Some c) d → IsComing a l d p next
     coming_more not next read = record { from = Some (reach d e.0); past = before_point not; is_next = coming_next next read }
@@ -70,7 +70,7 @@ module _ (a : Lists) (l : ℕ) (d : Dir) (p : Point) (lists : AreLists a) (runs 
         let h = coming.is_next in (
           h.0,
           h.1,
-          subst (λ z. reach d p <ℤ z) (stands_place a l d c _ e is here) further,
+          subst (λ z. reach d p <ℤ z) (stands_reach a l d c _ e is here) further,
           λ k z at q. h.3 k z at (past_further coming.from (reach d p) z coming.past (let less : reach d p <ℤ z = q in omega (arith, ints))),
         )
 
@@ -104,7 +104,7 @@ left_falls a l d p c e is before None h = subst (λ o. 0 < walk_left d p o) (sym
 left_falls a l d p c e is before (Some n) h =
     let spot = h.1.spot in
     let past : reach d e.0 <ℤ h.0 = h.2 in
-    let place = h.1.place in
+    let along = h.1.along in
     let falls = above_zero-lt (reach d p -ℤ reach d spot.point) (reach d p -ℤ reach d e.0) (omega (arith, ints)) (omega (arith, ints)) in
     subst (λ o. walk_left d p o < left_at a d p (Some c)) (sym h.1.is)
     (subst (λ o. walk_left d p (Some spot) < walk_left d p o) (sym (ap (option_map spot_of) is)) (omega (arith, falls)))
@@ -171,7 +171,7 @@ module _ (a : Lists) (l : ℕ) (d : Dir) (runs : RunsAlong a l d) where
           let back = turned (spot_at a) l d n h.0 h.1 in
           let linked = subst (λ m. IsNext (Stands (spot_at a) m (opposite d)) (Some (reach (opposite d) back.spot.point)) (link a m (Some n) (opposite d))) back.line
           ((lists.linked (opposite d)).nexts n back.spot back.is) in
-          let placed = subst (λ z. IsNext (Stands (spot_at a) l (opposite d)) (Some z) (link a l (Some n) (opposite d))) back.place linked in
+          let placed = subst (λ z. IsNext (Stands (spot_at a) l (opposite d)) (Some z) (link a l (Some n) (opposite d))) back.along linked in
           next_from_previous (Stands (spot_at a) l (opposite d)) (reach (opposite d) p) free_back (Some (pos 0 -ℤ h.0)) (omega (arith, ints))
           (λ c z here q less.
           let after : (pos 0 -ℤ h.0) <ℤ z = q in

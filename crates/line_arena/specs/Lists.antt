@@ -42,12 +42,12 @@ abbrev pub link : Lists → ℕ → Option ℕ → Dir → Option ℕ
 link a l None d = option_and_then (λ e. start_of d e.1) (entry_at a.lines l)
 link a l (Some c) d = option_and_then (λ e. next_of d e.1) (entry_at a.crossings c)
 
--- the place lies past the other one, if there is one
+-- the coordinate lies past the other one, if there is one
 abbrev pub IsPast : Option ℤ → ℤ → Type 0
 IsPast None z = Unit {0}
 IsPast (Some b) z = b <ℤ z
 
--- of what stands at places, this is the nearest past the place
+-- of what stands at coordinates, this is the nearest past the given one
 abbrev pub IsNext : (ℕ → ℤ → Type 0) → Option ℤ → Option ℕ → Type 0
 IsNext At from None = (c : ℕ) (z : ℤ) → At c z → IsPast from z → ⊥
 IsNext At from (Some n) = (y : ℤ) × At n y × IsPast from y × ((c : ℕ) (z : ℤ) → At c z → IsPast from z → y ≤ℤ z)
@@ -57,7 +57,7 @@ pub record Stands (spots : ℕ → Option Spot) (l : ℕ) (d : Dir) (c : ℕ) (z
   pub spot : Spot
   pub is : spots c ≡ Some spot
   pub line : line_along d spot ≡ l
-  pub place : reach d spot.point ≡ z
+  pub along : reach d spot.point ≡ z
 
 -- all but one of the crossings
 abbrev pub without : ℕ → (ℕ → Option Spot) → ℕ → Option Spot
@@ -122,7 +122,7 @@ pub record Relinks (a b : Lists) (l : ℕ) (from : Option ℕ) (d : Dir) (to : O
   pub other_crossings : (m : ℕ) (f : Option ℕ) → f ≢ from → link b m f d ≡ link a m f d
   pub other_lines : (m : ℕ) → m ≢ l → link b m None d ≡ link a m None d
 
--- no two crossings of a line stand at one place of it
+-- no two crossings of a line stand at one point of it
 abbrev pub AreApart : (ℕ → Option Spot) → Dir → Type 0
 AreApart spots d = (l c e : ℕ) (z : ℤ) → Stands spots l d c z → Stands spots l d e z → c ≡ e
 

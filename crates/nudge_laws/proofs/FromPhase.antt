@@ -60,13 +60,14 @@ by_heading South r a b y z h e f up down = up (omega (arith, ints, e, f, h))
 by_heading West r a b y z h e f up down = down (omega (arith, ints, e, f, h))
 by_heading North r a b y z h e f up down = down (omega (arith, ints, e, f, h))
 
--- two runs of one route with one between them are joined, but where both are fixed
-same_number : (m n : ℕ) → m ≡ n → (m == n) ≡ true
+-- numbers that are compared
+pub same_number : (m n : ℕ) → m ≡ n → (m == n) ≡ true
 same_number m n e = grind (arith, nat_tests)
 
-other_number : (m n : ℕ) → m ≢ n → (m == n) ≡ false
+pub other_number : (m n : ℕ) → m ≢ n → (m == n) ≡ false
 other_number m n e = grind (arith, nat_tests)
 
+-- two runs of one route with one between them are joined, but where both are fixed
 second_next : (r s : Run) → (r.place + 2 ≡ s.place) ⊎ (s.place + 2 ≡ r.place) → is_second_next r s ≡ true
 second_next r s (inl e) = ap (λ b. if b then true else (s.place + 2 == r.place)) (same_number (r.place + 2) s.place e)
 second_next r s (inr e) = ap (λ b. if b then true else (s.place + 2 == r.place)) (other_number (r.place + 2) s.place (λ f. absurd (omega arith))) ∙ same_number (s.place + 2) r.place e
@@ -134,7 +135,7 @@ module _ (solids : List Solid) (routes : List PhaseRoute) (way : Way) (nudge : �
   member_is i st e =
       get_or-map (λ (s : Standing). s.member) all i st no_member (slice_get_within all i st e) ∙ ap (λ (s : Standing). s.member) (get_or_from_slice_get all i st st e)
 
-  spot_with : (r : Run) (z : ℤ) (put : IsPutAt found solutions r z) → (s : IsSpotOf r z) × (s.class ≡ put.place)
+  spot_with : (r : Run) (z : ℤ) (put : IsPutAt found solutions r z) → (s : IsSpotOf r z) × (s.class ≡ put.place) × (s.item ≡ put.item)
   spot_with r z put =
       let cls = get_or classes put.place [] in
       let ms = members_at members cls in
@@ -148,7 +149,7 @@ module _ (solids : List Solid) (routes : List PhaseRoute) (way : Way) (nudge : �
       let index_in : i < length all = omega (arith, within, as_many) in
       let found_run : Some (member_at members i).run ≡ Some r =
       sym (slice_get-map (λ (m : Member). m.run) ms put.item ∙ ap (option_map (λ (m : Member). m.run)) (slice_get-map (member_at members) cls put.item ∙ ap (option_map (member_at members)) at_item)) ∙ run_is in
-      elim (slice_get_cases all i).1 as (λ _. (s : IsSpotOf r z) × (s.class ≡ put.place)) [
+      elim (slice_get_cases all i).1 as (λ _. (s : IsSpotOf r z) × (s.class ≡ put.place) × (s.item ≡ put.item)) [
         | inl (st, within, here, same) ↦ (
           record {
             class = put.place;
@@ -166,6 +167,7 @@ module _ (solids : List Solid) (routes : List PhaseRoute) (way : Way) (nudge : �
             of_solution = put.of_solution;
             down = put.down;
           },
+          refl,
           refl,
         )
         | inr (past, none) ↦ absurd (omega arith)
@@ -322,6 +324,37 @@ module _ (solids : List Solid) (routes : List PhaseRoute) (way : Way) (nudge : �
       let same : p.index ≡ i = one_place way routes all good edges bundles.in_order.once p.index i p.st p.index_in (slice_get_within all i a at_i)
       (ap (λ (t : Standing). t.member.run) (get_or_from_slice_get all p.index p.st p.st p.here) ∙ p.is ∙ sym e ∙ sym (ap (λ (t : Standing). t.member.run) (get_or_from_slice_get all i a p.st at_i))) in
       (same, same_Some p.st a (sym p.here ∙ ap (slice_get all) same ∙ at_i))
+
+  -- and one place in one bundle
+  same_spots : (r : Run) (y z : ℤ) (p : IsSpotOf r y) (q : IsSpotOf r z) → (p.class ≡ q.class) × (p.item ≡ q.item)
+  same_spots r y z p q =
+      let index : p.index ≡ q.index = (one_spot r y p q.index q.st q.here q.is).0 in
+      let are = made.are_classes in
+      let class : p.class ≡ q.class = one_class (Connected (IsLink nudge members)) (length members) classes are p.class q.class p.index p.class_in q.class_in
+      (index_in_class r y p) (subst (Contains (get_or classes q.class [])) (sym index) (index_in_class r z q)) in
+      let cls = get_or classes p.class [] in
+      let q_at : slice_get cls q.item ≡ Some q.index = subst (λ c. slice_get (get_or classes c []) q.item ≡ Some q.index) (sym class) q.at_item in
+      let rise = All-get_or Rise classes p.class [] p.class_in are.rising in
+      let item_p : get_or cls p.item 0 ≡ p.index = get_or_from_slice_get cls p.item p.index 0 p.at_item in
+      let item_q : get_or cls q.item 0 ≡ q.index = get_or_from_slice_get cls q.item q.index 0 q_at in
+      let p_in = slice_get_within cls p.item p.index p.at_item in
+      let q_in = slice_get_within cls q.item q.index q_at in (
+        class,
+        elim (cases_lt p.item q.item) as (λ _. p.item ≡ q.item) [
+          | inl l ↦ absurd (omega (arith, rise p.item q.item l q_in, item_p, item_q, index))
+          | inr g ↦ (elim (cases_lt q.item p.item) as (λ _. p.item ≡ q.item) [
+            | inl l ↦ absurd (omega (arith, rise q.item p.item l p_in, item_p, item_q, index))
+            | inr h ↦ omega arith
+          ])
+        ],
+      )
+
+  pub same_puts : (r : Run) (y z : ℤ) (p : IsPutAt found solutions r y) (q : IsPutAt found solutions r z) → (p.place ≡ q.place) × (p.item ≡ q.item)
+  same_puts r y z p q =
+      let a = spot_with r y p in
+      let b = spot_with r z q in
+      let same = same_spots r y z a.0 b.0 in
+      (sym a.1 ∙ same.0 ∙ b.1, sym a.2 ∙ same.1 ∙ b.2)
 
   pub all_apart : (i j : ℕ) (a b : Standing) (y z : ℤ) → i < j → slice_get all i ≡ Some a → slice_get all j ≡ Some b → asks a.member b.member ≡ Some true →
       IsPutAt found solutions a.member.run y → (at : IsPutAt found solutions b.member.run z) →

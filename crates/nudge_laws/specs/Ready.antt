@@ -1,11 +1,17 @@
 -- Routes that nudging begins with.
-use Rattle.std.specs.Prelude.{◌≡◌, ◌≢◌, ◌-◌, ◌<ℤ◌, List, length, All, AllPairs}
+use Rattle.std.specs.Prelude.{◌≡◌, ◌≢◌, ◌-◌, ◌≤◌, ◌<ℤ◌, List, length, All, AllPairs}
 use Rattle.plane_geom.specs.declared.point.Way.{Way}
+use Rattle.plane_geom.specs.declared.rect.Solid.{Solid}
 use Rattle.plane_geom.specs.Floor.{Holds}
 use Rattle.segment_order.specs.declared.run.Run.{Run}
 use Rattle.segment_order.specs.Run.{run_at, line_of}
 use Rattle.channel_bundles.specs.declared.route.PhaseRoute.{PhaseRoute}
-use Rattle.channel_bundles.specs.Route.{IsPhaseRoute}
+use Rattle.channel_bundles.specs.Route.{IsPhaseRoute, runs_of_way}
+use Rattle.separation_model.specs.Bundle.{most_items}
+use Rattle.walk_model.specs.declared.task.Choice.{Choice}
+use Rattle.walk_model.specs.Choice.{IsChoice}
+use Rattle.walk_model.specs.Legal.{IsLegal}
+use Rattle.run_laws.specs.LegalRuns.{walk_along}
 
 -- the runs of the way have some length, so that the runs beside them stand in the order of its heading
 abbrev pub HaveLength : Way → List Run → Type 0
@@ -26,3 +32,23 @@ pub record AreRaw (raw : List PhaseRoute) : Type 0 where
   pub ready : All IsReady raw
   pub edges : AllPairs (λ r s. r.edge ≢ s.edge) raw
   pub long : All (λ (route : PhaseRoute). All (λ (r : Run). r.lo <ℤ r.hi) route.runs.items) raw
+
+-- the walk along the runs of the route is legal, with some choices at its ports
+pub record HasLegalWalk (solids : List Solid) (route : PhaseRoute) : Type 0 where
+  pub start : Choice
+  pub end : Choice
+  pub is_start : IsChoice start
+  pub is_end : IsChoice end
+  pub source : start.port ≡ route.anchors.source_port
+  pub target : end.port ≡ route.anchors.target_port
+  pub legal : IsLegal solids route.anchors.via.items start (walk_along route.runs.items) end
+
+-- no more runs of each way than a bundle may have items
+abbrev pub HaveFewRuns : List PhaseRoute → Type 0
+HaveFewRuns routes = (way : Way) → length (runs_of_way way routes) ≤ most_items
+
+-- raw routes that nudging may be handed
+pub record AreWalked (solids : List Solid) (routes : List PhaseRoute) : Type 0 where
+  pub raw : AreRaw routes
+  pub legal : All (HasLegalWalk solids) routes
+  pub few : HaveFewRuns routes

@@ -1,5 +1,5 @@
 //! The laws of both phases, as functions with no body: a caller cites one by a call.
-ghost use Rattle.std.specs.Prelude.{◌≡◌, ◌≢◌, ℕ, ◌+◌, ◌<◌, ℤ, ◌<ℤ◌, List, Some, length, All, AllPairs, slice_get};
+ghost use Rattle.std.specs.Prelude.{◌≡◌, ◌≢◌, ℕ, ◌+◌, ◌<◌, ◌≤◌, ℤ, ◌<ℤ◌, List, Some, length, All, AllPairs, slice_get};
 ghost use Rattle.plane_geom.specs.declared.point.Point.{Point};
 ghost use Rattle.plane_geom.specs.declared.point.Way.{Way};
 ghost use Rattle.plane_geom.specs.declared.point.Way.TheVariants.{Vertical, Horizontal};
@@ -7,10 +7,11 @@ ghost use Rattle.plane_geom.specs.declared.rect.Solid.{Solid};
 ghost use Rattle.segment_order.specs.declared.run.Run.{Run};
 ghost use Rattle.segment_order.specs.Run.{AreRunsOf, point_at, runs_along};
 ghost use Rattle.separation_model.specs.declared.bundle.Solution.{Solution};
-ghost use Rattle.separation_model.specs.Bundle.{IsBundle};
+ghost use Rattle.separation_model.specs.Bundle.{IsBundle, most_items};
 ghost use Rattle.channel_bundles.specs.declared.route.PhaseRoute.{PhaseRoute};
 ghost use Rattle.channel_bundles.specs.declared.channel.RunBundle.{RunBundle};
-ghost use Rattle.channel_bundles.specs.Route.{IsPhaseRoute};
+ghost use Rattle.channel_bundles.specs.Route.{IsPhaseRoute, runs_of_way};
+ghost use Rattle.channel_bundles.specs.Links.{IsNudge};
 ghost use Rattle.channel_bundles.specs.Limits.{MayMove};
 ghost use Rattle.channel_bundles.specs.Bundles.{AreBundles};
 ghost use Rattle.walk_model.specs.declared.route.WrittenRoute.{WrittenRoute};
@@ -24,7 +25,7 @@ ghost use Rattle.nudge_laws.specs.Alike.{AreAlike};
 ghost use Rattle.nudge_laws.specs.Apart.{KeepsApart};
 ghost use Rattle.nudge_laws.specs.Nudged.{IsNudged, KeepsLegal};
 ghost use Rattle.nudge_laws.specs.Phase.{IsPhase};
-ghost use Rattle.nudge_laws.specs.Ready.{AreRaw, HoldsPorts, IsReady};
+ghost use Rattle.nudge_laws.specs.Ready.{AreRaw, AreWalked, HoldsPorts, IsReady};
 
 /// A route that is legal along its runs may stand where it stands, in either phase.
 pub fn legal_routes_may_stay()
@@ -88,4 +89,18 @@ pub fn one_list_of_bundles()
         AreBundles solids routes way nudge found → AreBundles solids routes way nudge others →
         All IsPhaseRoute routes → AllPairs (λ r s. r.edge ≢ s.edge) routes →
         All (λ (b : RunBundle). IsBundle b.bundle) found → AreAlike found others }
+{}
+
+/// Both phases have one result: of raw routes that go along legal walks there is one list of written lines.
+pub fn one_nudged()
+    ensures { (solids : List Solid) (raw : List PhaseRoute) (nudge : ℤ) (xs ys other_xs other_ys : List Solution) (lines others : List WrittenRoute) →
+        IsNudged solids raw nudge xs ys lines → IsNudged solids raw nudge other_xs other_ys others →
+        AreWalked solids raw → IsNudge nudge → lines ≡ others }
+{}
+
+/// The bundles of a phase may be handed to a solver, where its movable runs may stand where they stand.
+pub fn bundles_may_be_solved()
+    ensures { (solids : List Solid) (routes : List PhaseRoute) (way : Way) (nudge : ℤ) (found : List RunBundle) →
+        AreBundles solids routes way nudge found → All IsPhaseRoute routes → All (MayMove solids way) routes →
+        length (runs_of_way way routes) ≤ most_items → IsNudge nudge → All (λ (b : RunBundle). IsBundle b.bundle) found }
 {}
