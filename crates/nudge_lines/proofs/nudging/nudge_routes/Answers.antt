@@ -1,0 +1,57 @@
+-- What phase x makes is handed to phase y, and its result is written.
+use Rattle.std.proofs.Common.{List, arith, sym, subst, rules, w64, FitsSigned}
+use Rattle.std.specs.Prelude.{All}
+use Rattle.std.proofs.lemmas.Int.{to_z-of_z}
+use Rattle.plane_geom.specs.declared.point.Way.TheVariants.{Vertical, Horizontal}
+use Rattle.segment_order.specs.Run.{AreRunsOf}
+use Rattle.channel_bundles.specs.declared.route.PhaseRoute.{PhaseRoute}
+use Rattle.nudge_laws.specs.Nudged.{IsWritten}
+use Rattle.nudge_lines.specs.Steps.{AreEach}
+use Rattle.nudge_laws.proofs.Solvable.{as_many}
+use Rattle.nudge_lines.proofs.HandingOn.{phase_rises, raw_may_move, x_may_move, x_ready_all, y_ready_all}
+use Rattle.nudge_lines.proofs.nudging.nudge_routes.Goals as goal
+
+pub phase-requires-clause-movable : goal.phase-requires-clause-movable
+phase-requires-clause-movable c = raw_may_move c.args.solids.now c.args.raw.items c.args.nudge c.requires.raw c.requires.legal
+
+pub phase-requires-2-clause-routes : goal.phase-requires-2-clause-routes
+phase-requires-2-clause-routes c = λ k d h.
+    let fits : FitsSigned w64 c.args.nudge = search rules in
+    let x = simp to_z-of_z at c.in_ok-x.ensures in
+    (x_ready_all c.args.solids.now c.args.raw.items c.args.nudge c.requires.raw c.requires.legal c.in_ok-x.x.routes.items c.in_ok-x.x.solutions.items x k d h).phase
+
+pub phase-requires-2-clause-edges : goal.phase-requires-2-clause-edges
+phase-requires-2-clause-edges c =
+    let fits : FitsSigned w64 c.args.nudge = search rules in
+    let x = simp to_z-of_z at c.in_ok-x.ensures in
+    phase_rises c.args.solids.now c.args.raw.items Vertical c.args.nudge c.in_ok-x.x.routes.items c.in_ok-x.x.solutions.items x c.requires.edges
+
+pub phase-requires-2-clause-movable : goal.phase-requires-2-clause-movable
+phase-requires-2-clause-movable c =
+    let fits : FitsSigned w64 c.args.nudge = search rules in
+    let x = simp to_z-of_z at c.in_ok-x.ensures in
+    x_may_move c.args.solids.now c.args.raw.items c.args.nudge c.requires.raw c.requires.legal c.in_ok-x.x.routes.items c.in_ok-x.x.solutions.items x
+
+pub phase-requires-2-clause-few : goal.phase-requires-2-clause-few
+phase-requires-2-clause-few c =
+    let fits : FitsSigned w64 c.args.nudge = search rules in
+    let x = simp to_z-of_z at c.in_ok-x.ensures in
+    let same = as_many c.args.solids.now c.args.raw.items Vertical c.args.nudge c.in_ok-x.x.routes.items c.in_ok-x.x.solutions.items x Horizontal in
+    let few = c.requires.few Horizontal in
+    omega (arith, same, few)
+
+pub written_lines-requires : goal.written_lines-requires
+written_lines-requires c =
+    let fits : FitsSigned w64 c.args.nudge = search rules in
+    let x = simp to_z-of_z at c.in_ok-x.ensures in
+    let y = simp to_z-of_z at c.in_ok-y.ensures in
+    let ready = y_ready_all c.args.solids.now c.args.raw.items c.args.nudge c.requires.raw c.requires.legal c.in_ok-x.x.routes.items c.in_ok-x.x.solutions.items x c.in_ok-y.y.routes.items c.in_ok-y.y.solutions.items y in
+    subst (λ (rs : List PhaseRoute). All (λ (r : PhaseRoute). AreRunsOf r.edge r.runs.items) rs) (sym c.deref.ensures.value) (λ k d h. (ready k d h).phase.runs)
+
+pub returns : goal.returns
+returns c =
+    let fits : FitsSigned w64 c.args.nudge = search rules in
+    let x = simp to_z-of_z at c.in_ok-x.ensures in
+    let y = simp to_z-of_z at c.in_ok-y.ensures in
+    let lines = subst (λ (rs : List PhaseRoute). AreEach IsWritten rs c.in_ok-written_lines.field-0.items) c.deref.ensures.value c.in_ok-written_lines.ensures in
+    record { after_x = c.in_ok-x.x.routes.items; after_y = c.in_ok-y.y.routes.items; x = x; y = y; count = lines.count; written = lines.each }

@@ -1,0 +1,7 @@
+-- The lemmas on raw routes and on the lines of a scene, callees first.
+pub mod Zips
+pub mod Turning
+pub mod Answered
+pub mod RawReady
+pub mod SceneLines
+pub mod OneScene

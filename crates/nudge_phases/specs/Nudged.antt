@@ -1,0 +1,41 @@
+-- What nudging makes of the raw routes of a scene, and what its lines are.
+use Rattle.std.specs.Prelude.{◌≡◌, ℕ, List, Some}
+use Rattle.std.specs.List.{AllZip}
+use Rattle.separation_model.specs.declared.bundle.Solution.{Solution}
+use Rattle.walk_model.specs.declared.route.Answer.{Answer}
+use Rattle.walk_model.specs.declared.route.Route.{Route}
+use Rattle.walk_model.specs.declared.route.WrittenRoute.{WrittenRoute}
+use Rattle.walk_model.specs.Line.{Draws}
+use Rattle.walk_model.specs.Order.{IsLegalTriple}
+use Rattle.walk_model.specs.Walk.{Walk}
+use Rattle.scene_model.specs.declared.edge.Edge.{Edge}
+use Rattle.scene_model.specs.Answers.{AreAnswers}
+use Rattle.scene_model.specs.Scene.{Scene, edge_with}
+use Rattle.scene_model.specs.Routing.{solids, task_of}
+use Rattle.scene_model.specs.Valid.{IsValid}
+use Rattle.channel_bundles.specs.declared.route.PhaseRoute.{PhaseRoute}
+use Rattle.nudge_laws.specs.Nudged.{IsNudged}
+use Rattle.nudge_phases.specs.Raw.{AreRawRoutes, routed}
+
+-- the solutions and lines are those of both phases on the raw routes of the answers
+pub record IsNudgedScene (s : Scene) (answers : List Answer) (x_solutions y_solutions : List Solution) (lines : List WrittenRoute) : Type 0 where
+  pub raw : List PhaseRoute
+  pub are_raw : AreRawRoutes s answers raw
+  pub nudged : IsNudged (solids s) raw s.settings.nudge x_solutions y_solutions lines
+
+-- the line of the edge with the number draws a walk that is legal with the choices of its route
+pub record IsLegalLine (s : Scene) (number : ℕ) (route : Route) (line : WrittenRoute) : Type 0 where
+  pub edge : Edge
+  pub is_edge : edge_with s number ≡ Some edge
+  pub walk : Walk
+  pub draws : Draws line.points walk
+  pub legal : IsLegalTriple (solids s) (task_of s edge) (record { start = route.start; walk = walk; end = route.end })
+
+-- each line is legal for its answer, of those that have a route
+abbrev pub AreLegalLines : Scene → List Answer → List WrittenRoute → Type 0
+AreLegalLines s answers lines = AllZip (λ p line. IsLegalLine s p.0 p.1 line) (routed answers) lines
+
+-- right answers of a scene have one list of nudged lines at most
+abbrev pub HaveOneNudged : Type 0
+HaveOneNudged = (s : Scene) (answers : List Answer) (xs ys other_xs other_ys : List Solution) (lines others : List WrittenRoute) →
+    IsValid s → AreAnswers s answers → IsNudgedScene s answers xs ys lines → IsNudgedScene s answers other_xs other_ys others → lines ≡ others

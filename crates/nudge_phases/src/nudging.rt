@@ -1,0 +1,36 @@
+//! Both phases of nudging, on the right answers of a scene.
+ghost use Rattle.std.specs.Prelude.{◌≡◌, IfOk, map};
+ghost use Rattle.scene_model.specs.Answers.{AreAnswers};
+ghost use Rattle.nudge_laws.specs.Apart.{KeepsApart};
+ghost use Rattle.nudge_phases.specs.Raw.{routed};
+ghost use Rattle.nudge_phases.specs.Nudged.{AreLegalLines, IsNudgedScene};
+
+use crate::raw::raw_routes;
+use nudge_lines::{Nudged, nudge_routes};
+use scene_store::Scene;
+use std::alloc::{AllocError, Global};
+use walk_model::Answer;
+
+/// Nudges the routes of a scene's right answers. Its only error is want of memory.
+///
+/// Phase x moves the vertical runs of the routes, and its result is rounded down to whole thousandths; phase y moves
+/// the horizontal runs of that result. In each phase the runs of a bundle go to the least positions for the bundle's own
+/// widest gap, up to the scene's wanted nudge, and the corners follow. Of the points after phase y, equal neighbours
+/// become one, and one at which the heading goes on is dropped.
+pub fn nudge(alloc: Global, scene: &Scene, answers: &[Answer]) -> Result<Nudged, AllocError>
+    requires { AreAnswers scene.now answers.now }
+    // The solutions of both phases and the lines are those of the raw routes.
+    ensures nudged { IfOk result (λ n. IsNudgedScene scene.now answers.now n.x_solutions.items n.y_solutions.items n.routes.items) }
+    // Every separation of a phase is met, at its bundle's gap where it links two runs, else at the wanted nudge.
+    ensures apart { IfOk result (λ n. (p : IsNudgedScene scene.now answers.now n.x_solutions.items n.y_solutions.items n.routes.items) →
+        KeepsApart p.nudged.x × KeepsApart p.nudged.y) }
+    // Every line is a legal walk of its connector, with the choices of its route.
+    ensures legal { IfOk result (λ n. AreLegalLines scene.now answers.now n.routes.items) }
+    // One line for each answer with a route, in order.
+    ensures edges { IfOk result (λ n. map (λ l. l.edge) n.routes.items ≡ map (λ p. p.0) (routed answers.now)) }
+{
+    let nudge = scene.settings().nudge;
+    let raw = raw_routes(alloc, scene, answers)?;
+    let floor = scene.floor()?;
+    nudge_routes(alloc, floor.solids.as_slice(), raw, nudge)
+}

@@ -1,0 +1,60 @@
+//! The raw routes of a scene's answers.
+ghost use Rattle.std.specs.Prelude.{◌≢◌, ◌<◌, ◌≤◌, ◌^◌, IfOk, IfSome, IsSomeAnd, length};
+ghost use Rattle.scene_model.specs.Answers.{AreAnswers};
+ghost use Rattle.scene_model.specs.Routing.{task_of};
+ghost use Rattle.scene_model.specs.Scene.{edge_with};
+ghost use Rattle.scene_model.specs.Valid.{IsValid};
+ghost use Rattle.nudge_phases.specs.Raw.{AreRawRoutes, IsRawRoute};
+
+use channel_bundles::{PhaseRoute, RouteAnchors};
+use scene_store::Scene;
+use segment_order::runs_of;
+use std::alloc::{AllocError, Global};
+use walk_model::{Answer, Route};
+
+/// The route of the connector with the number, as the first phase takes it.
+fn raw_route(
+    alloc: Global,
+    scene: &Scene,
+    number: u32,
+    route: &Route,
+) -> Result<PhaseRoute, AllocError>
+    requires connector { IsSomeAnd (edge_with scene.now number) (λ e. e.from ≢ e.to) }
+    requires start { IfSome (edge_with scene.now number) (λ e. route.now.start < length (task_of scene.now e).starts) }
+    requires end { IfSome (edge_with scene.now number) (λ e. route.now.end < length (task_of scene.now e).ends) }
+    requires few { length route.now.points ≤ 2 ^ 32 }
+    ensures { IfOk result (IsRawRoute scene.now number route.now) }
+{
+    let task = scene.task(number)?;
+    let start = task.starts.as_slice()[route.start as usize];
+    let end = task.ends.as_slice()[route.end as usize];
+    Ok(PhaseRoute {
+        edge: number,
+        runs: runs_of(alloc, number, route.points.as_slice())?,
+        anchors: RouteAnchors {
+            source_port: start.port,
+            target_port: end.port,
+            via: task.via.0,
+        },
+        weight: scene.edge(number).unwrap().weight,
+    })
+}
+
+/// The routes of the answers that have one, as the first phase takes them.
+pub(crate) fn raw_routes(
+    alloc: Global,
+    scene: &Scene,
+    answers: &[Answer],
+) -> Result<Vec<PhaseRoute>, AllocError>
+    requires valid { IsValid scene.now }
+    requires answers { AreAnswers scene.now answers.now }
+    ensures { IfOk result (λ raw. AreRawRoutes scene.now answers.now raw.items) }
+{
+    let mut raw = Vec::new(alloc);
+    for answer in answers {
+        if let Some(route) = &answer.route {
+            raw.push(raw_route(alloc, scene, answer.edge, route)?)?;
+        }
+    }
+    Ok(raw)
+}
