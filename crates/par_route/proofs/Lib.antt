@@ -4,3 +4,4 @@ pub mod Zips
 pub mod Cutting
 pub mod Joining
 pub mod Idle
+pub mod Connectors
