@@ -1,0 +1,5 @@
+use Rattle.route_book.proofs.Reuse.{answers_stay}
+use Rattle.route_book.proofs.laws.current_answers_stay.Goals as goal
+
+pub returns : goal.returns
+returns c = answers_stay

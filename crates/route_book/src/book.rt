@@ -1,0 +1,178 @@
+//! The saved answers of a scene, and their change with the scene.
+ghost use Rattle.std.specs.Prelude.{◌≡◌, ◌≤◌, ℕ, List, IfOk, OnOk, length, option_copied};
+ghost use Rattle.route_search.specs.Finds.{counted_by};
+ghost use Rattle.route_book.specs.Exchange.{turned};
+ghost use Rattle.scene_model.specs.Answers.{AreAnswers};
+ghost use Rattle.scene_model.specs.Routing.{floor_of};
+ghost use Rattle.scene_model.specs.Scene.{connectors};
+ghost use Rattle.scene_model.specs.Stale.{AreStale, answer_of};
+
+use crate::answers::AnswerList;
+use crate::comparison::Comparison;
+use crate::search::{Searches, connector_numbers};
+use par_route::Gate;
+use route_search::Tally;
+use scene_store::Scene;
+use std::alloc::{AllocError, Global};
+use std::marker::Model;
+use std::mem;
+use std::thread::Threads;
+use visibility_graph::Graph;
+use walk_model::Answer;
+
+/// The answers of a scene's connectors, in scene order. Contracts see it as their list.
+///
+/// It is right for a scene where each answer is the route of the first legal walk, or none where no walk is legal.
+#[derive(Drop)]
+pub struct Book {
+    alloc: Global,
+    answers: AnswerList,
+}
+
+/// The answers of the scene at hand and those of the scene that is to come. Contracts see it as these two lists.
+///
+/// The latter are kept twice, so that `Book::swap` takes no memory.
+#[derive(Drop)]
+pub struct Changes {
+    here: AnswerList,
+    there: AnswerList,
+    spare: AnswerList,
+}
+
+impl Model for Book {
+    ghost use Rattle.std.specs.Prelude.{List};
+    ghost use Rattle.walk_model.specs.declared.route.Answer.{Answer};
+
+    ghost Value = { List Answer };
+
+    ghost view = { λ b. b.answers };
+}
+
+impl Model for Changes {
+    ghost use Rattle.std.specs.Prelude.{◌≡◌};
+    ghost use Rattle.route_book.specs.Exchange.{Exchange};
+
+    ghost Value = { Exchange };
+
+    ghost view = { λ c. record { here = c.here; there = c.there } };
+
+    ghost invariant = { λ c. c.spare ≡ c.there };
+}
+
+impl Book {
+    /// The right answers of the scene, of which the graph is, by at most `workers` searches side by side.
+    ///
+    /// The tally rises by the number of connectors. The only error is want of memory, where it may have risen too.
+    pub fn build<R: Threads + Sync, G: Gate>(
+        rt: &R,
+        alloc: Global,
+        scene: &Scene,
+        graph: &Graph,
+        workers: u32,
+        gate: &G,
+        tally: &mut Tally,
+    ) -> Result<Book, AllocError>
+        requires some { 1 ≤ workers }
+        requires few { workers ≤ 4 }
+        requires graph { graph.now.floor ≡ floor_of scene.now }
+        ensures right { IfOk result (AreAnswers scene.now) }
+        ensures tally { OnOk result (tally.new ≡ counted_by (length (connectors scene.now)) tally.old) }
+    {
+        let numbers = connector_numbers(alloc, scene)?;
+        let searches = Searches {
+            alloc,
+            scene,
+            graph,
+            workers,
+        };
+        let answers = searches.answers(rt, &numbers, gate, tally)?;
+        Ok(Book { alloc, answers })
+    }
+
+    /// The numbers of the connectors of the new scene that are searched again, in order, where the book is right for
+    /// the old one. The only error is want of memory.
+    pub fn stale(&self, old: &Scene, new: &Scene) -> Result<Vec<u32>, AllocError>
+        requires right { AreAnswers old.now self.now }
+        ensures { IfOk result (λ numbers. AreStale old.now self.now new.now numbers.items) }
+    {
+        Comparison::between(self.alloc, old, new)?.stale(&self.answers)
+    }
+
+    /// What is to be exchanged where the new scene, of which the graph is, takes the place of the old one, for which
+    /// the book is right. The stale connectors alone are searched, by at most `workers` searches side by side.
+    ///
+    /// The book stays, and `swap` will take no memory. The tally rises by the number of stale connectors. The only
+    /// error is want of memory, where it may have risen too.
+    pub fn follow<R: Threads + Sync, G: Gate>(
+        &mut self,
+        rt: &R,
+        old: &Scene,
+        new: &Scene,
+        graph: &Graph,
+        workers: u32,
+        gate: &G,
+        tally: &mut Tally,
+    ) -> Result<Changes, AllocError>
+        requires some { 1 ≤ workers }
+        requires few { workers ≤ 4 }
+        requires right { AreAnswers old.now self.old }
+        requires graph { graph.now.floor ≡ floor_of new.now }
+        ensures same { self.new ≡ self.old }
+        ensures here { IfOk result (λ c. c.here ≡ self.old) }
+        ensures there { IfOk result (λ c. AreAnswers new.now c.there) }
+        ensures tally { OnOk result ((numbers : List ℕ) × AreStale old.now self.old new.now numbers × (tally.new ≡ counted_by (length numbers) tally.old)) }
+    {
+        let _settings = old.settings();
+        let connectors = connector_numbers(self.alloc, new)?;
+        let numbers = self.stale(old, new)?;
+        let searches = Searches {
+            alloc: self.alloc,
+            scene: new,
+            graph,
+            workers,
+        };
+        let found = searches.answers(rt, &numbers, gate, tally)?;
+        let there = self.answers.merged(self.alloc, &connectors, &found)?;
+        Ok(Changes {
+            here: self.answers.copy(self.alloc)?,
+            spare: there.copy(self.alloc)?,
+            there,
+        })
+    }
+
+    /// Exchanges the book's answers, which are those of the scene at hand, with those of the scene that is to come;
+    /// the changes are turned round, so a second `swap` brings the former answers back. It takes no memory.
+    pub fn swap(&mut self, changes: &mut Changes)
+        requires { self.old ≡ changes.old.here }
+        ensures book { self.new ≡ changes.old.there }
+        ensures changes { changes.new ≡ turned changes.old }
+    {
+        mem::swap(&mut self.answers, &mut changes.spare);
+        mem::swap(&mut changes.here, &mut changes.there);
+    }
+
+    /// The answer of the connector with the number; none exactly where the book has no such connector. It takes no
+    /// memory.
+    pub fn answer(&self, edge: u32) -> Option<&Answer>
+        ensures { option_copied result ≡ answer_of self.now edge }
+    {
+        self.answers.get(edge)
+    }
+
+    /// The answers, in scene order. It takes no memory.
+    pub fn answers(&self) -> &[Answer]
+        ensures { result.now ≡ self.now }
+    {
+        self.answers.as_slice()
+    }
+
+    /// The same book once more. Its only error is want of memory.
+    pub fn copy(&self) -> Result<Book, AllocError>
+        ensures { IfOk result (λ b. b ≡ self.now) }
+    {
+        Ok(Book {
+            alloc: self.alloc,
+            answers: self.answers.copy(self.alloc)?,
+        })
+    }
+}

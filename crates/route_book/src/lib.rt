@@ -1,0 +1,20 @@
+//! The saved routes of a scene, and which of them an edit leaves as they were.
+//!
+//! Coordinates, lengths and costs are whole thousandths of a GML unit.
+#![tactic(auto)]
+
+mod answers;
+mod book;
+mod comparison;
+mod coordinates;
+mod laws;
+mod line;
+mod reach;
+mod search;
+mod shapes;
+
+pub use book::{Book, Changes};
+pub use laws::current_answers_stay;
+
+#[cfg(test)]
+mod tests;

@@ -1,0 +1,148 @@
+//! How near to a rectangle the ways of a connector come within a cost.
+ghost use Rattle.std.specs.Prelude.{◌≡◌, ◌↔◌, ◌+◌, ◌*◌, ◌^◌, ◌<◌, ◌≤◌, ◌≤ℤ◌, ◌==◌, ◌∷◌, ◌++◌, [], All, Contains, IsTrue, filter, length};
+ghost use Rattle.plane_geom.specs.Point.{PointIsOnSheet};
+ghost use Rattle.plane_geom.specs.Floor.{IsSolid};
+ghost use Rattle.plane_geom.specs.Rect.{RectIsOnSheet};
+ghost use Rattle.route_book.specs.Reach.{AreParts, IsBox, IsNear, IsNearBetween, IsNearFrom, IsPlaced, IsShortestBy};
+ghost use Rattle.scene_model.specs.Routing.{pins_of_class, place_of};
+ghost use Rattle.scene_model.specs.Stale.{LineMeets, way_length};
+ghost use Rattle.scene_model.specs.Valid.{IsNode, IsOnField, IsPin};
+ghost use Rattle.walk_model.specs.Line.{IsStraightLine};
+
+use crate::coordinates::moved;
+use plane_geom::{Point, Rect};
+use scene_store::{Dirs, Edge, Node, Pin};
+
+/// The pin of class 0.
+const CENTRE: [Pin; 1] = [Pin {
+    class: 0,
+    dx: 0,
+    dy: 0,
+    dirs: Dirs {
+        east: true,
+        south: true,
+        west: true,
+        north: true,
+    },
+    cost: 0,
+}];
+
+/// The pins among which those of the class are.
+fn pins_with(node: &Node, class: u32) -> &[Pin]
+    requires { IsNode node.now }
+    ensures class { filter (λ p. p.class == class) result.now ≡ pins_of_class node.now class }
+    ensures placed { All (IsPlaced node.now) result.now }
+{
+    if class == 0 {
+        &CENTRE
+    } else {
+        node.pins.as_slice()
+    }
+}
+
+/// Where the pin of the node stands.
+fn place_of(node: &Node, pin: Pin) -> Point
+    requires node { IsNode node.now }
+    requires pin { IsPlaced node.now pin }
+    ensures place { result ≡ place_of node.now pin }
+    ensures on_sheet { PointIsOnSheet result }
+{
+    Point {
+        x: moved(node.x, pin.dx),
+        y: moved(node.y, pin.dy),
+    }
+}
+
+/// How long a way is, and how long at least where it goes by a rectangle.
+#[derive(Clone, Copy)]
+struct Lengths {
+    straight: u64,
+    by: u64,
+}
+
+/// The lengths of the way from the point through the others to the last one.
+///
+/// A way by the rectangle goes by it on its first leg, or on one of the others.
+fn way_lengths(rect: &Rect, from: Point, via: &[Point], to: Point) -> Lengths
+    requires rect { IsBox rect.now }
+    requires from { PointIsOnSheet from }
+    requires via { All PointIsOnSheet via.now }
+    requires few { length via.now ≤ 4 }
+    requires to { PointIsOnSheet to }
+    ensures straight { result.straight ≡ way_length from (via.now ++ to ∷ []) }
+    ensures by { IsShortestBy rect.now from (via.now ++ to ∷ []) result.by }
+    ensures short { result.straight ≤ 8 * 10 ^ 9 * (length via.now + 1) }
+    ensures short_by { result.by ≤ 8 * 10 ^ 9 * (length via.now + 2) }
+{
+    match via {
+        [] => Lengths {
+            straight: from.distance(to),
+            by: rect.l1_through(from, to).unsigned_abs(),
+        },
+        [next, others @ ..] => {
+            let step = from.distance(*next);
+            let rest = way_lengths(rect, *next, others, to);
+            let here = rect.l1_through(from, *next).unsigned_abs() + rest.straight;
+            Lengths {
+                straight: step + rest.straight,
+                by: here.min(step + rest.by),
+            }
+        }
+    }
+}
+
+/// A connector with its nodes, and a cost.
+#[derive(Clone, Copy)]
+pub(crate) struct Reach<'a> {
+    pub source: &'a Node,
+    pub target: &'a Node,
+    pub edge: &'a Edge,
+    pub cost: u64,
+}
+
+impl<'a> Reach<'a> {
+    /// Whether a way from the one pin to the other may touch the closed rectangle within the cost.
+    fn is_near(&self, rect: &Rect, start: Pin, end: Pin) -> bool
+        requires parts { AreParts self.now.source.now self.now.target.now self.now.edge.now }
+        requires rect { IsBox rect.now }
+        requires start { IsPlaced self.now.source.now start }
+        requires end { IsPlaced self.now.target.now end }
+        ensures { IsTrue result ↔ IsNear self.now.source.now self.now.target.now self.now.edge.now self.now.cost rect.now start end }
+    {
+        let from = place_of(self.source, start);
+        let to = place_of(self.target, end);
+        let way = way_lengths(rect, from, self.edge.via.as_slice(), to);
+        start.cost.unsigned_abs() + end.cost.unsigned_abs() + way.by <= self.cost
+    }
+
+    /// Whether such a way begins at the pin and ends at one of the class.
+    fn is_near_from(&self, rect: &Rect, start: Pin) -> bool
+        requires parts { AreParts self.now.source.now self.now.target.now self.now.edge.now }
+        requires rect { IsBox rect.now }
+        requires start { IsPlaced self.now.source.now start }
+        ensures { IsTrue result ↔ IsNearFrom self.now.source.now self.now.target.now self.now.edge.now self.now.cost rect.now start }
+    {
+        let class = self.edge.to_class;
+        for end in pins_with(self.target, class) {
+            if end.class == class && self.is_near(rect, start, *end) {
+                return true;
+            }
+        }
+        false
+    }
+
+    /// Whether a way of the connector may touch the closed rectangle within the cost.
+    pub(crate) fn is_near_between(&self, rect: &Rect) -> bool
+        requires parts { AreParts self.now.source.now self.now.target.now self.now.edge.now }
+        requires rect { IsBox rect.now }
+        ensures { IsTrue result ↔ IsNearBetween self.now.source.now self.now.target.now self.now.edge.now self.now.cost rect.now }
+    {
+        let class = self.edge.from_class;
+        for start in pins_with(self.source, class) {
+            if start.class == class && self.is_near_from(rect, *start) {
+                return true;
+            }
+        }
+        false
+    }
+}

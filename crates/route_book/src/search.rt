@@ -1,0 +1,91 @@
+//! Searches for the connectors of a scene.
+ghost use Rattle.std.specs.Prelude.{◌≡◌, ◌≤◌, All, IfOk, OnOk, length, map};
+ghost use Rattle.std.specs.List.{AllZip};
+ghost use Rattle.route_search.specs.Finds.{counted_by};
+ghost use Rattle.route_book.specs.Search.{AreRising, IsAnswerWith, IsConnector, IsTaskWith};
+ghost use Rattle.scene_model.specs.Routing.{floor_of};
+ghost use Rattle.scene_model.specs.Scene.{connectors};
+ghost use Rattle.scene_model.specs.Valid.{IsValid};
+
+use crate::answers::AnswerList;
+use par_route::{Gate, route_all};
+use route_search::Tally;
+use scene_store::Scene;
+use std::alloc::{AllocError, Global};
+use std::thread::Threads;
+use visibility_graph::Graph;
+use walk_model::Task;
+
+/// The numbers of the scene's connectors, in order.
+pub(crate) fn connector_numbers(alloc: Global, scene: &Scene) -> Result<Vec<u32>, AllocError>
+    ensures numbers { IfOk result (λ ns. ns.items ≡ map (λ e. e.number) (connectors scene.now)) }
+    ensures order { IfOk result (λ ns. AreRising ns.items) }
+    ensures connectors { IfOk result (λ ns. All (IsConnector scene.now) ns.items) }
+    ensures valid { IsValid scene.now }
+{
+    let _settings = scene.settings();
+    let mut numbers = Vec::new(alloc);
+    let mut place = 0;
+    while let Some(edge) = scene.edge_at(place) {
+        if edge.from != edge.to {
+            numbers.push(edge.number)?;
+        }
+        place += 1;
+    }
+    Ok(numbers)
+}
+
+/// Searches for connectors of the scene on its graph, by so many workers at most.
+#[derive(Drop)]
+pub(crate) struct Searches<'a> {
+    pub alloc: Global,
+    pub scene: &'a Scene,
+    pub graph: &'a Graph,
+    pub workers: u32,
+}
+
+impl<'a> Searches<'a> {
+    /// The tasks of the connectors with these numbers, in order.
+    fn tasks(&self, numbers: &[u32]) -> Result<Vec<Task>, AllocError>
+        requires { All (IsConnector self.now.scene.now) numbers.now }
+        ensures { IfOk result (λ tasks. AllZip (IsTaskWith self.now.scene.now) numbers.now tasks.items) }
+    {
+        let mut tasks = Vec::with_capacity(self.alloc, numbers.len())?;
+        for number in numbers {
+            tasks.push(self.scene.task(*number)?)?;
+        }
+        Ok(tasks)
+    }
+
+    /// The right answers of the connectors with these numbers, in order.
+    pub(crate) fn answers<R: Threads + Sync, G: Gate>(
+        &self,
+        rt: &R,
+        numbers: &[u32],
+        gate: &G,
+        tally: &mut Tally,
+    ) -> Result<AnswerList, AllocError>
+        requires some { 1 ≤ self.now.workers }
+        requires few { self.now.workers ≤ 4 }
+        requires valid { IsValid self.now.scene.now }
+        requires graph { self.now.graph.now.floor ≡ floor_of self.now.scene.now }
+        requires order { AreRising numbers.now }
+        requires connectors { All (IsConnector self.now.scene.now) numbers.now }
+        ensures answers { IfOk result (AllZip (IsAnswerWith self.now.scene.now) numbers.now) }
+        ensures tally { OnOk result (tally.new ≡ counted_by (length numbers.now) tally.old) }
+    {
+        let tasks = self.tasks(numbers)?;
+        let solids = self.graph.floor().solids.as_slice();
+        let routes = route_all(
+            rt,
+            self.alloc,
+            self.graph.arena(),
+            solids,
+            &tasks,
+            self.workers,
+            gate,
+            tally,
+        )?;
+        AnswerList::of_routes(self.alloc, numbers, routes)
+    }
+}
