@@ -25,7 +25,7 @@ module _ {X : Type 0} where
   later x y xs false has = has
 
   -- an entry that passes is among those that pass
-  passing : (p : X → Bool) (xs : List X) → Each (λ x. p x ≡ true → Contains (filter p xs) x) xs
+  pub passing : (p : X → Bool) (xs : List X) → Each (λ x. p x ≡ true → Contains (filter p xs) x) xs
   passing p [] = tt
   passing p (x ∷ xs) =
       (here x (filter p xs) (p x), each_weaker (λ y. p y ≡ true → Contains (filter p xs) y) (λ y. p y ≡ true → Contains (filter p (x ∷ xs)) y) (λ y has h. later x y (filter p xs) (p x) (has h)) xs (passing p xs))
@@ -37,7 +37,7 @@ apart a b differ = by (int_eq a b) refl
     by true e = absurd (differ ((Decides-int_eq a b).0 e))
     by false e = refl
 
-is_connector : (s : Scene) (number : ℕ) (e : Edge) → edge_with s number ≡ Some e → e.from ≢ e.to → Contains (connectors s) e
+pub is_connector : (s : Scene) (number : ℕ) (e : Edge) → edge_with s number ≡ Some e → e.from ≢ e.to → Contains (connectors s) e
 is_connector s number e known differ =
     found_has (λ d. eqb d.number number) (λ d. not (is_loop d) ≡ true → Contains (connectors s) d) s.edges e known (passing (λ d. not (is_loop d)) s.edges) (apart e.from e.to differ)
 
