@@ -1,0 +1,3 @@
+-- The lemmas of sessions.
+pub mod Steps
+pub mod Upholding

@@ -1,0 +1,2 @@
+-- The definitions of sessions.
+pub mod Upheld

@@ -1,0 +1,15 @@
+//! The world with right routes: a diagram's scene under transactions, undo and redo, with its routes at hand.
+//!
+//! Coordinates, lengths and costs are whole thousandths of a GML unit.
+#![tactic(auto)]
+
+mod present;
+mod scenes;
+mod session;
+
+pub use history_laws::{commits_are_given_back, sessions_are_worlds};
+pub use scene_model::SessionFault;
+pub use session::Session;
+
+#[cfg(test)]
+mod tests;

@@ -1,0 +1,110 @@
+//! The present scene with its graph and its book.
+ghost use Rattle.std.specs.Prelude.{◌≡◌, ◌≤◌, ℕ, List, true, IfOk, OnErr, OnOk, length};
+ghost use Rattle.plane_geom.specs.Floor.{IsFloor};
+ghost use Rattle.graph_repair.specs.Change.{IsWriteCount, LeadsFrom};
+ghost use Rattle.route_book.specs.Exchange.{turned};
+ghost use Rattle.route_search.specs.Finds.{counted_by};
+ghost use Rattle.scene_model.specs.Answers.{AreAnswers};
+ghost use Rattle.scene_model.specs.Routing.{floor_of};
+ghost use Rattle.scene_model.specs.Stale.{AreStale};
+ghost use Rattle.visibility_graph.specs.Meeting.{counted_by as written_by};
+
+use graph_repair::{Repair, apply, plan, revert};
+use par_route::Gate;
+use route_book::{Book, Changes};
+use route_search::Tally;
+use scene_store::Scene;
+use std::alloc::{AllocError, Global};
+use std::thread::Threads;
+use visibility_graph::Graph;
+
+/// A scene, the graph of its floor, its answers, and how many searches were made.
+#[derive(Drop)]
+pub(crate) struct Present {
+    pub(crate) alloc: Global,
+    pub(crate) scene: Scene,
+    pub(crate) graph: Graph,
+    pub(crate) book: Book,
+    pub(crate) tally: Tally,
+}
+
+impl Present {
+    /// Repairs the graph to the floor of the other scene. All memory is taken before the graph changes.
+    pub(crate) fn repair(&mut self, other: &Scene) -> Result<Repair, AllocError>
+        requires { IsFloor self.old.graph.floor }
+        ensures scene { self.new.scene ≡ self.old.scene }
+        ensures book { self.new.book ≡ self.old.book }
+        ensures tally { self.new.tally ≡ self.old.tally }
+        ensures floor { OnOk result (self.new.graph.floor ≡ floor_of other.now) }
+        ensures fits { IsFloor self.new.graph.floor }
+        ensures written { OnOk result ((n : ℕ) × IsWriteCount self.old.graph.floor self.new.graph.floor n × (self.new.graph.arena.written ≡ written_by n self.old.graph.arena.written)) }
+        ensures leads { IfOk result (λ r. LeadsFrom self.new.graph r) }
+        ensures applied { IfOk result (λ r. r.applied ≡ true) }
+        ensures back { IfOk result (λ r. r.floor ≡ self.old.graph.floor) }
+        ensures err_floor { OnErr result (self.new.graph.floor ≡ self.old.graph.floor) }
+        ensures err_written { OnErr result (self.new.graph.arena.written ≡ self.old.graph.arena.written) }
+    {
+        let floor = other.floor()?;
+        let mut repair = plan(self.alloc, &mut self.graph, &floor)?;
+        apply(&mut self.graph, &mut repair);
+        Ok(repair)
+    }
+
+    /// Repairs the graph to the floor of the other scene, and finds what is to be exchanged in the book. Where memory
+    /// is wanting the graph stands for the present scene's floor again.
+    pub(crate) fn follow<R: Threads + Sync, G: Gate>(
+        &mut self,
+        rt: &R,
+        other: &Scene,
+        workers: u32,
+        gate: &G,
+    ) -> Result<Changes, AllocError>
+        requires some { 1 ≤ workers }
+        requires few { workers ≤ 4 }
+        requires fits { IsFloor self.old.graph.floor }
+        requires right { AreAnswers self.old.scene self.old.book }
+        ensures scene { self.new.scene ≡ self.old.scene }
+        ensures book { self.new.book ≡ self.old.book }
+        ensures here { IfOk result (λ c. c.here ≡ self.old.book) }
+        ensures there { IfOk result (λ c. AreAnswers other.now c.there) }
+        ensures fits { IsFloor self.new.graph.floor }
+        ensures floor { OnOk result (self.new.graph.floor ≡ floor_of other.now) }
+        ensures written { OnOk result ((n : ℕ) × IsWriteCount self.old.graph.floor self.new.graph.floor n × (self.new.graph.arena.written ≡ written_by n self.old.graph.arena.written)) }
+        ensures tally { OnOk result ((numbers : List ℕ) × AreStale self.old.scene self.old.book other.now numbers × (self.new.tally ≡ counted_by (length numbers) self.old.tally)) }
+        ensures err_floor { OnErr result (self.new.graph.floor ≡ self.old.graph.floor) }
+        ensures err_written { OnErr result ((n : ℕ) × (self.new.graph.arena.written ≡ written_by n self.old.graph.arena.written)) }
+        ensures err_tally { OnErr result ((n : ℕ) × (self.new.tally ≡ counted_by n self.old.tally)) }
+    {
+        // That the count is within its limit is known from here.
+        let _count = self.tally.count();
+        let mut repair = self.repair(other)?;
+        let mut searches = self.tally.split();
+        let found = self.book.follow(
+            rt,
+            &self.scene,
+            other,
+            &self.graph,
+            workers,
+            gate,
+            &mut searches,
+        );
+        self.tally.join(searches);
+        if found.is_err() {
+            revert(&mut self.graph, &mut repair);
+        }
+        found
+    }
+
+    /// Puts the other scene in the place of the present one, and its answers into the book.
+    pub(crate) fn exchange(&mut self, other: Scene, changes: &mut Changes)
+        requires { self.old.book ≡ changes.old.here }
+        ensures scene { self.new.scene ≡ other }
+        ensures book { self.new.book ≡ changes.old.there }
+        ensures changes { changes.new ≡ turned changes.old }
+        ensures graph { self.new.graph ≡ self.old.graph }
+        ensures tally { self.new.tally ≡ self.old.tally }
+    {
+        self.book.swap(changes);
+        self.scene = other;
+    }
+}

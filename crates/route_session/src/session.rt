@@ -1,0 +1,391 @@
+//! The session: what an editor embeds.
+ghost use Rattle.std.specs.Prelude.{◌≡◌, ◌≢◌, ◌+◌, ◌≤◌, ℕ, List, Err, Ok, IfErr, IfOk, IfSome, IsErrOf, IsSome, OnErr, OnOk, is_some, length, map, slice_get};
+ghost use Rattle.std.specs.FinMap.{len};
+ghost use Rattle.line_arena.specs.Arena.{Arena};
+ghost use Rattle.line_arena.specs.Stands.{StandsFor};
+ghost use Rattle.graph_repair.specs.Change.{IsWriteCount};
+ghost use Rattle.nudge_laws.specs.Apart.{KeepsApart};
+ghost use Rattle.nudge_phases.specs.Nudged.{AreLegalLines, IsNudgedScene};
+ghost use Rattle.nudge_phases.specs.Raw.{routed};
+ghost use Rattle.route_search.specs.Finds.{counted_by};
+ghost use Rattle.history_laws.specs.Calls.{IsFaultOf};
+ghost use Rattle.route_session.specs.Upheld.{turned_step};
+ghost use Rattle.scene_model.specs.Answers.{AreAnswers};
+ghost use Rattle.scene_model.specs.Edits.{IsDirected};
+ghost use Rattle.scene_model.specs.Routing.{floor_of};
+ghost use Rattle.scene_model.specs.Scene.{connectors};
+ghost use Rattle.scene_model.specs.Stale.{AreStale};
+ghost use Rattle.scene_model.specs.World.{given_up, opened, refused, step};
+ghost use Rattle.scene_model.specs.declared.edit.Command.TheVariants as commands;
+ghost use Rattle.scene_model.specs.declared.fault.SceneFault.TheVariants as scene_faults;
+ghost use Rattle.scene_model.specs.declared.fault.SessionFault.TheVariants as faults;
+ghost use Rattle.undo_log.specs.Lending.{gone_back, gone_forth};
+ghost use Rattle.visibility_graph.specs.Meeting.{counted_by as written_by};
+
+use crate::present::Present;
+use crate::scenes::{edits, inverses, scene_after, scene_before};
+use edit_txn::{Txn, TxnParts};
+use nudge_phases::{Nudged, nudge};
+use par_route::Gate;
+use route_book::{Book, Changes};
+use route_search::Tally;
+use scene_store::{Edit, Scene, SceneFault, SessionFault};
+use std::alloc::{AllocError, Global};
+use std::marker::Model;
+use std::thread::Threads;
+use undo_log::{Step, UndoLog};
+use visibility_graph::Graph;
+
+/// A scene that is edited in transactions, with its history and its routes.
+///
+/// Contracts see it as its world (the scenes behind, the present one, those ahead, and the working one of an open
+/// transaction), the answers of its book, the number of searches that it made, and the number of lines and crossings
+/// that its graph was written. The book is always right for the present scene.
+///
+/// After an error no transaction is open, and the scenes, the book and both numbers are as before; after `commit`
+/// wanted memory the two numbers may have risen.
+#[derive(Drop)]
+pub struct Session {
+    present: Present,
+    log: UndoLog<Changes>,
+    txn: Option<Txn>,
+}
+
+impl Model for Session {
+    ghost use Rattle.std.specs.Prelude.{option_map};
+    ghost use Rattle.history_laws.specs.State.{State};
+    ghost use Rattle.route_session.specs.Upheld.{IsUpheld};
+    ghost use Rattle.history_laws.specs.History.{world_of};
+
+    ghost Value = { State };
+
+    ghost view = { λ s. record {
+      world = world_of s.log s.present.scene (option_map (λ t. t.working) s.txn);
+      book = s.present.book;
+      searched = s.present.tally;
+      written = s.present.graph.arena.written;
+    } };
+
+    ghost invariant = { λ s. IsUpheld s.present.scene s.present.graph s.present.book s.log s.txn };
+}
+
+impl Session {
+    /// A session on the scene, with no past and no future, by at most `workers` searches side by side. `searched`
+    /// begins with the number of connectors, `written` with that of the graph's lines and crossings.
+    ///
+    /// The only error is want of memory.
+    pub fn open<R: Threads + Sync, G: Gate>(
+        rt: &R,
+        alloc: Global,
+        scene: Scene,
+        workers: u32,
+        gate: &G,
+    ) -> Result<Session, AllocError>
+        requires some { 1 ≤ workers }
+        requires few { workers ≤ 4 }
+        ensures world { IfOk result (λ s. s.world ≡ opened scene) }
+        ensures right { IfOk result (λ s. AreAnswers scene s.book) }
+        ensures searched { IfOk result (λ s. s.searched ≡ length (connectors scene)) }
+        ensures written { IfOk result (λ s. (a : Arena) × StandsFor (floor_of scene) a × (s.written ≡ len a.lines + len a.crossings)) }
+    {
+        // That the scene is valid is known from here.
+        let _settings = scene.settings();
+        let floor = scene.floor()?;
+        let graph = Graph::build(alloc, &floor)?;
+        let mut tally = Tally::new();
+        let book = Book::build(rt, alloc, &scene, &graph, workers, gate, &mut tally)?;
+        let log = UndoLog::new(alloc)?;
+        let present = Present {
+            alloc,
+            scene,
+            graph,
+            book,
+            tally,
+        };
+        Ok(Session {
+            present,
+            log,
+            txn: None,
+        })
+    }
+
+    /// Opens a transaction. It answers `AlreadyOpen` exactly where one is open, or want of memory.
+    pub fn begin(&mut self) -> Result<(), SessionFault>
+        ensures ok { OnOk result (step commands.Begin self.old.world ≡ Ok self.new.world) }
+        ensures fault { IfErr result (IsFaultOf commands.Begin self.old.world) }
+        ensures err { OnErr result (self.new.world ≡ given_up self.old.world) }
+        ensures book { self.new.book ≡ self.old.book }
+        ensures searched { self.new.searched ≡ self.old.searched }
+        ensures written { self.new.written ≡ self.old.written }
+    {
+        if self.txn.take().is_some() {
+            return Err(SessionFault::AlreadyOpen);
+        }
+        let Ok(txn) = Txn::begin(self.present.alloc, &self.present.scene) else {
+            return Err(SessionFault::Memory);
+        };
+        self.txn = Some(txn);
+        Ok(())
+    }
+
+    /// Does an edit on the working scene. A pin that it adds has a direction.
+    ///
+    /// It answers `NoTransaction` exactly where none is open, else `Edit` with the fault exactly where the working
+    /// scene refuses the edit, or want of memory, which `Edit` never holds.
+    pub fn edit(&mut self, edit: &Edit) -> Result<(), SessionFault>
+        requires { IsDirected edit.now }
+        ensures ok { OnOk result (step (commands.Edit edit.now) self.old.world ≡ Ok self.new.world) }
+        ensures fault { IfErr result (IsFaultOf (commands.Edit edit.now) self.old.world) }
+        ensures err { OnErr result (self.new.world ≡ given_up self.old.world) }
+        ensures memory { result ≢ Err (faults.Edit scene_faults.Memory) }
+        ensures book { self.new.book ≡ self.old.book }
+        ensures searched { self.new.searched ≡ self.old.searched }
+        ensures written { self.new.written ≡ self.old.written }
+    {
+        let Some(mut txn) = self.txn.take() else {
+            return Err(SessionFault::NoTransaction);
+        };
+        txn.apply(edit).map_err(edit_fault)?;
+        self.txn = Some(txn);
+        Ok(())
+    }
+
+    /// Closes the transaction: its working scene is the present one, with right routes. The stale connectors alone
+    /// are searched, by at most `workers` searches side by side.
+    ///
+    /// It answers `NoTransaction` exactly where none is open, or want of memory. It takes all memory before scene,
+    /// book and history change.
+    pub fn commit<R: Threads + Sync, G: Gate>(
+        &mut self,
+        rt: &R,
+        workers: u32,
+        gate: &G,
+    ) -> Result<(), SessionFault>
+        requires some { 1 ≤ workers }
+        requires few { workers ≤ 4 }
+        ensures ok { OnOk result (step commands.Commit self.old.world ≡ Ok self.new.world) }
+        ensures fault { IfErr result (IsFaultOf commands.Commit self.old.world) }
+        ensures err { OnErr result (self.new.world ≡ given_up self.old.world) }
+        ensures right { AreAnswers self.new.world.present self.new.book }
+        ensures book { OnErr result (self.new.book ≡ self.old.book) }
+        ensures searched { OnOk result ((numbers : List ℕ) × AreStale self.old.world.present self.old.book self.new.world.present numbers × (self.new.searched ≡ counted_by (length numbers) self.old.searched)) }
+        ensures written { OnOk result ((n : ℕ) × IsWriteCount (floor_of self.old.world.present) (floor_of self.new.world.present) n × (self.new.written ≡ written_by n self.old.written)) }
+        ensures refused_searched { IsErrOf result faults.NoTransaction → self.new.searched ≡ self.old.searched }
+        ensures refused_written { IsErrOf result faults.NoTransaction → self.new.written ≡ self.old.written }
+        ensures memory_searched { IsErrOf result faults.Memory → (n : ℕ) × (self.new.searched ≡ counted_by n self.old.searched) }
+        ensures memory_written { IsErrOf result faults.Memory → (n : ℕ) × (self.new.written ≡ written_by n self.old.written) }
+    {
+        let Some(txn) = self.txn.take() else {
+            return Err(SessionFault::NoTransaction);
+        };
+        let TxnParts { scene, back, forth } = txn.into_parts();
+        let Ok(mut changes) = self.present.follow(rt, &scene, workers, gate) else {
+            return Err(SessionFault::Memory);
+        };
+        self.present.exchange(scene, &mut changes);
+        self.log.push(Step {
+            back,
+            forth,
+            changes,
+        });
+        Ok(())
+    }
+
+    /// Drops the transaction. It answers `NoTransaction` exactly where none is open, and takes no memory.
+    pub fn abort(&mut self) -> Result<(), SessionFault>
+        ensures ok { OnOk result (step commands.Abort self.old.world ≡ Ok self.new.world) }
+        ensures fault { IfErr result (λ f. step commands.Abort self.old.world ≡ Err (refused f)) }
+        ensures err { OnErr result (self.new.world ≡ given_up self.old.world) }
+        ensures book { self.new.book ≡ self.old.book }
+        ensures searched { self.new.searched ≡ self.old.searched }
+        ensures written { self.new.written ≡ self.old.written }
+    {
+        if self.txn.take().is_none() {
+            return Err(SessionFault::NoTransaction);
+        }
+        Ok(())
+    }
+
+    /// Goes one scene back, with its routes, without a search.
+    ///
+    /// It answers `AlreadyOpen` exactly where a transaction is open, else `NothingToUndo` exactly where the past is
+    /// empty, or want of memory. It takes memory for a copy of the scene, its floor and the plan of the repair alone,
+    /// before anything changes.
+    pub fn undo(&mut self) -> Result<(), SessionFault>
+        ensures ok { OnOk result (step commands.Undo self.old.world ≡ Ok self.new.world) }
+        ensures fault { IfErr result (IsFaultOf commands.Undo self.old.world) }
+        ensures err { OnErr result (self.new.world ≡ given_up self.old.world) }
+        ensures right { AreAnswers self.new.world.present self.new.book }
+        ensures book { OnErr result (self.new.book ≡ self.old.book) }
+        ensures searched { self.new.searched ≡ self.old.searched }
+        ensures written { OnOk result ((n : ℕ) × IsWriteCount (floor_of self.old.world.present) (floor_of self.new.world.present) n × (self.new.written ≡ written_by n self.old.written)) }
+        ensures err_written { OnErr result (self.new.written ≡ self.old.written) }
+    {
+        if self.txn.take().is_some() {
+            return Err(SessionFault::AlreadyOpen);
+        }
+        let Some(step) = self.log.past_step() else {
+            return Err(SessionFault::NothingToUndo);
+        };
+        let Ok(scene) = scene_before(&self.present.scene, inverses(&step.back)) else {
+            return Err(SessionFault::Memory);
+        };
+        let Ok(_repair) = self.present.repair(&scene) else {
+            return Err(SessionFault::Memory);
+        };
+        exchange_back(&mut self.log, &mut self.present, scene);
+        Ok(())
+    }
+
+    /// Goes one scene on, with its routes, without a search.
+    ///
+    /// It answers `AlreadyOpen` exactly where a transaction is open, else `NothingToRedo` exactly where the future is
+    /// empty, or want of memory. It takes memory for a copy of the scene, its floor and the plan of the repair alone,
+    /// before anything changes.
+    pub fn redo(&mut self) -> Result<(), SessionFault>
+        ensures ok { OnOk result (step commands.Redo self.old.world ≡ Ok self.new.world) }
+        ensures fault { IfErr result (IsFaultOf commands.Redo self.old.world) }
+        ensures err { OnErr result (self.new.world ≡ given_up self.old.world) }
+        ensures right { AreAnswers self.new.world.present self.new.book }
+        ensures book { OnErr result (self.new.book ≡ self.old.book) }
+        ensures searched { self.new.searched ≡ self.old.searched }
+        ensures written { OnOk result ((n : ℕ) × IsWriteCount (floor_of self.old.world.present) (floor_of self.new.world.present) n × (self.new.written ≡ written_by n self.old.written)) }
+        ensures err_written { OnErr result (self.new.written ≡ self.old.written) }
+    {
+        if self.txn.take().is_some() {
+            return Err(SessionFault::AlreadyOpen);
+        }
+        let Some(step) = self.log.future_step() else {
+            return Err(SessionFault::NothingToRedo);
+        };
+        let Ok(scene) = scene_after(&self.present.scene, edits(&step.forth)) else {
+            return Err(SessionFault::Memory);
+        };
+        let Ok(_repair) = self.present.repair(&scene) else {
+            return Err(SessionFault::Memory);
+        };
+        exchange_forth(&mut self.log, &mut self.present, scene);
+        Ok(())
+    }
+
+    /// Drops the transaction if one is open. It takes no memory.
+    pub fn give_up(&mut self)
+        ensures world { self.new.world ≡ given_up self.old.world }
+        ensures book { self.new.book ≡ self.old.book }
+        ensures searched { self.new.searched ≡ self.old.searched }
+        ensures written { self.new.written ≡ self.old.written }
+    {
+        self.txn = None;
+    }
+
+    /// Whether a transaction is open.
+    pub fn is_open(&self) -> bool
+        ensures { result ≡ is_some self.now.world.working }
+    {
+        self.txn.is_some()
+    }
+
+    /// The present scene.
+    pub fn scene(&self) -> &Scene
+        ensures scene { result.now ≡ self.now.world.present }
+        ensures right { AreAnswers result.now self.now.book }
+    {
+        &self.present.scene
+    }
+
+    /// The right answers of the present scene.
+    pub fn book(&self) -> &Book
+        ensures book { result.now ≡ self.now.book }
+        ensures right { AreAnswers self.now.world.present result.now }
+    {
+        &self.present.book
+    }
+
+    /// The law that the book is right for the present scene, whatever was called before. It does nothing.
+    pub fn right(&self)
+        ensures { AreAnswers self.now.world.present self.now.book }
+    {
+        let _book = &self.present.book;
+    }
+
+    /// How many searches were made, and 2^64 - 1 where it would be more.
+    pub fn searched(&self) -> u64
+        ensures { result ≡ self.now.searched }
+    {
+        self.present.tally.count()
+    }
+
+    /// How many lines and crossings the graph was written, and 2^64 - 1 where it would be more.
+    pub fn written(&self) -> u64
+        ensures { result ≡ self.now.written }
+    {
+        self.present.graph.arena().written()
+    }
+
+    /// The lines of the present scene's routes, with the solutions of both phases of nudging. Its only error is want
+    /// of memory.
+    pub fn nudged(&self) -> Result<Nudged, AllocError>
+        // The solutions of both phases and the lines are those of the right answers.
+        ensures nudged { IfOk result (λ n. IsNudgedScene self.now.world.present self.now.book n.x_solutions.items n.y_solutions.items n.routes.items) }
+        // Every separation of a phase is met, at its bundle's gap where it links two runs, else at the wanted nudge.
+        ensures apart { IfOk result (λ n. (p : IsNudgedScene self.now.world.present self.now.book n.x_solutions.items n.y_solutions.items n.routes.items) →
+            KeepsApart p.nudged.x × KeepsApart p.nudged.y) }
+        // Every line is a legal walk of its connector, with the choices of its route.
+        ensures legal { IfOk result (λ n. AreLegalLines self.now.world.present self.now.book n.routes.items) }
+        // One line for each answer with a route, in order.
+        ensures edges { IfOk result (λ n. map (λ l. l.edge) n.routes.items ≡ map (λ p. p.0) (routed self.now.book)) }
+    {
+        let present = &self.present;
+        nudge(present.alloc, &present.scene, present.book.answers())
+    }
+
+    /// The session's tally, whose count is `searched`. It drops the rest, and takes no memory.
+    pub fn into_tally(self) -> Tally
+        ensures { result ≡ self.searched }
+    {
+        let Session { present, .. } = self;
+        let Present { tally, .. } = present;
+        tally
+    }
+}
+
+/// Moves the latest step ahead, with its answers in the book and the scene before it as the present one.
+fn exchange_back(log: &mut UndoLog<Changes>, present: &mut Present, scene: Scene)
+    requires some { IsSome (slice_get log.old.past 0) }
+    requires here { IfSome (slice_get log.old.past 0) (λ t. t.changes.here ≡ present.old.book) }
+    ensures log { IfSome (slice_get log.old.past 0) (λ t. log.new ≡ gone_back log.old (turned_step t)) }
+    ensures book { IfSome (slice_get log.old.past 0) (λ t. present.new.book ≡ t.changes.there) }
+    ensures scene { present.new.scene ≡ scene }
+    ensures graph { present.new.graph ≡ present.old.graph }
+    ensures tally { present.new.tally ≡ present.old.tally }
+{
+    if let Some(step) = log.go_back() {
+        present.exchange(scene, &mut step.changes);
+    }
+}
+
+/// Moves the next step behind, with its answers in the book and the scene after it as the present one.
+fn exchange_forth(log: &mut UndoLog<Changes>, present: &mut Present, scene: Scene)
+    requires some { IsSome (slice_get log.old.future 0) }
+    requires here { IfSome (slice_get log.old.future 0) (λ t. t.changes.here ≡ present.old.book) }
+    ensures log { IfSome (slice_get log.old.future 0) (λ t. log.new ≡ gone_forth log.old (turned_step t)) }
+    ensures book { IfSome (slice_get log.old.future 0) (λ t. present.new.book ≡ t.changes.there) }
+    ensures scene { present.new.scene ≡ scene }
+    ensures graph { present.new.graph ≡ present.old.graph }
+    ensures tally { present.new.tally ≡ present.old.tally }
+{
+    if let Some(step) = log.go_forth() {
+        present.exchange(scene, &mut step.changes);
+    }
+}
+
+/// The fault of an edit, but want of memory by itself.
+fn edit_fault(fault: SceneFault) -> SessionFault
+    ensures memory { fault ≡ scene_faults.Memory → result ≡ faults.Memory }
+    ensures other { fault ≢ scene_faults.Memory → result ≡ faults.Edit fault }
+{
+    match fault {
+        SceneFault::Memory => SessionFault::Memory,
+        _ => SessionFault::Edit(fault),
+    }
+}
