@@ -1,0 +1,11 @@
+-- The lemmas of this crate.
+pub mod Places
+pub mod PairLists
+pub mod Walks
+pub mod LinesPut
+pub mod Looking
+pub mod KeptParts
+pub mod Numerals
+pub mod Fitting
+pub mod Printable
+pub mod OriginsKept

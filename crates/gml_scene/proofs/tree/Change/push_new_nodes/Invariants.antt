@@ -1,0 +1,13 @@
+-- The new nodes so far are written, and those that are left go behind them.
+use Rattle.std.proofs.Common.{◌≡◌, ◌-◌, length, drop}
+use Rattle.gml_text.specs.Tree.{◌then◌}
+use Rattle.gml_text.specs.View.{pairs}
+use Rattle.gml_scene.specs.Tree.{new_nodes}
+use Rattle.gml_scene.proofs.tree.Change.push_new_nodes.Given as goal
+
+abbrev pub invariant-loop-node : goal.invariant-loop-node
+invariant-loop-node l =
+    pairs l.fn.out.items then new_nodes l.self.scene.now.nodes ≡ pairs l.out.items then new_nodes (drop l.index l.self.scene.now.nodes)
+
+abbrev pub decreases-loop-node : goal.decreases-loop-node
+decreases-loop-node l = length l.self.scene.now.nodes - l.index

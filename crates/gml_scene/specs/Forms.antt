@@ -1,0 +1,95 @@
+-- The forms of what is written: numbers, points, lines, pins, settings, and whole nodes and edges.
+use Rattle.std.specs.Prelude.{ℕ, ◌==◌, ℤ, pos, ◌*ℤ◌, List, codes, decimal, Option, Some, None, if◌then◌else◌}
+use Rattle.std.specs.Ordering.{int_eq}
+use Rattle.std.specs.Fmt.{signed_decimal}
+use Rattle.plane_geom.specs.declared.point.Point.{Point}
+use Rattle.fixed_milli.specs.Milli.{milli_text}
+use Rattle.gml_text.specs.Tree.{Content, number, text, list, Pairs, no_pairs, ◌then◌}
+use Rattle.scene_model.specs.declared.node.Node.{Node}
+use Rattle.scene_model.specs.declared.edge.Edge.{Edge}
+use Rattle.scene_model.specs.declared.pin.Pin.{Pin}
+use Rattle.scene_model.specs.declared.settings.Settings.{Settings}
+use Rattle.scene_model.specs.Letters.{letters}
+use Rattle.gml_scene.specs.Changes.{one, all_of}
+
+-- a length in units, with three digits behind the point
+abbrev pub length_of : ℤ → Content
+length_of z = number (milli_text z)
+
+-- a class as a plain whole number
+abbrev pub class_of : ℕ → Content
+class_of class = number (decimal class)
+
+-- an id, in the same way
+abbrev pub id_of : ℤ → Content
+id_of id = number (signed_decimal id)
+
+-- the two coordinates of a point
+abbrev pub point_pairs : Point → Pairs
+point_pairs p = one (codes "x") (length_of p.x) then one (codes "y") (length_of p.y)
+
+-- what a cost adds to a pin's pairs: nothing where it is 0
+abbrev pub cost_pairs : ℤ → Pairs
+cost_pairs cost = if int_eq cost (pos 0) then no_pairs else one (codes "cost") (length_of cost)
+
+abbrev pub pin_pairs : Pin → Pairs
+pin_pairs p =
+    one (codes "class") (class_of p.class)
+    then (one (codes "x") (length_of p.dx)
+    then (one (codes "y") (length_of p.dy)
+    then (one (codes "dirs") (text (letters p.dirs))
+    then cost_pairs p.cost)))
+
+abbrev pub pin_pair : Pin → Pairs
+pin_pair p = one (codes "pin") (list (pin_pairs p))
+
+abbrev pub via_pair : Point → Pairs
+via_pair p = one (codes "via") (list (point_pairs p))
+
+abbrev pub line_point : Point → Pairs
+line_point p = one (codes "point") (list (point_pairs p))
+
+-- a line holds its points and nothing else
+abbrev pub line_content : List Point → Content
+line_content points = list (all_of line_point points)
+
+-- the `graphics` of an edge that had none: the line, if there is one
+abbrev pub line_pairs : Option (List Point) → Pairs
+line_pairs None = no_pairs
+line_pairs (Some points) = one (codes "graphics") (list (one (codes "Line") (line_content points)))
+
+-- centre and size
+abbrev pub box_pairs : Node → Pairs
+box_pairs n =
+    one (codes "x") (length_of n.x)
+    then (one (codes "y") (length_of n.y)
+    then (one (codes "w") (length_of (pos 2 *ℤ n.half_w))
+    then one (codes "h") (length_of (pos 2 *ℤ n.half_h))))
+
+abbrev pub node_pairs : Node → Pairs
+node_pairs n = one (codes "id") (id_of n.id) then (one (codes "graphics") (list (box_pairs n)) then all_of pin_pair n.pins)
+
+abbrev pub node_pair : Node → Pairs
+node_pair n = one (codes "node") (list (node_pairs n))
+
+-- a class of an edge's end; nothing where it is 0
+abbrev pub class_pairs : List ℕ → ℕ → Pairs
+class_pairs key class = if class == 0 then no_pairs else one key (class_of class)
+
+abbrev pub edge_pairs : Option (List Point) → Edge → Pairs
+edge_pairs line e =
+    one (codes "source") (id_of e.from)
+    then (one (codes "target") (id_of e.to)
+    then (class_pairs (codes "sourcePin") e.from_class
+    then (class_pairs (codes "targetPin") e.to_class
+    then (all_of via_pair e.via
+    then line_pairs line))))
+
+abbrev pub edge_pair : Option (List Point) → Edge → Pairs
+edge_pair line e = one (codes "edge") (list (edge_pairs line e))
+
+abbrev pub settings_pairs : Settings → Pairs
+settings_pairs t =
+    one (codes "penalty") (length_of t.penalty)
+    then (one (codes "buffer") (length_of t.buffer)
+    then one (codes "nudge") (length_of t.nudge))

@@ -1,0 +1,7 @@
+-- The definitions that contracts cite.
+pub mod Changes
+pub mod Forms
+pub mod Nodes
+pub mod Edges
+pub mod Tree
+pub mod Origins
