@@ -1,0 +1,7 @@
+-- What is told so far, and the replies that are left, give the whole.
+use Rattle.std.proofs.Common.{◌≡◌, ◌++◌, drop}
+use Rattle.report_text.specs.Replies.{reply_lines}
+use Rattle.report_text.proofs.reply.push_reply_lines.Given as goal
+
+abbrev pub invariant-loop-reply : goal.invariant-loop-reply
+invariant-loop-reply l = l.out.items ++ reply_lines l.count (drop l.reply-index l.replies) ≡ l.fn.out.items ++ reply_lines l.count l.replies

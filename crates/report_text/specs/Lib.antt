@@ -1,0 +1,8 @@
+-- The lines of outputs.
+pub mod Lines
+pub mod Files
+pub mod Faults
+pub mod Findings
+pub mod Routed
+pub mod Refusals
+pub mod Replies

@@ -1,0 +1,94 @@
+//! What the report of a replay says of the opening, of each command and of the end of the script.
+ghost use Rattle.std.specs.Prelude.{◌≡◌, ◌++◌, OnOk, true};
+ghost use Rattle.report_text.specs.Replies.{end_line, open_line, reply_lines, reply_text};
+
+use crate::number::push_numbered;
+use crate::refusal::{Refusal, push_refusal};
+use std::alloc::AllocError;
+
+/// What comes of a command.
+#[derive(Clone, Copy, Debug, PartialEq, Eq)]
+pub enum Reply {
+    /// It is done, and searches nothing.
+    Kept,
+    /// It is a commit, an undo or a redo, is done, and searched so many connectors.
+    Searched(u64),
+    /// It is refused.
+    Refused(Refusal),
+}
+
+/// What comes of the command on this line of the script, counted from 1.
+#[derive(Clone, Copy, Debug, PartialEq, Eq)]
+pub struct LineReply {
+    pub line: u64,
+    pub reply: Reply,
+}
+
+/// Appends the line of the opening, which searched so many connectors; only where searches are told.
+pub fn push_open_line(out: &mut Vec<u8>, count: bool, searched: u64) -> Result<(), AllocError>
+    ensures { OnOk result (out.new.items ≡ out.old.items ++ open_line count searched) }
+{
+    if !count {
+        return Ok(());
+    }
+    push_numbered(out, b"# open: searched ", searched)?;
+    out.push(b'\n')?;
+    Ok(())
+}
+
+/// Appends the lines of commands: of those that are refused, and where searches are told of those that searched.
+pub fn push_reply_lines(
+    out: &mut Vec<u8>,
+    count: bool,
+    replies: &[LineReply],
+) -> Result<(), AllocError>
+    ensures { OnOk result (out.new.items ≡ out.old.items ++ reply_lines count replies.now) }
+{
+    for reply in replies {
+        push_reply(out, count, reply)?;
+    }
+    Ok(())
+}
+
+fn push_reply(out: &mut Vec<u8>, count: bool, reply: &LineReply) -> Result<(), AllocError>
+    ensures { OnOk result (out.new.items ≡ out.old.items ++ reply_text count reply.now.line reply.now.reply) }
+{
+    match &reply.reply {
+        Reply::Kept => Ok(()),
+        Reply::Searched(searched) if count => push_searched(out, reply.line, *searched),
+        Reply::Searched(_) => Ok(()),
+        Reply::Refused(why) => push_refused(out, reply.line, why),
+    }
+}
+
+fn push_searched(out: &mut Vec<u8>, line: u64, searched: u64) -> Result<(), AllocError>
+    ensures { OnOk result (out.new.items ≡ out.old.items ++ reply_text true line (Reply.Searched searched)) }
+{
+    push_numbered(out, b"# line ", line)?;
+    push_numbered(out, b": searched ", searched)?;
+    out.push(b'\n')?;
+    Ok(())
+}
+
+fn push_refused(out: &mut Vec<u8>, line: u64, why: &Refusal) -> Result<(), AllocError>
+    ensures { OnOk result (out.new.items ≡ out.old.items ++ reply_text true line (Reply.Refused why.now)) }
+{
+    push_numbered(out, b"# line ", line)?;
+    out.extend_from_slice(b": ")?;
+    push_refusal(out, why)?;
+    out.push(b'\n')?;
+    Ok(())
+}
+
+/// Appends the line of a transaction that is still open at the end of the script, if one is.
+pub fn push_end_line(out: &mut Vec<u8>, open_still: bool) -> Result<(), AllocError>
+    ensures { OnOk result (out.new.items ≡ out.old.items ++ end_line open_still) }
+{
+    if !open_still {
+        return Ok(());
+    }
+    out.extend_from_slice(b"# end: ")?;
+    push_refusal(out, &Refusal::Unfinished)?;
+    out.push(b'\n')?;
+    Ok(())
+}

@@ -1,0 +1,54 @@
+//! What the report of a replay says of the routes at its end.
+ghost use Rattle.std.specs.Prelude.{◌≡◌, ◌++◌, OnOk};
+ghost use Rattle.report_text.specs.Routed.{routed_line, routed_lines, routed_text};
+
+use crate::number::{push_cost, push_numbered};
+use std::alloc::AllocError;
+
+/// How an edge is routed.
+#[derive(Clone, Copy, Debug, PartialEq, Eq)]
+pub enum Routed {
+    /// The edge leads from a node to itself, and has no route.
+    Loop,
+    /// No walk is legal.
+    NoRoute,
+    /// The cost of the first legal walk.
+    Cost(u64),
+}
+
+/// How the edge with this number is routed.
+#[derive(Clone, Copy, Debug, PartialEq, Eq)]
+pub struct EdgeRouted {
+    pub edge: u32,
+    pub routed: Routed,
+}
+
+/// Appends one line for each edge.
+pub fn push_routed_lines(out: &mut Vec<u8>, edges: &[EdgeRouted]) -> Result<(), AllocError>
+    ensures { OnOk result (out.new.items ≡ out.old.items ++ routed_lines edges.now) }
+{
+    for edge in edges {
+        push_routed_line(out, edge)?;
+    }
+    Ok(())
+}
+
+fn push_routed_line(out: &mut Vec<u8>, edge: &EdgeRouted) -> Result<(), AllocError>
+    ensures { OnOk result (out.new.items ≡ out.old.items ++ routed_line edge.now) }
+{
+    push_numbered(out, b"# edge ", u64::from(edge.edge))?;
+    out.extend_from_slice(b": ")?;
+    push_routed(out, &edge.routed)?;
+    out.push(b'\n')?;
+    Ok(())
+}
+
+fn push_routed(out: &mut Vec<u8>, routed: &Routed) -> Result<(), AllocError>
+    ensures { OnOk result (out.new.items ≡ out.old.items ++ routed_text routed.now) }
+{
+    match *routed {
+        Routed::Loop => out.extend_from_slice(b"loop"),
+        Routed::NoRoute => out.extend_from_slice(b"no route"),
+        Routed::Cost(cost) => push_cost(out, cost),
+    }
+}
