@@ -1,0 +1,9 @@
+-- Lemmas on the words and on what clap makes of them.
+pub mod Built
+pub mod Commands
+pub mod Looks
+pub mod Numbers
+pub mod Rows
+pub mod Turns
+pub mod Walks
+pub mod Shown

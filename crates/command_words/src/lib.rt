@@ -1,0 +1,13 @@
+//! The words of the command line, and what they ask for.
+#![tactic(auto)]
+
+mod form;
+mod matches;
+mod read;
+mod values;
+
+pub use form::Form;
+pub use read::read_words;
+
+#[cfg(test)]
+mod tests;

@@ -1,0 +1,15 @@
+use Rattle.std.proofs.Common.{refl}
+use Rattle.made_input.specs.Draws.{state_after}
+use Rattle.made_input.proofs.laws.first_draw_of_one.Goals as goal
+
+pub returns-clause-state : goal.returns-clause-state
+unfolding state_after
+returns-clause-state c = refl
+
+pub returns-clause-quotient : goal.returns-clause-quotient
+unfolding state_after
+returns-clause-quotient c = refl
+
+pub returns-clause-draw : goal.returns-clause-draw
+unfolding state_after
+returns-clause-draw c = refl

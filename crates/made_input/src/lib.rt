@@ -1,0 +1,18 @@
+//! The scene, and the commands on it, that are made from a number.
+//!
+//! Coordinates and sizes are whole thousandths of a GML unit.
+#![tactic(auto)]
+
+mod commands;
+mod draws;
+mod laws;
+mod scene;
+mod summary;
+
+pub use commands::made_commands;
+pub use laws::first_draw_of_one;
+pub use scene::made_scene;
+pub use summary::Summary;
+
+#[cfg(test)]
+mod tests;
