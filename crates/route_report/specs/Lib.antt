@@ -1,0 +1,4 @@
+-- What is written of a replay.
+pub mod Report
+pub mod Routes
+pub mod Diagram

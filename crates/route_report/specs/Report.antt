@@ -1,0 +1,46 @@
+-- The report of a replay.
+use Rattle.std.specs.Prelude.{ℕ, Bool, true, false, ◌||◌, List, ◌++◌, map, Option, Some, None, is_some, option_and_then, if◌then◌else◌}
+use Rattle.std.specs.List.{list_any}
+use Rattle.walk_model.specs.declared.route.Answer.{Answer}
+use Rattle.walk_model.specs.declared.route.Route.{Route}
+use Rattle.scene_model.specs.declared.edge.Edge.{Edge}
+use Rattle.scene_model.specs.Scene.{Scene, is_loop}
+use Rattle.scene_model.specs.Stale.{answer_of}
+use Rattle.scene_model.specs.World.{World}
+use Rattle.report_text.specs.declared.reply.Reply.{Reply}
+use Rattle.report_text.specs.declared.reply.Reply.TheVariants.{Kept, Searched, Refused}
+use Rattle.report_text.specs.declared.reply.LineReply.{LineReply}
+use Rattle.report_text.specs.declared.routed.Routed.{Routed}
+use Rattle.report_text.specs.declared.routed.Routed.TheVariants.{Loop, NoRoute, Cost}
+use Rattle.report_text.specs.declared.routed.EdgeRouted.{EdgeRouted}
+use Rattle.report_text.specs.Replies.{open_line, reply_lines, end_line}
+use Rattle.report_text.specs.Routed.{routed_lines}
+
+-- how a connector is routed that has this route, if it has one
+abbrev pub told_route : Option Route → Routed
+told_route None = NoRoute
+told_route (Some route) = Cost route.cost
+
+-- how an edge is routed, by the answers
+abbrev pub routed_by : List Answer → Edge → Routed
+routed_by answers e = if is_loop e then Loop else told_route (option_and_then (λ a. a.route) (answer_of answers e.number))
+
+-- how each edge of the scene is routed, in order
+abbrev pub edges_routed : Scene → List Answer → List EdgeRouted
+edges_routed s answers = map (λ e. record { edge = e.number; routed = routed_by answers e }) s.edges
+
+-- the lines on the opening with so many searches, on the commands, on the end of the script, and on the edges
+abbrev pub report : Bool → ℕ → List LineReply → World → List Answer → List ℕ
+report count opening replies end answers =
+    open_line count opening ++ reply_lines count replies
+    ++ end_line (is_some end.working) ++ routed_lines (edges_routed end.present answers)
+
+-- a command was refused
+abbrev pub is_refused : Reply → Bool
+is_refused (Refused why) = true
+is_refused Kept = false
+is_refused (Searched searched) = false
+
+-- something was refused: a command, or the end of the script in an open transaction
+abbrev pub has_refusal : List LineReply → World → Bool
+has_refusal replies end = list_any (λ r. is_refused r.reply) replies || is_some end.working

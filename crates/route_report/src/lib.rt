@@ -1,0 +1,12 @@
+//! Scripts on diagrams: what is written of a replay.
+#![tactic(auto)]
+
+mod laws;
+mod report;
+mod script;
+
+pub use laws::replays_come_to_one;
+pub use script::{Options, Routing, route};
+
+#[cfg(test)]
+mod tests;
