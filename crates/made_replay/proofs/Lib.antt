@@ -1,0 +1,5 @@
+-- The lemmas on made scenes, callees first.
+pub mod Bends
+pub mod Summing
+pub mod Script
+pub mod OneOutput

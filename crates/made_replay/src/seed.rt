@@ -1,0 +1,56 @@
+//! The replay of what is made from a number.
+ghost use Rattle.std.specs.Prelude.{◌≡◌, IfOk, string_bytes};
+ghost use Rattle.made_replay.specs.Makes.{Makes, numbered_from};
+
+use crate::sums::summed;
+use made_input::{made_commands, made_scene};
+use par_route::Gate;
+use route_replay::replay;
+use route_search::Tally;
+use scene_model::Command;
+use std::alloc::{AllocError, Global};
+use std::thread::Threads;
+
+/// What came of a number.
+#[derive(Drop)]
+pub struct Made {
+    /// The seven lines of the summary.
+    pub text: String,
+    /// The searches that were made.
+    pub tally: Tally,
+}
+
+/// The commands with numbers from 1 on. Its only error is want of memory.
+fn numbered(alloc: Global, commands: &[Command]) -> Result<Vec<(usize, Command)>, AllocError>
+    ensures { IfOk result (λ r. r.items ≡ numbered_from 1 commands.now) }
+{
+    let mut numbered = Vec::new(alloc);
+    for (place, &command) in commands.iter().enumerate() {
+        numbered.push((place + 1, command))?;
+    }
+    Ok(numbered)
+}
+
+/// Makes a scene and commands from the seed, replays the commands on the scene by one worker, and sums up the routes
+/// at the end. The only error is want of memory.
+pub fn make<R: Threads + Sync, G: Gate>(
+    rt: &R,
+    alloc: Global,
+    seed: u64,
+    gate: &G,
+) -> Result<Made, AllocError>
+    ensures { IfOk result (λ m. Makes seed (string_bytes m.text) m.tally) }
+{
+    let scene = made_scene(alloc, seed)?;
+    let script = numbered(alloc, &made_commands(alloc, seed)?)?;
+    let session = replay(rt, alloc, scene, &script, 1, gate)?.session;
+    let summary = summed(
+        session.scene(),
+        session.book().answers(),
+        session.searched(),
+    );
+    Ok(Made {
+        text: summary.text(alloc)?,
+        tally: session.into_tally(),
+    })
+}
