@@ -1,10 +1,11 @@
-//! The program: `reroute check FILE` says of each line of a diagram what it costs or which rule it breaks.
+//! The program: `reroute check FILE`, `reroute route FILE FILE` and `reroute make SEED`.
 #![tactic(auto)]
 
 mod words;
 
 use host_edge::{DiskFolder, StdSink};
 use reroute_app::{Status, run};
+use route_search::Tally;
 use std::process::ExitCode;
 use words::all_words;
 
@@ -13,7 +14,8 @@ fn main(rt: HostRuntime) -> ExitCode {
     let status = match all_words(&rt, alloc) {
         Ok(words) => {
             let mut folder = DiskFolder::new(alloc, &rt);
-            run(alloc, &words, &mut folder, &mut StdSink::new(&rt))
+            let mut out = StdSink::new(&rt);
+            run(&rt, alloc, &words, &mut folder, &mut out, &mut Tally::new())
         }
         Err(_) => Status::NoMemory,
     };

@@ -1,88 +1,95 @@
 -- For given words, told files and notes there is one outcome.
-use Rattle.std.proofs.Common.{◌≡◌, ℕ, true, false, List, [], ◌∷◌, Option, Result, refl, sym, ap, subst, ◌∙◌, map, All}
-use Rattle.std.specs.Prelude.{IsSome}
+use Rattle.std.proofs.Common.{◌≡◌, ℕ, Bool, true, false, List, [], ◌∷◌, Option, Some, None, Result, Ok, Err, refl, sym, ap, subst, ◌∙◌}
+use Rattle.std.specs.Prelude.{IsSome, if◌then◌else◌}
 use Rattle.std.specs.List.{AllZip}
+use Rattle.plane_geom.specs.declared.point.Point.{Point}
 use Rattle.host_edge.specs.Folder.{ToldFiles}
 use Rattle.host_edge.specs.Note.{Note}
-use Rattle.walk_model.specs.declared.task.Task.{Task}
-use Rattle.walk_model.specs.Legal.{IsTask}
-use Rattle.route_check.specs.declared.verdict.Breach.{Breach}
-use Rattle.route_check.specs.Verdict.{IsVerdict}
-use Rattle.route_check.proofs.Verdicts as verdicts
-use Rattle.reroute_app.specs.declared.diagram.Node.{Node}
-use Rattle.reroute_app.specs.declared.diagram.Edge.{Edge}
-use Rattle.reroute_app.specs.Diagram.{node_with, choices, solid, IsSmall, IsTaskOf}
-use Rattle.reroute_app.specs.Verdict.{IsEdgeVerdict}
-use Rattle.reroute_app.specs.Outcome.{NotUnderstood, ReadFault, TooLong, NotPlain, Checked, HasOneOutcome}
-use Rattle.reroute_app.proofs.Tasks.{IsTask-leads}
-use Rattle.reroute_app.proofs.Nodes.{IsSmall-found}
-use Rattle.reroute_app.proofs.PlainSizes.{nodes_small}
-use Rattle.reroute_app.proofs.Outcomes.{no_diagram, not_failed, not_too_long, same_note, same_plain, same_some}
+use Rattle.gml_text.specs.Tree.{Pairs}
+use Rattle.scene_model.specs.declared.edge.Edge.{Edge}
+use Rattle.scene_model.specs.Scene.{Scene, is_loop}
+use Rattle.scene_model.specs.Routing.{solids, task_of}
+use Rattle.route_check.proofs.Verdicts.{one_verdict}
+use Rattle.diagram_read.specs.declared.fault.DiagramFault.{DiagramFault}
+use Rattle.diagram_read.specs.Lines.{line_of}
+use Rattle.diagram_read.specs.Scene.{scene_of}
+use Rattle.report_text.specs.declared.finding.Finding.{Finding}
+use Rattle.report_text.specs.declared.finding.Finding.TheVariants.{Loop, Judged}
+use Rattle.report_text.specs.declared.finding.EdgeFinding.{EdgeFinding}
+use Rattle.report_text.specs.Findings.{finding_lines}
+use Rattle.edit_script.specs.Script.{commands}
+use Rattle.edit_script.proofs.Directed.{have_directions}
+use Rattle.route_report.specs.Routes.{ComesToOne}
+use Rattle.made_replay.specs.Makes.{SeedsComeToOne}
+use Rattle.command_words.specs.Words.{Form, check, route, make, form_of}
+use Rattle.reroute_app.specs.declared.status.Status.TheVariants.{Done}
+use Rattle.reroute_app.specs.Outcome.{Outcome, Ends, unsearched}
+use Rattle.reroute_app.specs.Reads.{ReadsFile}
+use Rattle.reroute_app.specs.Check.{IsFinding, IsFindingOf, IsLineFinding, first_line_fault, status_of, SaysFindings, ChecksUnless, Checks}
+use Rattle.reroute_app.specs.Replay.{most_script_bytes, replay_status, Replays}
+use Rattle.reroute_app.specs.Make.{Summarizes}
+use Rattle.reroute_app.specs.Run.{IsFormOutcome, HasOneOutcome}
+use Rattle.reroute_app.proofs.Courses.{IsCourse, course_ends, course_ends_with, course_file, course_diagram}
+use Rattle.reroute_app.proofs.ReadScenes.{scene_valid}
 
-same_task : (t u : Task) → t.starts ≡ u.starts → t.ends ≡ u.ends → t.via ≡ u.via → t.penalty ≡ u.penalty → t ≡ u
-same_task t u starts ends via penalty = λ i. record { starts = starts i; ends = ends i; via = via i; penalty = penalty i }
+one_line_finding : (s : Scene) (e : Edge) (r : Result (Option (List Point)) DiagramFault) (f g : Finding) → IsLineFinding s e r f → IsLineFinding s e r g → f ≡ g
+one_line_finding s e (Ok None) f g a b = a ∙ sym b
+one_line_finding s e (Ok (Some points)) f g a b =
+    a.finding ∙ ap Judged (one_verdict (solids s) (task_of s e) points a.task a.verdict b.verdict a.is_verdict b.is_verdict) ∙ sym b.finding
+one_line_finding s e (Err fault) f g a b = absurd a
 
-module _ (nodes : List Node) (small : All IsSmall nodes) where
-  one_task : (e : Edge) (t u : Task) → IsTaskOf nodes e t → IsTaskOf nodes e u → t ≡ u
-  one_task e t u a b =
-      let source = same_some (node_with nodes e.source) a.source b.source a.is_source b.is_source in
-      let target = same_some (node_with nodes e.target) a.target b.target a.is_target b.is_target in
-      same_task t u
-      (a.leads.starts ∙ ap choices source ∙ sym b.leads.starts)
-      (a.leads.ends ∙ ap choices target ∙ sym b.leads.ends)
-      (a.leads.via ∙ sym b.leads.via)
-      (a.leads.penalty ∙ sym b.leads.penalty)
+same_finding : (f g : EdgeFinding) → f.edge ≡ g.edge → f.finding ≡ g.finding → f ≡ g
+same_finding f g edge finding = λ i. record { edge = edge i; finding = finding i }
 
-  is_task : (e : Edge) (t : Task) → IsTaskOf nodes e t → IsTask t
-  is_task e t a =
-      let source = IsSmall-found nodes e.source a.source small (sym a.is_source) in
-      let target = IsSmall-found nodes e.target a.target small (sym a.is_target) in
-      IsTask-leads t a.source a.target source target a.leads
+pub one_finding : (tree : Pairs) (s : Scene) (e : Edge) (f g : EdgeFinding) → IsFinding tree s e f → IsFinding tree s e g → f ≡ g
+one_finding tree s e f g a b = same_finding f g (a.edge ∙ sym b.edge) (by (is_loop e) a.finding b.finding)
+  where
+    by : (loop : Bool) → IsFindingOf loop s e (line_of tree e) f.finding → IsFindingOf loop s e (line_of tree e) g.finding
+        → f.finding ≡ g.finding
+    by true p q = p ∙ sym q
+    by false p q = one_line_finding s e (line_of tree e) f.finding g.finding p q
 
-  one_verdict : (e : Edge) (v u : Result ℕ Breach) → IsEdgeVerdict nodes e v → IsEdgeVerdict nodes e u → v ≡ u
-  one_verdict e v u a b =
-      let same = one_task e b.task a.task b.asked a.asked in
-      verdicts.one_verdict (map solid nodes) a.task e.line (is_task e a.task a.asked) v u a.is_verdict
-      (subst (λ (t : Task). IsVerdict (map solid nodes) t e.line u) same b.is_verdict)
+one_list : (tree : Pairs) (s : Scene) (es : List Edge) (fs gs : List EdgeFinding) → AllZip (IsFinding tree s) es fs → AllZip (IsFinding tree s) es gs → fs ≡ gs
+one_list tree s [] [] [] a b = refl
+one_list tree s [] [] (g ∷ gs) a b = absurd b
+one_list tree s [] (f ∷ fs) gs a b = absurd a
+one_list tree s (e ∷ es) [] gs a b = absurd a
+one_list tree s (e ∷ es) (f ∷ fs) [] a b = absurd b
+one_list tree s (e ∷ es) (f ∷ fs) (g ∷ gs) a b =
+    let first = one_finding tree s e f g a.0 b.0 in
+    let rest = one_list tree s es fs gs a.1 b.1 in
+    λ i. first i ∷ rest i
 
-  one_list : (edges : List Edge) (vs us : List (Result ℕ Breach)) → AllZip (IsEdgeVerdict nodes) edges vs → AllZip (IsEdgeVerdict nodes) edges us → vs ≡ us
-  one_list [] [] [] a b = refl
-  one_list [] [] (u ∷ us) a b = absurd b
-  one_list [] (v ∷ vs) us a b = absurd a
-  one_list (e ∷ es) [] us a b = absurd a
-  one_list (e ∷ es) (v ∷ vs) [] a b = absurd b
-  one_list (e ∷ es) (v ∷ vs) (u ∷ us) a b =
-      let first = one_verdict e v u a.0 b.0 in
-      let rest = one_list es vs us a.1 b.1 in
-      λ i. first i ∷ rest i
+one_said : (tree : Pairs) (s : Scene) (a b : Outcome) → SaysFindings tree s a → SaysFindings tree s b → a ≡ b
+one_said tree s a b p q =
+    p.outcome ∙ ap (λ fs. unsearched (status_of fs) (finding_lines fs)) (one_list tree s s.edges p.findings q.findings p.found q.found) ∙ sym q.outcome
 
-module _ (words : List (List ℕ)) (files : Option ToldFiles) (old new : List Note) (some : IsSome files) where
-  pub one_outcome : HasOneOutcome words files old new
-  one_outcome NotUnderstood NotUnderstood a b = refl
-  one_outcome NotUnderstood (ReadFault n) a b = absurd (a.0 n b.1.form)
-  one_outcome NotUnderstood (TooLong n) a b = absurd (a.0 n b.0.2.form)
-  one_outcome NotUnderstood NotPlain a b = absurd (a.0 b.read.name b.read.asked.form)
-  one_outcome NotUnderstood (Checked us) a b = absurd (a.0 b.read.read.name b.read.read.asked.form)
-  one_outcome (ReadFault m) (ReadFault n) a b = ap ReadFault (same_note words old new m n a.0 b.0 true true a.1 b.1).name
-  one_outcome (ReadFault m) (TooLong n) a b = let same = (same_note words old new m n a.0 b.0.0 true false a.1 b.0.2).failed in absurd cc
-  one_outcome (ReadFault m) NotPlain a b = absurd (not_failed words files old new b.bytes m b.read a)
-  one_outcome (ReadFault m) (Checked us) a b = absurd (not_failed words files old new b.read.bytes m b.read.read a)
-  one_outcome (TooLong m) (TooLong n) a b = ap TooLong (same_note words old new m n a.0.0 b.0.0 false false a.0.2 b.0.2).name
-  one_outcome (TooLong m) NotPlain a b = absurd (not_too_long words files old new b.bytes m b.read a.0)
-  one_outcome (TooLong m) (Checked us) a b = absurd (not_too_long words files old new b.read.bytes m b.read.read a.0)
-  one_outcome NotPlain NotPlain a b = refl
-  one_outcome NotPlain (Checked us) a b = absurd (no_diagram words files old new some b.nodes b.edges b.read a)
-  one_outcome (Checked vs) (Checked us) a b =
-      let same = same_plain words files old new some b.nodes a.nodes b.edges a.edges b.read a.read in
-      let zipped : AllZip (IsEdgeVerdict a.nodes) a.edges us = rw (sym same.0, sym same.1) b.zipped in
-      ap Checked (one_list a.nodes (nodes_small a.read.bytes a.nodes a.edges a.read.plain.spelled) a.edges vs us a.zipped zipped)
-  one_outcome (ReadFault m) NotUnderstood a b = absurd (b.0 m a.1.form)
-  one_outcome (TooLong m) NotUnderstood a b = absurd (b.0 m a.0.2.form)
-  one_outcome NotPlain NotUnderstood a b = absurd (b.0 a.read.name a.read.asked.form)
-  one_outcome (Checked vs) NotUnderstood a b = absurd (b.0 a.read.read.name a.read.read.asked.form)
-  one_outcome (TooLong m) (ReadFault n) a b = let same = (same_note words old new n m b.0 a.0.0 true false b.1 a.0.2).failed in absurd cc
-  one_outcome NotPlain (ReadFault n) a b = absurd (not_failed words files old new a.bytes n a.read b)
-  one_outcome (Checked vs) (ReadFault n) a b = absurd (not_failed words files old new a.read.bytes n a.read.read b)
-  one_outcome NotPlain (TooLong n) a b = absurd (not_too_long words files old new a.bytes n a.read b.0)
-  one_outcome (Checked vs) (TooLong n) a b = absurd (not_too_long words files old new a.read.bytes n a.read.read b.0)
-  one_outcome (Checked vs) NotPlain a b = absurd (no_diagram words files old new some a.nodes a.edges a.read b)
+one_check : (tree : Pairs) (s : Scene) (o : Option DiagramFault) (a b : Outcome) → ChecksUnless tree s o a → ChecksUnless tree s o b → a ≡ b
+one_check tree s None a b p q = one_said tree s a b p q
+one_check tree s (Some fault) a b p q = p ∙ sym q
+
+module _ (replays : ComesToOne) (seeds : SeedsComeToOne) where
+  one_replay : (tree : Pairs) (s : Scene) (bytes : List ℕ) (count : Bool) → scene_of tree ≡ Ok s → (a b : Outcome) → Replays tree s (commands bytes) count a → Replays tree s (commands bytes) count b → a ≡ b
+  one_replay tree s bytes count is a b p q =
+      let same = replays tree s (commands bytes) count p.text q.text p.refused q.refused p.searched q.searched (scene_valid tree s is) (have_directions bytes) p.routes q.routes in
+      p.outcome ∙ (λ i. record { status = replay_status (same.same_verdict i); text = same.same_text i; searched = Some (same.same_count i) }) ∙ sym q.outcome
+
+  one_summary : (seed : ℕ) (a b : Outcome) → Summarizes seed a → Summarizes seed b → a ≡ b
+  one_summary seed a b p q =
+      let same = seeds seed p.text q.text p.searched q.searched p.makes q.makes in
+      p.outcome ∙ (λ i. record { status = Done; text = same.0 i; searched = Some (same.1 i) }) ∙ sym q.outcome
+
+  -- the course of a form, where the files are told
+  pub course_form : (form : Option Form) (files : Option ToldFiles) → IsSome files → IsCourse (IsFormOutcome form files)
+  course_form None files some = course_ends_with _
+  course_form (Some (check diagram)) files some =
+      course_diagram files diagram (λ tree s. Ends (Checks tree s)) some
+      (λ tree s is. course_ends (Checks tree s) (one_check tree s (first_line_fault tree s.edges)))
+  course_form (Some (route diagram script workers count)) files some =
+      course_diagram files diagram (λ tree s. ReadsFile files script most_script_bytes (λ bytes. Ends (Replays tree s (commands bytes) count))) some
+      (λ tree s is. course_file files script most_script_bytes (λ bytes. Ends (Replays tree s (commands bytes) count)) some
+      (λ bytes. course_ends (Replays tree s (commands bytes) count) (one_replay tree s bytes count is)))
+  course_form (Some (make seed)) files some = course_ends (Summarizes seed) (one_summary seed)
+
+  pub one_outcome : (words : List (List ℕ)) (files : Option ToldFiles) (old new : List Note) → IsSome files → HasOneOutcome words files old new
+  one_outcome words files old new some a b p q = (course_form (form_of words) files some).one old new a b p q

@@ -1,9 +1,11 @@
--- What the words, the plain diagrams and the output are.
-pub mod Diagram
-pub mod Outcome
-pub mod Plain
-pub mod Reading
-pub mod Report
+-- What the words and the files lead to, form by form, and what is answered.
 pub mod Status
-pub mod Verdict
+pub mod Outcome
+pub mod Reads
+pub mod Diagram
+pub mod Check
+pub mod Replay
+pub mod Make
+pub mod Run
+pub mod Causes
 pub mod View

@@ -1,25 +1,86 @@
--- What an outcome says, without where it lies in memory.
-use Rattle.std.specs.Prelude.{ℕ, List}
-use Rattle.std.specs.List.{AllZip}
-use Rattle.reroute_app.specs.declared.diagram.Node.{Node}
-use Rattle.reroute_app.specs.declared.diagram.Edge.{Edge}
+-- What the code's own types stand for. No public clause cites this module.
+use Rattle.std.specs.Prelude.{◌≡◌, ◌⊎◌, ℕ, suc, ◌+◌, ◌≤◌, Bool, List, Some, None, Option, Result, Ok, Err}
+use Rattle.host_edge.specs.Folder.{ToldFiles, GainsNote}
+use Rattle.host_edge.specs.Note.{Note}
+use Rattle.gml_text.specs.Tree.{Content, number, text, list, Pairs, no_pairs, pair}
+use Rattle.scene_model.specs.declared.edit.Command.{Command}
+use Rattle.scene_model.specs.Scene.{Scene}
+use Rattle.edit_script.specs.Script.{commands}
+use Rattle.diagram_read.specs.declared.fault.DiagramFault.{DiagramFault}
+use Rattle.diagram_read.specs.declared.fault.DiagramFault.TheVariants as faults
 use Rattle.reroute_app.specs.declared.outcome.Outcome.{Outcome as Made}
-use Rattle.reroute_app.specs.declared.outcome.Outcome.TheVariants as made
-use Rattle.reroute_app.specs.Outcome.{Outcome, NotUnderstood, ReadFault, TooLong, NotPlain, Checked}
-use Rattle.reroute_app.specs.Plain.{IsPlain, IsNotPlain}
-use Rattle.reroute_app.specs.Verdict.{IsEdgeVerdict}
+use Rattle.reroute_app.specs.declared.outcome.Stop.{Stop}
+use Rattle.reroute_app.specs.declared.outcome.Stop.TheVariants.{Ended, Memory}
+use Rattle.reroute_app.specs.Outcome.{Outcome, Course}
+use Rattle.reroute_app.specs.Reads.{HasRead}
+use Rattle.reroute_app.specs.Diagram.{most_bytes, IsDiagram}
+use Rattle.reroute_app.specs.Replay.{most_script_bytes}
 
--- an outcome without where it lies in memory
+-- an outcome without where its output lies in memory
 abbrev pub view : Made → Outcome
-view made.NotUnderstood = NotUnderstood
-view (made.ReadFault name) = ReadFault name.now
-view (made.TooLong name) = TooLong name.now
-view made.NotPlain = NotPlain
-view (made.Checked verdicts) = Checked verdicts.items
+view made = record { status = made.status; text = made.text.items; searched = Some made.tally }
 
--- what comes of a file with these bytes
-abbrev pub IsJudged : List ℕ → Outcome → Type 0
-IsJudged bytes NotPlain = IsNotPlain bytes
-IsJudged bytes (Checked verdicts) =
-    (nodes : List Node) × (edges : List Edge) × IsPlain bytes nodes edges × AllZip (IsEdgeVerdict nodes) edges verdicts
-IsJudged bytes other = ⊥
+-- a run that stops early ends with this, unless memory is wanting
+abbrev pub StopsAt : (Outcome → Type 0) → Stop → Type 0
+StopsAt P (Ended made) = P (view made)
+StopsAt P Memory = Unit {0}
+
+-- what comes of the course, unless memory is wanting
+abbrev pub Comes : (Outcome → Type 0) → Result Made Stop → Type 0
+Comes P (Ok made) = P (view made)
+Comes P (Err stop) = StopsAt P stop
+
+-- what a run answers, unless memory is wanting
+abbrev pub answer_in : Result Made Stop → Option Made
+answer_in (Ok made) = Some made
+answer_in (Err (Ended made)) = Some made
+answer_in (Err Memory) = None
+
+-- what goes on is told elsewhere
+abbrev pub never : {X : Type 0} → X → Course
+never x old new o = ⊥
+
+abbrev pub never_two : {X Y : Type 0} → X → Y → Course
+never_two x y old new o = ⊥
+
+-- the file was read, and is the diagram of this tree and this scene
+pub record HasDiagram (files : Option ToldFiles) (name : List ℕ) (old new : List Note) (tree : Pairs) (scene : Scene) : Type 0 where
+  pub bytes : List ℕ
+  pub read : HasRead files name most_bytes old new bytes
+  pub diagram : IsDiagram bytes tree scene
+
+-- one note at most was gained, of a read of this file
+abbrev pub NotesOne : List ℕ → ℕ → List Note → List Note → Type 0
+NotesOne name limit old new = (new ≡ old) ⊎ ((taken : ℕ) × (failed : Bool) × GainsNote old new name limit taken failed)
+
+-- the diagram alone was read, if it was, or the script too, behind a diagram
+pub data NotesTwo (files : Option ToldFiles) (diagram script : List ℕ) (old new : List Note) : Type 0 where
+  of_diagram : NotesOne diagram most_bytes old new → NotesTwo files diagram script old new
+  of_both : (middle : List Note) (tree : Pairs) (scene : Scene) → HasDiagram files diagram old middle tree scene → NotesOne script most_script_bytes middle new → NotesTwo files diagram script old new
+
+-- the script was read, and has these commands
+pub record HasCommands (files : Option ToldFiles) (name : List ℕ) (old new : List Note) (list : List (ℕ × Command)) : Type 0 where
+  pub bytes : List ℕ
+  pub read : HasRead files name most_script_bytes old new bytes
+  pub are_commands : list ≡ commands bytes
+
+-- the fault is the first of the lines, or memory is wanting, which no line tells
+abbrev pub IsLineFault : Option DiagramFault → DiagramFault → Type 0
+IsLineFault told faults.Memory = Unit {0}
+IsLineFault told fault = told ≡ Some fault
+
+abbrev mutual
+  -- how many pairs there are, at all depths
+  pub pair_count : Pairs → ℕ
+  pair_count no_pairs = 0
+  pair_count (pair key value rest) = suc (value_count value + pair_count rest)
+
+  -- how many there are in a value
+  pub value_count : Content → ℕ
+  value_count (number bytes) = 0
+  value_count (text bytes) = 0
+  value_count (list inner) = pair_count inner
+
+-- no list of the tree has more pairs than a line may have points
+abbrev pub HasFewPairs : Pairs → Type 0
+HasFewPairs tree = pair_count tree ≤ 40000000

@@ -1,36 +1,54 @@
 //! The program's runs, from the words to the bytes that are written.
 #![tactic(auto)]
 
-ghost use Rattle.std.specs.Prelude.{◌≡◌, ◌≢◌, ◌↔◌, ℕ, ◌<◌, List, Option, map, string_bytes, IsSome};
+ghost use Rattle.std.specs.Prelude.{◌≡◌, ◌≢◌, ◌↔◌, ℕ, List, Option, None, map, string_bytes, IsSome};
 ghost use Rattle.host_edge.specs.Count.{NeverFalls, Rose};
 ghost use Rattle.host_edge.specs.Folder.{ToldFiles};
 ghost use Rattle.host_edge.specs.Note.{Note};
-ghost use Rattle.reroute_app.specs.Outcome.{FailsToRead, FindsBadLine, FindsLegalLines, FindsNoDiagram, FindsTooLong, HasOneOutcome, IsNoForm, ReadsAtMost, Writes, WritesPart};
+ghost use Rattle.command_words.specs.Words.{form_of};
+ghost use Rattle.reroute_app.specs.Causes.{FindsBadLine, FindsNoDiagram, FindsNothing, FindsRefusal, LastFailed, LastTookMore};
+ghost use Rattle.reroute_app.specs.Run.{HasOneOutcome, ReadsInOrder, Tallies, Writes, WritesPart};
 ghost use Rattle.reroute_app.specs.Status.{IsWritten};
 
-mod diagram;
+mod check;
+mod form;
+mod make;
 mod outcome;
-mod plain;
-mod report;
+mod read;
+mod replay;
 mod status;
-mod verdict;
 
-use crate::outcome::outcome_of;
+use crate::form::outcome_of;
+use crate::outcome::Outcome;
 use host_edge::{Folder, Sink, WriteFailed, write_all_to};
-pub use outcome::MOST_BYTES;
+use made_replay::seeds_come_to_one;
+use par_route::{Gate, OpenGate};
+pub use read::{MOST_BYTES, MOST_SCRIPT_BYTES};
+use route_report::replays_come_to_one;
+use route_search::Tally;
 pub use status::Status;
 use std::alloc::Global;
+use std::thread::Threads;
 
-/// Does what the words after the program's name ask for.
+/// Does what the words after the program's name ask for, by a gate that each piece of searches passes.
 ///
-/// The words are of a form where there are two, the first is `check`, and the second names a file:
-/// it is not empty and does not begin with `-`. The output then says of the line of each edge what
-/// it costs or which rule it breaks first. The whole output is made first, and then written.
-pub fn run<F: Folder, O: Sink>(
+/// The forms of the words are those of `command_words::read_words`:
+///
+/// - `check FILE` reads the file as a diagram in GML, and says of the line of each edge what it costs or which rule it
+///   breaks first.
+/// - `route FILE FILE`, with `--workers N` and `--count`, reads a diagram and a script, replays the script, and writes
+///   the report of that and the diagram of the scene at the end, with its nudged lines.
+/// - `make SEED` makes a diagram and a script from a number, routes them, and writes a summary.
+///
+/// The whole output is made first, and then written. `tally` counts the searches that were made.
+pub fn run_gated<R: Threads + Sync, F: Folder, O: Sink, G: Gate>(
+    rt: &R,
     alloc: Global,
     words: &[String],
     folder: &mut F,
     out: &mut O,
+    gate: &G,
+    tally: &mut Tally,
 ) -> Status
     // The bytes that the sink got are the output, and all of it unless the sink or memory failed.
     ensures output { IsWritten result → Writes (map string_bytes words.now) (F.files folder.old)
@@ -41,42 +59,101 @@ pub fn run<F: Folder, O: Sink>(
         → (O.held out.new ≡ O.held out.old) × (O.faults out.new ≡ O.faults out.old) }
 
     // Each status comes exactly where its cause holds, unless the sink or memory failed.
-    ensures words { IsWritten result → (result ≡ Status.Words) ↔ IsNoForm (map string_bytes words.now) }
-    ensures read_fault { IsWritten result → (result ≡ Status.ReadFault) ↔ ((name : List ℕ)
-        × FailsToRead (map string_bytes words.now) (F.notes folder.old) (F.notes folder.new) name) }
-    ensures too_long { IsWritten result → (result ≡ Status.TooLong) ↔ ((name : List ℕ)
-        × FindsTooLong (map string_bytes words.now) (F.notes folder.old) (F.notes folder.new) name) }
+    ensures words { IsWritten result → (result ≡ Status.Words) ↔ (form_of (map string_bytes words.now) ≡ None) }
+    ensures read_fault { IsWritten result → (result ≡ Status.ReadFault)
+        ↔ LastFailed (F.notes folder.old) (F.notes folder.new) }
+    ensures too_long { IsWritten result → (result ≡ Status.TooLong)
+        ↔ LastTookMore (F.notes folder.old) (F.notes folder.new) }
     ensures diagram { IsSome (F.files folder.old) → IsWritten result → (result ≡ Status.Diagram)
         ↔ FindsNoDiagram (map string_bytes words.now) (F.files folder.old) (F.notes folder.old) (F.notes folder.new) }
+    ensures refused { IsSome (F.files folder.old) → IsWritten result → (result ≡ Status.Refused)
+        ↔ FindsRefusal (map string_bytes words.now) (F.files folder.old) (F.notes folder.old) (F.notes folder.new) }
     ensures bad_line { IsSome (F.files folder.old) → IsWritten result → (result ≡ Status.BadLine)
         ↔ FindsBadLine (map string_bytes words.now) (F.files folder.old) (F.notes folder.old) (F.notes folder.new) }
     ensures done { IsSome (F.files folder.old) → IsWritten result → (result ≡ Status.Done)
-        ↔ FindsLegalLines (map string_bytes words.now) (F.files folder.old) (F.notes folder.old) (F.notes folder.new) }
+        ↔ FindsNothing (map string_bytes words.now) (F.files folder.old) (F.notes folder.old) (F.notes folder.new) }
     ensures write_fault { result ≡ Status.WriteFault → Rose (O.faults out.old) (O.faults out.new) }
-    ensures refused { result ≢ Status.Refused }
 
-    // The file that the words ask for is read once at most, under the one limit, and no other is.
-    ensures notes { ReadsAtMost (map string_bytes words.now) (F.notes folder.old) (F.notes folder.new) }
+    // The files that the words name are read in order, each once at most and with its limit, and no others are.
+    ensures notes { ReadsInOrder (map string_bytes words.now) (F.files folder.old) (F.notes folder.old) (F.notes folder.new) }
     ensures files_kept { F.files folder.new ≡ F.files folder.old }
     ensures never_falls { NeverFalls (O.faults out.old) (O.faults out.new) }
+
+    // The searches that were made, and no others, are counted.
+    ensures tally { IsSome (F.files folder.old) → result ≢ Status.NoMemory → Tallies (map string_bytes words.now)
+        (F.files folder.old) (F.notes folder.old) (F.notes folder.new) tally.old tally.new }
 {
-    let Ok(outcome) = outcome_of(alloc, words, folder) else {
+    let Ok(outcome) = outcome_of(rt, alloc, words, folder, gate) else {
         return Status::NoMemory;
     };
-    let Ok(text) = outcome.text(alloc) else {
-        return Status::NoMemory;
-    };
-    match write_all_to(out, text.as_bytes()) {
-        Ok(()) => outcome.status(),
+    let Outcome {
+        status,
+        text,
+        tally: part,
+    } = outcome;
+    tally.join(part);
+    match write_all_to(out, &text) {
+        Ok(()) => status,
         Err(WriteFailed) => Status::WriteFault,
     }
 }
 
-/// For given words, told files and notes there is one outcome, and so one output and one status.
+/// The same by a gate that holds no piece of searches up.
+///
+/// The forms of the words are those of `run_gated`. The whole output is made first, and then written. `tally` counts the
+/// searches that were made.
+pub fn run<R: Threads + Sync, F: Folder, O: Sink>(
+    rt: &R,
+    alloc: Global,
+    words: &[String],
+    folder: &mut F,
+    out: &mut O,
+    tally: &mut Tally,
+) -> Status
+    // The bytes that the sink got are the output, and all of it unless the sink or memory failed.
+    ensures output { IsWritten result → Writes (map string_bytes words.now) (F.files folder.old)
+        (F.notes folder.old) (F.notes folder.new) (O.held out.old) (O.held out.new) result }
+    ensures part { result ≡ Status.WriteFault → WritesPart (map string_bytes words.now)
+        (F.files folder.old) (F.notes folder.old) (F.notes folder.new) (O.held out.old) (O.held out.new) }
+    ensures nothing { result ≡ Status.NoMemory
+        → (O.held out.new ≡ O.held out.old) × (O.faults out.new ≡ O.faults out.old) }
+
+    // Each status comes exactly where its cause holds, unless the sink or memory failed.
+    ensures words { IsWritten result → (result ≡ Status.Words) ↔ (form_of (map string_bytes words.now) ≡ None) }
+    ensures read_fault { IsWritten result → (result ≡ Status.ReadFault)
+        ↔ LastFailed (F.notes folder.old) (F.notes folder.new) }
+    ensures too_long { IsWritten result → (result ≡ Status.TooLong)
+        ↔ LastTookMore (F.notes folder.old) (F.notes folder.new) }
+    ensures diagram { IsSome (F.files folder.old) → IsWritten result → (result ≡ Status.Diagram)
+        ↔ FindsNoDiagram (map string_bytes words.now) (F.files folder.old) (F.notes folder.old) (F.notes folder.new) }
+    ensures refused { IsSome (F.files folder.old) → IsWritten result → (result ≡ Status.Refused)
+        ↔ FindsRefusal (map string_bytes words.now) (F.files folder.old) (F.notes folder.old) (F.notes folder.new) }
+    ensures bad_line { IsSome (F.files folder.old) → IsWritten result → (result ≡ Status.BadLine)
+        ↔ FindsBadLine (map string_bytes words.now) (F.files folder.old) (F.notes folder.old) (F.notes folder.new) }
+    ensures done { IsSome (F.files folder.old) → IsWritten result → (result ≡ Status.Done)
+        ↔ FindsNothing (map string_bytes words.now) (F.files folder.old) (F.notes folder.old) (F.notes folder.new) }
+    ensures write_fault { result ≡ Status.WriteFault → Rose (O.faults out.old) (O.faults out.new) }
+
+    // The files that the words name are read in order, each once at most and with its limit, and no others are.
+    ensures notes { ReadsInOrder (map string_bytes words.now) (F.files folder.old) (F.notes folder.old) (F.notes folder.new) }
+    ensures files_kept { F.files folder.new ≡ F.files folder.old }
+    ensures never_falls { NeverFalls (O.faults out.old) (O.faults out.new) }
+
+    // The searches that were made, and no others, are counted.
+    ensures tally { IsSome (F.files folder.old) → result ≢ Status.NoMemory → Tallies (map string_bytes words.now)
+        (F.files folder.old) (F.notes folder.old) (F.notes folder.new) tally.old tally.new }
+{
+    run_gated(rt, alloc, words, folder, out, &OpenGate, tally)
+}
+
+/// For given words, told files and notes there is one outcome, and so one output and one status, whatever is in the files.
 pub fn one_outcome()
     ensures { (words : List (List ℕ)) (files : Option ToldFiles) (old new : List Note) → IsSome files →
         HasOneOutcome words files old new }
-{}
+{
+    replays_come_to_one();
+    seeds_come_to_one();
+}
 
 #[cfg(test)]
 mod tests;

@@ -1,115 +1,108 @@
-//! What comes of the words and of the file that they ask for.
+//! What is answered, and why a run stops early.
+ghost use Rattle.std.specs.Prelude.{◌≡◌, IfOk};
+ghost use Rattle.report_text.specs.Faults.{fault_line, gml_fault_line};
+ghost use Rattle.report_text.specs.Files.{read_fault_line, too_long_line, words_line};
+ghost use Rattle.reroute_app.specs.Outcome.{unsearched};
+ghost use Rattle.reroute_app.specs.View.{view};
 
-ghost use Rattle.std.specs.Prelude.{◌≡◌, ◌≤◌, ◌↔◌, length, map, IfOk, IfNone, IfSome, IsTrue, is_err, string_bytes};
-ghost use Rattle.std.specs.List.{list_any};
-ghost use Rattle.reroute_app.specs.Outcome.{most_bytes, IsCheck, IsNoForm, IsOutcome, NamesFile, ReadsAtMost, output, status_of};
-ghost use Rattle.reroute_app.specs.View.{view, IsJudged};
-
-use crate::plain::read_plain;
-use crate::report::report;
 use crate::status::Status;
-use crate::verdict::{Verdict, verdicts};
-use host_edge::{Folder, FolderFault};
-use std::alloc::{AllocError, Global};
+use diagram_read::DiagramFault;
+use gml_text::GmlFault;
+use report_text::{
+    push_fault_line, push_gml_fault_line, push_read_fault_line, push_too_long_line, push_words_line,
+};
+use route_search::Tally;
+use std::alloc::{AllocError, AllocFailed, Global};
 
-/// The greatest number of bytes of a diagram.
-pub const MOST_BYTES: u64 = 16_777_216;
-
+/// What is answered: how the run ends, the whole output, and the searches that were made for it.
 #[derive(Drop)]
-pub(crate) enum Outcome<'a> {
-    /// The words are of no form.
-    NotUnderstood,
-    /// The file with this name cannot be read.
-    ReadFault(&'a str),
-    /// The file with this name has more bytes than are read.
-    TooLong(&'a str),
-    /// The file is no plain diagram.
-    NotPlain,
-    /// The verdicts on the lines of the diagram's edges.
-    Checked(Vec<Verdict>),
+pub(crate) struct Outcome {
+    pub(crate) status: Status,
+    pub(crate) text: Vec<u8>,
+    pub(crate) tally: Tally,
 }
 
-fn has_breach(verdicts: &[Verdict]) -> bool
-    ensures { result ≡ list_any is_err verdicts.now }
-{
-    verdicts.iter().any(|verdict| verdict.is_err())
+/// Why a run goes no further.
+#[derive(Drop)]
+pub(crate) enum Stop {
+    /// This is answered.
+    Ended(Outcome),
+    /// Memory is wanting.
+    Memory,
 }
 
-impl Outcome<'_> {
-    pub(crate) fn status(&self) -> Status
-        ensures { result ≡ status_of (view self.now) }
-    {
-        match self {
-            Outcome::NotUnderstood => Status::Words,
-            Outcome::ReadFault(_) => Status::ReadFault,
-            Outcome::TooLong(_) => Status::TooLong,
-            Outcome::NotPlain => Status::Diagram,
-            Outcome::Checked(verdicts) if has_breach(verdicts) => Status::BadLine,
-            Outcome::Checked(_) => Status::Done,
-        }
-    }
+impl From<AllocError> for Stop {
+    ghost use Rattle.reroute_app.specs.declared.outcome.Stop.TheVariants.{Memory};
 
-    /// The whole output.
-    pub(crate) fn text(&self, alloc: Global) -> Result<String, AllocError>
-        ensures { IfOk result (λ text. string_bytes text ≡ output (view self.now)) }
-    {
-        match self {
-            Outcome::NotUnderstood => String::from_str(alloc, "words: not understood\n"),
-            Outcome::ReadFault(name) => format!(in alloc; "read fault: {name}\n"),
-            Outcome::TooLong(name) => format!(in alloc; "too long: {name} limit {MOST_BYTES}\n"),
-            Outcome::NotPlain => String::from_str(alloc, "diagram: NotYet\n"),
-            Outcome::Checked(verdicts) => report(alloc, verdicts),
-        }
+    ghost from_gives = { λ _ s. s ≡ Memory };
+
+    fn from(_: AllocError) -> Self {
+        Stop::Memory
     }
 }
 
-/// Whether the word names a file.
-fn names_file(word: &str) -> bool
-    ensures { IsTrue result ↔ NamesFile word.now }
-{
-    !word.is_empty() && !word.starts_with('-')
-}
+impl<T: Drop> From<AllocFailed<T>> for Stop {
+    ghost use Rattle.reroute_app.specs.declared.outcome.Stop.TheVariants.{Memory};
 
-/// The name of the file that the words ask for.
-fn file_word(words: &[String]) -> Option<&str>
-    ensures some { IfSome result (λ name. IsCheck (map string_bytes words.now) name.now) }
-    ensures none { IfNone result (IsNoForm (map string_bytes words.now)) }
-{
-    match words {
-        [command, name] if command.as_str() == "check" && names_file(name) => Some(name),
-        _ => None,
+    ghost from_gives = { λ _ s. s ≡ Memory };
+
+    fn from(_: AllocFailed<T>) -> Self {
+        Stop::Memory
     }
 }
 
-/// What comes of a file with these bytes.
-fn judged<'a>(alloc: Global, bytes: &[u8]) -> Result<Outcome<'a>, AllocError>
-    requires { length bytes.now ≤ most_bytes }
-    ensures { IfOk result (λ o. IsJudged bytes.now (view o)) }
+/// What is answered without a search.
+pub(crate) fn unsearched(status: Status, text: Vec<u8>) -> Outcome
+    ensures { view result ≡ unsearched status text.items }
 {
-    match read_plain(alloc, bytes)? {
-        None => Ok(Outcome::NotPlain),
-        Some(diagram) => Ok(Outcome::Checked(verdicts(alloc, &diagram.nodes, &diagram.edges)?)),
+    Outcome {
+        status,
+        text,
+        tally: Tally::new(),
     }
 }
 
-pub(crate) fn outcome_of<'a, F: Folder>(
-    alloc: Global,
-    words: &'a [String],
-    folder: &mut F,
-) -> Result<Outcome<'a>, AllocError>
-    ensures outcome { IfOk result (λ o. IsOutcome (map string_bytes words.now)
-        (F.files folder.old) (F.notes folder.old) (F.notes folder.new) (view o)) }
-    ensures notes { ReadsAtMost (map string_bytes words.now) (F.notes folder.old) (F.notes folder.new) }
-    ensures files_kept { F.files folder.new ≡ F.files folder.old }
+/// The words are of no form.
+pub(crate) fn not_understood(alloc: Global) -> Result<Outcome, AllocError>
+    ensures { IfOk result (λ o. view o ≡ unsearched Status.Words words_line) }
 {
-    let Some(name) = file_word(words) else {
-        return Ok(Outcome::NotUnderstood);
-    };
-    let bytes = match folder.read_file(name, MOST_BYTES) {
-        Ok(bytes) => bytes,
-        Err(FolderFault::Failed) => return Ok(Outcome::ReadFault(name)),
-        Err(FolderFault::TooLong { .. }) => return Ok(Outcome::TooLong(name)),
-        Err(FolderFault::Memory) => return Err(AllocError),
-    };
-    judged(alloc, &bytes)
+    let mut text = Vec::new(alloc);
+    push_words_line(&mut text)?;
+    Ok(unsearched(Status::Words, text))
+}
+
+/// The file with this name cannot be read.
+pub(crate) fn read_fault(alloc: Global, name: &str) -> Result<Outcome, AllocError>
+    ensures { IfOk result (λ o. view o ≡ unsearched Status.ReadFault (read_fault_line name.now)) }
+{
+    let mut text = Vec::new(alloc);
+    push_read_fault_line(&mut text, name)?;
+    Ok(unsearched(Status::ReadFault, text))
+}
+
+/// The file with this name has more bytes than the limit.
+pub(crate) fn too_long(alloc: Global, name: &str, limit: u64) -> Result<Outcome, AllocError>
+    ensures { IfOk result (λ o. view o ≡ unsearched Status.TooLong (too_long_line name.now limit)) }
+{
+    let mut text = Vec::new(alloc);
+    push_too_long_line(&mut text, name, limit)?;
+    Ok(unsearched(Status::TooLong, text))
+}
+
+/// The bytes are no document.
+pub(crate) fn no_document(alloc: Global, fault: &GmlFault) -> Result<Outcome, AllocError>
+    ensures { IfOk result (λ o. view o ≡ unsearched Status.Diagram (gml_fault_line fault.now)) }
+{
+    let mut text = Vec::new(alloc);
+    push_gml_fault_line(&mut text, fault)?;
+    Ok(unsearched(Status::Diagram, text))
+}
+
+/// The document is no diagram, or a line of it cannot be read.
+pub(crate) fn no_diagram(alloc: Global, fault: &DiagramFault) -> Result<Outcome, AllocError>
+    ensures { IfOk result (λ o. view o ≡ unsearched Status.Diagram (fault_line fault.now)) }
+{
+    let mut text = Vec::new(alloc);
+    push_fault_line(&mut text, fault)?;
+    Ok(unsearched(Status::Diagram, text))
 }

@@ -6,11 +6,11 @@ ghost use Rattle.std.specs.Prelude.{◌≡◌};
 pub enum Status {
     /// Nothing below applies.
     Done = 0,
-    /// An edit of a replay was refused. No run ends so today.
+    /// A line of a script, or its end, was refused.
     Refused = 1,
     /// The words are of no form.
     Words = 2,
-    /// The file is no plain diagram.
+    /// The file is no diagram, or a line in it cannot be read.
     Diagram = 3,
     /// The file could not be read.
     ReadFault = 4,

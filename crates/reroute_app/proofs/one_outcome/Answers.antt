@@ -1,5 +1,6 @@
+-- The law of outcomes.
 use Rattle.reroute_app.proofs.OneOutcome.{one_outcome}
 use Rattle.reroute_app.proofs.one_outcome.Goals as goal
 
 pub returns : goal.returns
-returns c = one_outcome
+returns c = one_outcome c.replays_come_to_one.ensures c.seeds_come_to_one.ensures

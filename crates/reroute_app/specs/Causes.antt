@@ -1,0 +1,129 @@
+-- The causes of the statuses.
+use Rattle.std.specs.Prelude.{◌≡◌, ◌⊎◌, ℕ, ◌<◌, Bool, true, false, List, [], ◌∷◌, ◌++◌, Option, Some, None, Ok, Any, All, IsSome}
+use Rattle.host_edge.specs.Folder.{ToldFiles}
+use Rattle.host_edge.specs.Note.{Note}
+use Rattle.plane_geom.specs.declared.point.Point.{Point}
+use Rattle.gml_text.specs.Tree.{Pairs}
+use Rattle.scene_model.specs.declared.edge.Edge.{Edge}
+use Rattle.scene_model.specs.Scene.{Scene, is_loop}
+use Rattle.scene_model.specs.Routing.{solids, task_of}
+use Rattle.scene_model.specs.World.{opened}
+use Rattle.route_check.specs.Verdict.{IsLegalLine}
+use Rattle.diagram_read.specs.Lines.{line_of}
+use Rattle.edit_script.specs.Script.{commands}
+use Rattle.report_text.specs.declared.reply.LineReply.{LineReply}
+use Rattle.route_replay.specs.Replies.{AreReplies, world_after}
+use Rattle.route_report.specs.Report.{has_refusal}
+use Rattle.command_words.specs.Words.{Form, check, route, make, form_of}
+use Rattle.reroute_app.specs.Reads.{HasRead}
+use Rattle.reroute_app.specs.Diagram.{most_bytes, IsDiagram}
+use Rattle.reroute_app.specs.Check.{first_line_fault}
+use Rattle.reroute_app.specs.Replay.{most_script_bytes}
+
+-- this is the last note that was gained
+pub record GainsLast (old new : List Note) (last : Note) : Type 0 where
+  pub front : List Note
+  pub gained : new ≡ old ++ (front ++ last ∷ [])
+
+-- the last read failed
+abbrev pub LastFailed : List Note → List Note → Type 0
+LastFailed old new = (last : Note) × GainsLast old new last × (last.failed ≡ true)
+
+-- the last read did not fail, and took more than its limit
+abbrev pub LastTookMore : List Note → List Note → Type 0
+LastTookMore old new = (last : Note) × GainsLast old new last × (last.failed ≡ false) × (last.limit < last.taken)
+
+-- the diagram that the form names was read, and has these bytes
+abbrev pub HasReadDiagram : Option Form → Option ToldFiles → List Note → List Note → List ℕ → Type 0
+HasReadDiagram None files old new bytes = ⊥
+HasReadDiagram (Some (check diagram)) files old new bytes = HasRead files diagram most_bytes old new bytes
+HasReadDiagram (Some (route diagram script workers count)) files old new bytes = HasRead files diagram most_bytes old new bytes
+HasReadDiagram (Some (make seed)) files old new bytes = ⊥
+
+-- the bytes are no diagram
+abbrev pub IsNoDiagram : List ℕ → Type 0
+IsNoDiagram bytes = (tree : Pairs) (scene : Scene) → IsDiagram bytes tree scene → ⊥
+
+-- a line that the diagram draws for a connector cannot be read
+pub record HasNoLine (bytes : List ℕ) : Type 0 where
+  pub tree : Pairs
+  pub scene : Scene
+  pub diagram : IsDiagram bytes tree scene
+  pub fault : IsSome (first_line_fault tree scene.edges)
+
+-- why the form refuses the bytes: a check asks for the lines too
+abbrev pub IsRefusedBy : Option Form → List ℕ → Type 0
+IsRefusedBy None bytes = ⊥
+IsRefusedBy (Some (check diagram)) bytes = IsNoDiagram bytes ⊎ HasNoLine bytes
+IsRefusedBy (Some (route diagram script workers count)) bytes = IsNoDiagram bytes
+IsRefusedBy (Some (make seed)) bytes = ⊥
+
+-- the diagram was read, and is refused
+pub record FindsNoDiagram (words : List (List ℕ)) (files : Option ToldFiles) (old new : List Note) : Type 0 where
+  pub bytes : List ℕ
+  pub read : HasReadDiagram (form_of words) files old new bytes
+  pub refused : IsRefusedBy (form_of words) bytes
+
+-- the diagram that is to be checked was read, and all its lines were
+pub record FindsLines (words : List (List ℕ)) (files : Option ToldFiles) (old new : List Note) (tree : Pairs) (scene : Scene) : Type 0 where
+  pub name : List ℕ
+  pub form : form_of words ≡ Some (check name)
+  pub bytes : List ℕ
+  pub read : HasRead files name most_bytes old new bytes
+  pub diagram : IsDiagram bytes tree scene
+  pub lines : first_line_fault tree scene.edges ≡ None
+
+-- the edge is a connector, and has a line that is not legal
+pub record HasBadLine (tree : Pairs) (s : Scene) (e : Edge) : Type 0 where
+  pub connector : is_loop e ≡ false
+  pub points : List Point
+  pub line : line_of tree e ≡ Ok (Some points)
+  pub bad : IsLegalLine (solids s) (task_of s e) points → ⊥
+
+-- the line of the edge is legal, if it is a connector and has one
+abbrev pub HasNoBadLine : Pairs → Scene → Edge → Type 0
+HasNoBadLine tree s e =
+    is_loop e ≡ false → (points : List Point) → line_of tree e ≡ Ok (Some points) → IsLegalLine (solids s) (task_of s e) points
+
+-- the line of an edge of the diagram is not legal
+pub record FindsBadLine (words : List (List ℕ)) (files : Option ToldFiles) (old new : List Note) : Type 0 where
+  pub tree : Pairs
+  pub scene : Scene
+  pub found : FindsLines words files old new tree scene
+  pub bad : Any (HasBadLine tree scene) scene.edges
+
+-- all lines of the diagram are legal
+pub record FindsLegalLines (words : List (List ℕ)) (files : Option ToldFiles) (old new : List Note) : Type 0 where
+  pub tree : Pairs
+  pub scene : Scene
+  pub found : FindsLines words files old new tree scene
+  pub legal : All (HasNoBadLine tree scene) scene.edges
+
+-- diagram and script were read, and this says whether a command of the script, or its end, is refused
+pub record FindsReplay (words : List (List ℕ)) (files : Option ToldFiles) (old new : List Note) (refused : Bool) : Type 0 where
+  pub diagram : List ℕ
+  pub script : List ℕ
+  pub workers : ℕ
+  pub count : Bool
+  pub form : form_of words ≡ Some (route diagram script workers count)
+  pub diagram_bytes : List ℕ
+  pub script_bytes : List ℕ
+  pub middle : List Note
+  pub read_diagram : HasRead files diagram most_bytes old middle diagram_bytes
+  pub read_script : HasRead files script most_script_bytes middle new script_bytes
+  pub tree : Pairs
+  pub scene : Scene
+  pub is_diagram : IsDiagram diagram_bytes tree scene
+  pub replies : List LineReply
+  pub are_replies : AreReplies (opened scene) (commands script_bytes) replies
+  pub refusal : has_refusal replies (world_after scene (commands script_bytes)) ≡ refused
+
+-- something is refused
+abbrev pub FindsRefusal : List (List ℕ) → Option ToldFiles → List Note → List Note → Type 0
+FindsRefusal words files old new = FindsReplay words files old new true
+
+-- nothing is found that another status tells of
+pub data FindsNothing (words : List (List ℕ)) (files : Option ToldFiles) (old new : List Note) : Type 0 where
+  lines_are_legal : FindsLegalLines words files old new → FindsNothing words files old new
+  nothing_is_refused : FindsReplay words files old new false → FindsNothing words files old new
+  is_made : (seed : ℕ) → form_of words ≡ Some (make seed) → FindsNothing words files old new

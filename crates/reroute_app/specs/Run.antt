@@ -1,0 +1,88 @@
+-- What comes of the words and of the files that they name.
+use Rattle.std.specs.Prelude.{◌≡◌, ℕ, ◌<◌, List, [], ◌∷◌, ◌++◌, length, slice_get, Option, Some, None, IfSome, IsSome}
+use Rattle.std.specs.Io.KnownBytes.{append_known}
+use Rattle.host_edge.specs.Folder.{ToldFiles}
+use Rattle.host_edge.specs.Note.{Note}
+use Rattle.host_edge.specs.Sink.{AppendsPart}
+use Rattle.gml_text.specs.Tree.{Pairs}
+use Rattle.scene_model.specs.Scene.{Scene}
+use Rattle.report_text.specs.Files.{words_line}
+use Rattle.reroute_app.specs.declared.status.Status.{Status}
+use Rattle.reroute_app.specs.declared.status.Status.TheVariants.{Words}
+use Rattle.command_words.specs.Words.{Form, check, route, make, form_of}
+use Rattle.edit_script.specs.Script.{commands}
+use Rattle.route_search.specs.Finds.{counted_by}
+use Rattle.reroute_app.specs.Outcome.{Outcome, Course, Ends, EndsWith, unsearched}
+use Rattle.reroute_app.specs.Reads.{HasRead, ReadsFile}
+use Rattle.reroute_app.specs.Diagram.{most_bytes, IsDiagram, ReadsDiagram}
+use Rattle.reroute_app.specs.Check.{Checks}
+use Rattle.reroute_app.specs.Replay.{most_script_bytes, Replays}
+use Rattle.reroute_app.specs.Make.{Summarizes}
+
+-- the course of a form, where the files are told or not
+abbrev pub IsFormOutcome : Option Form → Option ToldFiles → Course
+IsFormOutcome None files = EndsWith (unsearched Words words_line)
+IsFormOutcome (Some (check diagram)) files = ReadsDiagram files diagram (λ tree s. Ends (Checks tree s))
+IsFormOutcome (Some (route diagram script workers count)) files =
+    ReadsDiagram files diagram (λ tree s. ReadsFile files script most_script_bytes (λ bytes. Ends (Replays tree s (commands bytes) count)))
+IsFormOutcome (Some (make seed)) files = Ends (Summarizes seed)
+
+-- what comes of the words, of the files where they are told, and of the reads of which the notes tell
+abbrev pub IsOutcome : List (List ℕ) → Option ToldFiles → Course
+IsOutcome words = IsFormOutcome (form_of words)
+
+-- one outcome at most comes of these
+abbrev pub HasOneOutcome : List (List ℕ) → Option ToldFiles → List Note → List Note → Type 0
+HasOneOutcome words files old new = (a b : Outcome) → IsOutcome words files old new a → IsOutcome words files old new b → a ≡ b
+
+-- the status is that of the outcome, and all its output was written
+pub record Writes (words : List (List ℕ)) (files : Option ToldFiles) (old new : List Note) (before after : Option (List ℕ)) (result : Status) : Type 0 where
+  pub outcome : Outcome
+  pub is_outcome : IsOutcome words files old new outcome
+  pub status : result ≡ outcome.status
+  pub written : after ≡ append_known before outcome.text
+
+-- a prefix of the outcome's output was written
+pub record WritesPart (words : List (List ℕ)) (files : Option ToldFiles) (old new : List Note) (before after : Option (List ℕ)) : Type 0 where
+  pub outcome : Outcome
+  pub is_outcome : IsOutcome words files old new outcome
+  pub part : AppendsPart before after outcome.text
+
+-- the files that a form names, each with its limit, in order
+abbrev pub files_of : Option Form → List (List ℕ × ℕ)
+files_of None = []
+files_of (Some (check diagram)) = (diagram, most_bytes) ∷ []
+files_of (Some (route diagram script workers count)) = (diagram, most_bytes) ∷ (script, most_script_bytes) ∷ []
+files_of (Some (make seed)) = []
+
+-- the notes are of the first of these files, in order
+abbrev pub AreNotesOf : List (List ℕ × ℕ) → List Note → Type 0
+AreNotesOf files [] = Unit {0}
+AreNotesOf [] (n ∷ ns) = ⊥
+AreNotesOf (f ∷ fs) (n ∷ ns) = (n.name ≡ f.0) × (n.limit ≡ f.1) × AreNotesOf fs ns
+
+-- the first of these notes is of the first of the files, which is a diagram
+pub record ReadsFirstAsDiagram (files : Option ToldFiles) (named : List (List ℕ × ℕ)) (old gained : List Note) : Type 0 where
+  pub first : List ℕ × ℕ
+  pub is_first : slice_get named 0 ≡ Some first
+  pub bytes : List ℕ
+  pub middle : List Note
+  pub read : HasRead files first.0 first.1 old middle bytes
+  pub rest : List Note
+  pub behind : old ++ gained ≡ middle ++ rest
+  pub tree : Pairs
+  pub scene : Scene
+  pub diagram : IsDiagram bytes tree scene
+
+-- what was read are the first of the files that the words name, each once and with its limit; a second one only behind a diagram
+pub record ReadsInOrder (words : List (List ℕ)) (files : Option ToldFiles) (old new : List Note) : Type 0 where
+  pub gained : List Note
+  pub grown : new ≡ old ++ gained
+  pub in_order : AreNotesOf (files_of (form_of words)) gained
+  pub second : 1 < length gained → ReadsFirstAsDiagram files (files_of (form_of words)) old gained
+
+-- the count rose by the searches of the outcome, where their number is defined
+pub record Tallies (words : List (List ℕ)) (files : Option ToldFiles) (old new : List Note) (before after : ℕ) : Type 0 where
+  pub outcome : Outcome
+  pub is_outcome : IsOutcome words files old new outcome
+  pub searched : IfSome outcome.searched (λ searched. after ≡ counted_by searched before)

@@ -1,0 +1,119 @@
+//! The reads of files and of diagrams.
+ghost use Rattle.std.specs.Prelude.{◌≡◌, IfOk, IfErr, List, Ok};
+ghost use Rattle.host_edge.specs.Note.{Note};
+ghost use Rattle.gml_text.specs.Parse.{IsDocument};
+ghost use Rattle.gml_text.specs.View.{tree};
+ghost use Rattle.diagram_read.specs.Scene.{scene_of};
+ghost use Rattle.reroute_app.specs.Diagram.{IsDiagram, ReadsDiagram, TakesDiagram, TakesScene, most_bytes};
+ghost use Rattle.reroute_app.specs.Reads.{HasRead, ReadsFile};
+ghost use Rattle.reroute_app.specs.Replay.{most_script_bytes};
+ghost use Rattle.reroute_app.specs.View.{HasDiagram, NotesOne, StopsAt, never, never_two};
+
+use crate::outcome::{Stop, no_diagram, no_document, read_fault, too_long};
+use diagram_read::{DiagramFault, scene_of};
+use gml_text::{Doc, GmlFault, parse};
+use host_edge::{Folder, FolderFault};
+use scene_store::Scene;
+use std::alloc::Global;
+
+/// The greatest number of bytes of a diagram.
+pub const MOST_BYTES: u64 = 16_777_216;
+
+/// The greatest number of bytes of a script.
+pub const MOST_SCRIPT_BYTES: u64 = 4_194_304;
+
+/// A document and its scene.
+#[derive(Drop)]
+pub(crate) struct Diagram {
+    pub(crate) doc: Doc,
+    pub(crate) scene: Scene,
+}
+
+/// The bytes of the file with this name.
+fn read_file<F: Folder>(
+    alloc: Global,
+    folder: &mut F,
+    name: &str,
+    limit: u64,
+) -> Result<Vec<u8>, Stop>
+    ensures read { IfOk result (λ bytes. HasRead (F.files folder.old) name.now limit
+        (F.notes folder.old) (F.notes folder.new) bytes.items) }
+    ensures stopped { IfErr result (StopsAt (ReadsFile (F.files folder.old) name.now limit never
+        (F.notes folder.old) (F.notes folder.new))) }
+    ensures notes { NotesOne name.now limit (F.notes folder.old) (F.notes folder.new) }
+    ensures files_kept { F.files folder.new ≡ F.files folder.old }
+{
+    match folder.read_file(name, limit) {
+        Ok(bytes) => Ok(bytes),
+        Err(FolderFault::Failed) => Err(Stop::Ended(read_fault(alloc, name)?)),
+        Err(FolderFault::TooLong { .. }) => Err(Stop::Ended(too_long(alloc, name, limit)?)),
+        Err(FolderFault::Memory) => Err(Stop::Memory),
+    }
+}
+
+/// The document that the bytes spell.
+fn document_of(alloc: Global, bytes: &[u8]) -> Result<Doc, Stop>
+    ensures ok { IfOk result (λ doc. IsDocument (tree doc) bytes.now) }
+    ensures stopped { (notes : List Note) → IfErr result (StopsAt (TakesDiagram never_two bytes.now notes notes)) }
+{
+    match parse(alloc, bytes) {
+        Ok(doc) => Ok(doc),
+        Err(GmlFault::Memory) => Err(Stop::Memory),
+        Err(fault) => Err(Stop::Ended(no_document(alloc, &fault)?)),
+    }
+}
+
+/// The scene of a document.
+fn scene_in(alloc: Global, doc: &Doc) -> Result<Scene, Stop>
+    ensures ok { IfOk result (λ scene. scene_of (tree doc.now) ≡ Ok scene) }
+    ensures stopped { (notes : List Note) → IfErr result (StopsAt (TakesScene never (scene_of (tree doc.now)) notes notes)) }
+{
+    match scene_of(alloc, doc) {
+        Ok(scene) => Ok(scene),
+        Err(DiagramFault::Memory) => Err(Stop::Memory),
+        Err(fault) => Err(Stop::Ended(no_diagram(alloc, &fault)?)),
+    }
+}
+
+/// The diagram that the bytes spell.
+fn diagram_of(alloc: Global, bytes: &[u8]) -> Result<Diagram, Stop>
+    ensures ok { IfOk result (λ d. IsDiagram bytes.now (tree d.doc) d.scene) }
+    ensures stopped { (notes : List Note) → IfErr result (StopsAt (TakesDiagram never_two bytes.now notes notes)) }
+{
+    let doc = document_of(alloc, bytes)?;
+    let scene = scene_in(alloc, &doc)?;
+    Ok(Diagram { doc, scene })
+}
+
+/// The diagram in the file with this name.
+pub(crate) fn read_diagram<F: Folder>(
+    alloc: Global,
+    folder: &mut F,
+    name: &str,
+) -> Result<Diagram, Stop>
+    ensures read { IfOk result (λ d. HasDiagram (F.files folder.old) name.now
+        (F.notes folder.old) (F.notes folder.new) (tree d.doc) d.scene) }
+    ensures stopped { IfErr result (StopsAt (ReadsDiagram (F.files folder.old) name.now never_two
+        (F.notes folder.old) (F.notes folder.new))) }
+    ensures notes { NotesOne name.now most_bytes (F.notes folder.old) (F.notes folder.new) }
+    ensures files_kept { F.files folder.new ≡ F.files folder.old }
+{
+    let bytes = read_file(alloc, folder, name, MOST_BYTES)?;
+    diagram_of(alloc, &bytes)
+}
+
+/// The bytes of the script in the file with this name.
+pub(crate) fn read_script<F: Folder>(
+    alloc: Global,
+    folder: &mut F,
+    name: &str,
+) -> Result<Vec<u8>, Stop>
+    ensures read { IfOk result (λ bytes. HasRead (F.files folder.old) name.now most_script_bytes
+        (F.notes folder.old) (F.notes folder.new) bytes.items) }
+    ensures stopped { IfErr result (StopsAt (ReadsFile (F.files folder.old) name.now most_script_bytes never
+        (F.notes folder.old) (F.notes folder.new))) }
+    ensures notes { NotesOne name.now most_script_bytes (F.notes folder.old) (F.notes folder.new) }
+    ensures files_kept { F.files folder.new ≡ F.files folder.old }
+{
+    read_file(alloc, folder, name, MOST_SCRIPT_BYTES)
+}

@@ -1,0 +1,103 @@
+//! The replay of a script on a diagram.
+ghost use Rattle.std.specs.Prelude.{◌≡◌, ◌<◌, ◌≤◌, ◌^◌, IfOk, IfErr, Ok, Some, length};
+ghost use Rattle.gml_text.specs.Printed.{IsPrintable};
+ghost use Rattle.gml_text.specs.View.{tree};
+ghost use Rattle.diagram_read.specs.Scene.{scene_of};
+ghost use Rattle.command_words.specs.Words.{route as route_form};
+ghost use Rattle.route_replay.specs.Replies.{AreDirected};
+ghost use Rattle.reroute_app.specs.Reads.{ReadsFile};
+ghost use Rattle.reroute_app.specs.Replay.{Replays, most_script_bytes, replay_status};
+ghost use Rattle.reroute_app.specs.Run.{IsFormOutcome};
+ghost use Rattle.reroute_app.specs.View.{Comes, HasCommands, NotesOne, NotesTwo, StopsAt, never};
+
+use crate::outcome::{Outcome, Stop};
+use crate::read::{Diagram, read_diagram, read_script};
+use crate::status::Status;
+use edit_script::commands;
+use host_edge::Folder;
+use par_route::Gate;
+use route_report::{Options, Routing, route};
+use scene_model::Command;
+use std::alloc::Global;
+use std::thread::Threads;
+
+/// How a replay ends in which something was refused, or nothing was.
+fn status_of(is_refused: bool) -> Status
+    ensures { result ≡ replay_status is_refused }
+{
+    if is_refused {
+        Status::Refused
+    } else {
+        Status::Done
+    }
+}
+
+/// The commands of the script in the file with this name.
+fn read_commands<F: Folder>(
+    alloc: Global,
+    folder: &mut F,
+    name: &str,
+) -> Result<Vec<(usize, Command)>, Stop>
+    ensures read { IfOk result (λ list. HasCommands (F.files folder.old) name.now
+        (F.notes folder.old) (F.notes folder.new) list.items) }
+    ensures stopped { IfErr result (StopsAt (ReadsFile (F.files folder.old) name.now most_script_bytes never
+        (F.notes folder.old) (F.notes folder.new))) }
+    ensures notes { NotesOne name.now most_script_bytes (F.notes folder.old) (F.notes folder.new) }
+    ensures files_kept { F.files folder.new ≡ F.files folder.old }
+{
+    let bytes = read_script(alloc, folder, name)?;
+    Ok(commands(alloc, &bytes)?)
+}
+
+/// What a replay of the commands on the diagram says.
+fn replay_diagram<R: Threads + Sync, G: Gate>(
+    rt: &R,
+    alloc: Global,
+    diagram: Diagram,
+    commands: &[(usize, Command)],
+    options: Options,
+    gate: &G,
+) -> Result<Outcome, Stop>
+    requires some { 1 ≤ options.workers }
+    requires few_workers { options.workers ≤ 4 }
+    requires few { length commands.now < 2 ^ 32 }
+    requires directed { AreDirected commands.now }
+    requires source { scene_of (tree diagram.doc) ≡ Ok diagram.scene }
+    requires printable { IsPrintable (tree diagram.doc) }
+    ensures { Comes (Replays (tree diagram.doc) diagram.scene commands.now options.count) result }
+{
+    let Diagram { doc, scene } = diagram;
+    let routed = route(rt, alloc, &doc, scene, commands, options, gate)?;
+    let Routing {
+        text,
+        is_refused,
+        tally,
+    } = routed;
+    Ok(Outcome {
+        status: status_of(is_refused),
+        text,
+        tally,
+    })
+}
+
+/// A replay of the script on the diagram in the files with these names.
+pub(crate) fn replay_files<R: Threads + Sync, F: Folder, G: Gate>(
+    rt: &R,
+    alloc: Global,
+    diagram: &str,
+    script: &str,
+    options: Options,
+    folder: &mut F,
+    gate: &G,
+) -> Result<Outcome, Stop>
+    requires some { 1 ≤ options.workers }
+    requires few_workers { options.workers ≤ 4 }
+    ensures outcome { Comes (IsFormOutcome (Some (route_form diagram.now script.now options.workers options.count)) (F.files folder.old)
+        (F.notes folder.old) (F.notes folder.new)) result }
+    ensures notes { NotesTwo (F.files folder.old) diagram.now script.now (F.notes folder.old) (F.notes folder.new) }
+    ensures files_kept { F.files folder.new ≡ F.files folder.old }
+{
+    let read = read_diagram(alloc, folder, diagram)?;
+    let commands = read_commands(alloc, folder, script)?;
+    replay_diagram(rt, alloc, read, &commands, options, gate)
+}
