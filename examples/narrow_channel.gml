@@ -1,0 +1,12 @@
+graph [
+  router [ nudge 8 ]
+  node [ id 1 label "A" graphics [ x 0 y 0 w 60 h 90 ]
+    pin [ class 1 x 0 y -45 dirs "N" ] pin [ class 2 x 10 y -45 dirs "N" ] pin [ class 3 x 20 y -45 dirs "N" ] ]
+  node [ id 2 label "B" graphics [ x 260 y 0 w 60 h 90 ]
+    pin [ class 1 x 0 y -45 dirs "N" ] pin [ class 2 x -10 y -45 dirs "N" ] pin [ class 3 x -20 y -45 dirs "N" ] ]
+  node [ id 3 label "in the way" graphics [ x 130 y 0 w 80 h 120 ] ]
+  node [ id 4 label "above" graphics [ x 130 y -100 w 80 h 40 ] ]
+  edge [ source 1 target 2 sourcePin 1 targetPin 1 ]
+  edge [ source 1 target 2 sourcePin 2 targetPin 2 ]
+  edge [ source 1 target 2 sourcePin 3 targetPin 3 ]
+]

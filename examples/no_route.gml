@@ -1,0 +1,10 @@
+graph [
+  node [ id 1 label "A" graphics [ x 0 y 0 w 20 h 20 ] ]
+  node [ id 2 label "B" graphics [ x 100 y 0 w 20 h 20 ] ]
+  node [ id 3 label "roof" graphics [ x 100 y -30 w 80 h 20 ] ]
+  node [ id 4 label "floor" graphics [ x 100 y 30 w 80 h 20 ] ]
+  node [ id 5 label "left wall" graphics [ x 70 y 0 w 20 h 60 ] ]
+  node [ id 6 label "right wall" graphics [ x 130 y 0 w 20 h 60 ] ]
+  edge [ source 1 target 2 ]
+  edge [ source 1 target 3 ]
+]

@@ -1,0 +1,10 @@
+graph [
+  node [ id 1 label "adder" graphics [ x 0 y 0 w 60 h 60 ]
+    pin [ class 1 x 30 y -15 dirs "E" ]
+    pin [ class 2 x 30 y 15 dirs "E" cost 100 ]
+    pin [ class 2 x 0 y 30 dirs "S" ] ]
+  node [ id 2 label "sum" graphics [ x 160 y -40 w 60 h 40 ] pin [ class 7 x -30 y 0 dirs "W" ] ]
+  node [ id 3 label "carry" graphics [ x 160 y 40 w 60 h 40 ] ]
+  edge [ source 1 target 2 sourcePin 1 targetPin 7 ]
+  edge [ source 1 target 3 sourcePin 2 ]
+]

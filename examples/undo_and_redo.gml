@@ -1,0 +1,9 @@
+graph [
+  node [ id 1 label "A" graphics [ x 0 y 0 w 20 h 20 ] ]
+  node [ id 2 label "B" graphics [ x 100 y 0 w 20 h 20 ] ]
+  node [ id 3 label "in the way" graphics [ x 50 y 0 w 20 h 40 ] ]
+  node [ id 4 label "elsewhere" graphics [ x 500 y 0 w 20 h 20 ] ]
+  node [ id 5 label "elsewhere" graphics [ x 600 y 0 w 20 h 20 ] ]
+  edge [ source 1 target 2 ]
+  edge [ source 4 target 5 ]
+]

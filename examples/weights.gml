@@ -1,0 +1,11 @@
+graph [
+  router [ nudge 8 ]
+  node [ id 1 label "A" graphics [ x 0 y 24 w 20 h 20 ] ]
+  node [ id 2 label "B" graphics [ x 200 y 24 w 20 h 20 ] ]
+  node [ id 3 label "below" graphics [ x 50 y 24 w 20 h 40 ] ]
+  node [ id 4 label "C" graphics [ x 120 y 60 w 20 h 20 ] pin [ class 1 x 0 y -10 dirs "N" ] ]
+  node [ id 5 label "D" graphics [ x 300 y -60 w 20 h 20 ] pin [ class 1 x 0 y 10 dirs "S" ] ]
+  node [ id 6 label "above" graphics [ x 235 y -30 w 22 h 52 ] ]
+  edge [ source 1 target 2 nudgeWeight 3 ]
+  edge [ source 4 target 5 sourcePin 1 targetPin 1 ]
+]
