@@ -1,4 +1,4 @@
--- What the list of runs holds while it is made.
+-- What the list of runs holds while it is made. No public clause cites this module.
 use Rattle.std.specs.Prelude.{ℕ, ◌<◌, ◌≤◌, ◌≤ℤ◌, List, map, length}
 use Rattle.plane_geom.specs.declared.rect.Solid.{Solid}
 use Rattle.segment_order.specs.declared.run.Run.{Run}

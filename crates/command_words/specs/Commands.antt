@@ -1,4 +1,4 @@
--- What clap is told of the words of each form, and what it finds.
+-- What clap is told of the words of each form, and what it finds. No public clause cites this module.
 use Rattle.std.specs.Prelude.{◌≡◌, ℕ, Bool, true, false, List, [], Option, Some, None, option_map, unwrap_or, codes, if◌then◌else◌}
 use Rattle.clap.specs.declared.builder.action.ArgAction.TheVariants.{Append, SetTrue}
 use Rattle.clap.specs.declared.parser.matches.ArgMatches.{ArgMatches}

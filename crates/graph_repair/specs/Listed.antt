@@ -1,4 +1,4 @@
--- Whether a line stands in a list.
+-- Whether a line stands in a list. No public clause cites this module.
 use Rattle.std.specs.Prelude.{Bool, ◌&&◌, List}
 use Rattle.std.specs.List.{list_any}
 use Rattle.std.specs.Ordering.{int_eq}

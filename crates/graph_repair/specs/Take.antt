@@ -1,4 +1,4 @@
--- What is left where lines are taken out of an arena.
+-- What is left where lines are taken out of an arena. No public clause cites this module.
 use Rattle.std.specs.Prelude.{◌≡◌, ◌↔◌, ◌+◌, List, Contains}
 use Rattle.std.specs.FinMap.{len}
 use Rattle.plane_geom.specs.declared.floor.Line.{Line}

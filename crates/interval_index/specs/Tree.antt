@@ -1,4 +1,4 @@
--- What the tree is seen as, and what holds of it.
+-- What the tree is seen as, and what holds of it. No public clause cites this module.
 use Rattle.std.specs.Prelude.{◌≡◌, ℕ, ◌+◌, ◌≤◌, max, List, [], ◌∷◌, ◌++◌, length, Box, Option, Some, None}
 use Rattle.std.specs.declared.alloc.Global.{Global}
 use Rattle.interval_index.specs.declared.span.Span.{Span}

@@ -1,4 +1,4 @@
--- What the steps of a phase make of its routes: first the runs of the way move, then the others follow with their corners.
+-- What the steps of a phase make of its routes: first the runs of the way move, then the others follow with their corners. No public clause cites this module.
 use Rattle.std.specs.Prelude.{◌≡◌, ◌≢◌, ℕ, ◌-◌, ◌<◌, ◌≤◌, ℤ, List, length, map, slice_get, slice_set, Option, Some, None, All, Contains, if◌then◌else◌}
 use Rattle.plane_geom.specs.declared.point.Way.{Way}
 use Rattle.segment_order.specs.declared.run.Run.{Run}

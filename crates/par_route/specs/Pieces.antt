@@ -1,4 +1,4 @@
--- How tasks are cut into pieces, and what comes of each.
+-- How tasks are cut into pieces, and what comes of each. No public clause cites this module.
 use Rattle.std.specs.Prelude.{◌≡◌, ℕ, ◌+◌, ◌/◌, ◌%◌, ◌<◌, ◌≤◌, List, [], Result, Ok, Err, Option, if◌then◌else◌, nat_lt, length, slice_index_or}
 use Rattle.std.specs.List.{flat_map}
 use Rattle.std.specs.declared.alloc.AllocError.{AllocError}

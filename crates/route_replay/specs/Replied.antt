@@ -1,4 +1,4 @@
--- What the calls of a replay come to.
+-- What the calls of a replay come to. No public clause cites this module.
 use Rattle.std.specs.Prelude.{◌≡◌, ℕ, ◌+◌, ◌*◌, ◌≤◌, List, length, map}
 use Rattle.scene_model.specs.declared.edit.Command.{Command}
 use Rattle.scene_model.specs.World.{after, played}

@@ -1,4 +1,4 @@
--- The diagram that is written behind the report.
+-- The diagram that is written behind the report. No public clause cites this module.
 use Rattle.std.specs.Prelude.{◌≡◌, ℕ, List}
 use Rattle.gml_text.specs.Tree.{Pairs}
 use Rattle.gml_text.specs.Printed.{printed}
