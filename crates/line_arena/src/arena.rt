@@ -180,9 +180,7 @@ impl LineArena {
         ensures number { result ≡ crossing }
         ensures within { result < self.now.places }
     {
-        // A live entry alone is known to stand below `places`.
-        let (_, _) = self.lists.crossings.get(crossing.place());
-        crossing.place()
+        self.lists.crossings.index(crossing.place())
     }
 
     /// What the numbers of all crossings are below. Only `reserve` changes it, and it never falls.

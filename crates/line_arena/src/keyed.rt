@@ -1,6 +1,6 @@
 //! Values under ids, each with a key by which it is found.
 ghost use Rattle.std.specs.Prelude.{◌≡◌, ◌≢◌, ◌+◌, ◌-◌, ◌<◌, ◌≤◌, ℕ, Some, None, true, false, if◌then◌else◌, [], IfSome, IfNone, OnOk};
-ghost use Rattle.slab.specs.Slab.{Updates, get, slab_len, SameValues};
+ghost use Rattle.slab.specs.Slab.{HasRoomFor, Updates, get, slab_len, SameValues};
 ghost use Rattle.indexmap.specs.IndexMap.{index_map_len, spare, get as id_of};
 ghost use Rattle.line_arena.specs.Keyed.{Lead, entry_at, capacity_of};
 
@@ -57,7 +57,7 @@ impl<K: Key, V: Copy> KeyedSlab<K, V> {
         ensures room { self.old.room ≤ self.new.room }
         ensures ok { OnOk result (slab_len self.old.slab + more ≤ self.new.room) }
     {
-        self.slab.reserve(more)?;
+        make_places(&mut self.slab, more)?;
         let places = self.slab.capacity();
         let wanted = places.saturating_mul(2);
         self.ids.reserve(wanted.saturating_sub(self.ids.len()))?;
@@ -125,12 +125,35 @@ impl<K: Key, V: Copy> KeyedSlab<K, V> {
         if *found == key { Some(id) } else { None }
     }
 
+    /// The id of an entry that is there, below `places`. Reads no entry.
+    pub fn index(&self, id: usize) -> usize
+        requires { entry_at self.now id ≢ None }
+        ensures same { result ≡ id }
+        ensures within { id < self.now.slab.capacity }
+    {
+        let _ = &self.slab;
+        id
+    }
+
     /// Each id is below this.
     pub fn places(&self) -> usize
         ensures { result ≡ self.now.slab.capacity }
     {
         self.slab.capacity()
     }
+}
+
+// Makes room for so many more: where there is none, just that, and an eighth of what is there besides.
+fn make_places<T>(slab: &mut Slab<T>, more: usize) -> Result<(), AllocError>
+    ensures room { OnOk result (HasRoomFor slab.new more) }
+    ensures had_room { HasRoomFor slab.old more → slab.new ≡ slab.old }
+    ensures capacity { slab.old.capacity ≤ slab.new.capacity }
+    ensures rest_kept { slab.new ≡ record slab.old { capacity = slab.new.capacity } }
+{
+    if slab.capacity() - slab.len() >= more {
+        return Ok(());
+    }
+    slab.reserve_exact(more.saturating_add(slab.len() / 8))
 }
 
 // Leads the key to the id, where the map has room for one more.

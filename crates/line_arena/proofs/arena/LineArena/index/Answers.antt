@@ -3,7 +3,7 @@ use Rattle.line_arena.specs.Keyed.{entry_at}
 use Rattle.line_arena.proofs.ArenaLemmas.{live_entry}
 use Rattle.line_arena.proofs.arena.LineArena.index.Goals as goal
 
-pub get-requires : goal.get-requires
-get-requires c =
+pub index-requires : goal.index-requires
+index-requires c =
     subst (λ i. entry_at c.self.inside.lists.crossings i ≢ None) (sym c.place.ensures)
     (live_entry c.self.inside.lists c.self.inside.written c.args.self.now c.self.view_is c.self.invariant c.args.crossing c.requires.live)

@@ -10,14 +10,14 @@ kept_capacity old inside new more same places had_room fits =
     let within : slab_len inside.slab + more ≤ inside.room = subst (λ (k : Keyed _ _). slab_len k.slab + more ≤ k.room) (sym same) fits in
     ap (λ s. s.capacity) (had_room (omega (arith, within, places))) ∙ ap (λ (k : Keyed _ _). k.slab.capacity) same
 
+pub returns-in_err-make_places-clause-had_room : goal.returns-in_err-make_places-clause-had_room
+returns-in_err-make_places-clause-had_room g c =
+    kept_capacity c.args.self.now (record { slab = c.self.inside.slab; room = c.self.inside.room }) c.make_places.new.slab c.args.more c.self.view_is c.self.invariant.places c.make_places.ensures.had_room
+
 pub returns-in_err-reserve-clause-had_room : goal.returns-in_err-reserve-clause-had_room
 returns-in_err-reserve-clause-had_room g c =
-    kept_capacity c.args.self.now (record { slab = c.self.inside.slab; room = c.self.inside.room }) c.reserve.new.self c.args.more c.self.view_is c.self.invariant.places c.reserve.ensures.had_room
-
-pub returns-in_err-reserve-2-clause-had_room : goal.returns-in_err-reserve-2-clause-had_room
-returns-in_err-reserve-2-clause-had_room g c =
-    kept_capacity c.args.self.now (record { slab = c.self.inside.slab; room = c.self.inside.room }) c.reserve.new.self c.args.more c.self.view_is c.self.invariant.places c.reserve.ensures.had_room
+    kept_capacity c.args.self.now (record { slab = c.self.inside.slab; room = c.self.inside.room }) c.make_places.new.slab c.args.more c.self.view_is c.self.invariant.places c.make_places.ensures.had_room
 
 pub returns-clause-had_room : goal.returns-clause-had_room
 returns-clause-had_room g c =
-    kept_capacity c.args.self.now (record { slab = c.self.inside.slab; room = c.self.inside.room }) c.reserve.new.self c.args.more c.self.view_is c.self.invariant.places c.reserve.ensures.had_room
+    kept_capacity c.args.self.now (record { slab = c.self.inside.slab; room = c.self.inside.room }) c.make_places.new.slab c.args.more c.self.view_is c.self.invariant.places c.make_places.ensures.had_room
