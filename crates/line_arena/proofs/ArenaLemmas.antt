@@ -401,7 +401,7 @@ none_spot s e = cc
 pub none_line : (m : Line) → None ≡ Some m → ⊥
 none_line m e = cc
 
--- the entry of a line, of a spot
+-- the entry of a line
 pub entry_line : (a : Lists) (l : ℕ) (line : Line) → line_at a l ≡ Some line → (e : Line × Ends) × (entry_at a.lines l ≡ Some e) × (e.0 ≡ line)
 entry_line a l line is = by (entry_at a.lines l) refl
   where
@@ -411,10 +411,3 @@ entry_line a l line is = by (entry_at a.lines l) refl
     by : (o : Option (Line × Ends)) → entry_at a.lines l ≡ o → (e : Line × Ends) × (entry_at a.lines l ≡ Some e) × (e.0 ≡ line)
     by None e = absurd (none_line line (sym (ap (option_map (λ x. x.0)) e) ∙ is))
     by (Some x) e = (x, e, some_line x.0 line (sym (ap (option_map (λ x. x.0)) e) ∙ is))
-
-pub entry_spot : (a : Lists) (c : ℕ) (s : Spot) → spot_at a c ≡ Some s → (e : Point × Node) × (entry_at a.crossings c ≡ Some e) × (e.0 ≡ s.point)
-entry_spot a c s is = by (entry_at a.crossings c) refl
-  where
-    by : (o : Option (Point × Node)) → entry_at a.crossings c ≡ o → (e : Point × Node) × (entry_at a.crossings c ≡ Some e) × (e.0 ≡ s.point)
-    by None e = absurd (none_spot s (sym (ap (option_map spot_of) e) ∙ is))
-    by (Some x) e = (x, e, ap (λ t. t.point) (same_spot (spot_of x) s (spot_at a c) (ap (option_map spot_of) e) is))

@@ -5,9 +5,11 @@ pub mod Linked
 pub mod Joined
 pub mod Relinked
 pub mod Kept
-pub mod Walk
 pub mod Put
+pub mod Walk
+pub mod InOrder
 pub mod Seen
 pub mod ArenaLemmas
+pub mod OrderKept
 pub mod ArenaLaws
 pub mod Fixtures

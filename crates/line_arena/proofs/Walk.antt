@@ -1,4 +1,4 @@
--- A walk along a line, to the nearest crossing past a point.
+-- A walk along a line, to the first crossing that a point does not lie beyond.
 use Rattle.std.proofs.Common.{◌≡◌, ◌≢◌, ℕ, ◌+◌, ◌<◌, ℤ, pos, negsuc, ◌<ℤ◌, ◌≤ℤ◌, ◌-ℤ◌, Option, Some, None, refl, sym, ap, subst, ◌∙◌, arith}
 use Rattle.std.specs.Prelude.{option_and_then}
 use Rattle.std.specs.Option.{option_map}
@@ -6,6 +6,7 @@ use Rattle.std.proofs.lemmas.Int.{ints}
 use Rattle.plane_geom.specs.declared.point.Point.{Point}
 use Rattle.plane_geom.specs.declared.point.Dir.{Dir}
 use Rattle.plane_geom.specs.declared.point.Dir.TheVariants.{East, South, West, North}
+use Rattle.plane_geom.specs.declared.point.Way.TheVariants.{Vertical}
 use Rattle.plane_geom.specs.declared.floor.Line.{Line}
 use Rattle.plane_geom.specs.Point.{opposite}
 use Rattle.line_arena.specs.declared.lists.Lists.{Lists}
@@ -13,9 +14,10 @@ use Rattle.line_arena.specs.declared.node.Node.{Node}
 use Rattle.plane_geom.specs.Along.{IsFurther, reach, way_of}
 use Rattle.line_arena.specs.Keyed.{entry_at}
 use Rattle.line_arena.specs.Node.{next_of}
-use Rattle.line_arena.specs.Lists.{AreLists, IsNext, IsPast, RunsAlong, Spot, Stands, link, spot_at, spot_of}
+use Rattle.line_arena.specs.Lists.{AreLists, IsFirstFrom, IsNext, IsPast, RunsAlong, Spot, Stands, line_along, line_at, link, spot_at, spot_of}
 use Rattle.line_arena.proofs.Nearest.{int_apart, next_from_previous, not_below, past_further}
 use Rattle.line_arena.proofs.Linked.{reach-opposite, same_spot, turned, turned_back}
+use Rattle.line_arena.proofs.Put.{apart_of_sound}
 
 none_some_spot : (s : Spot) → None ≡ Some s → ⊥
 none_some_spot s e = cc
@@ -36,8 +38,7 @@ pub record IsComing (a : Lists) (l : ℕ) (d : Dir) (p : Point) (next : Option �
   pub past : IsPast from (reach d p)
   pub is_next : IsNext (Stands (spot_at a) l d) from next
 
-module _ (a : Lists) (l : ℕ) (d : Dir) (p : Point) (lists : AreLists a) (runs : RunsAlong a l d)
-    (free : (c : ℕ) → Stands (spot_at a) l d c (reach d p) → ⊥) where
+module _ (a : Lists) (l : ℕ) (d : Dir) (p : Point) (lists : AreLists a) (runs : RunsAlong a l d) where
   pub coming_first : (next : Option ℕ) → next ≡ link a l None d → IsComing a l d p next
   coming_first next e = record {
     from = None;
@@ -49,12 +50,6 @@ module _ (a : Lists) (l : ℕ) (d : Dir) (p : Point) (lists : AreLists a) (runs 
     here : Stands (spot_at a) l d c coming.is_next.0
     here = coming.is_next.1
 
-    -- a crossing that is not past the point stands before it
-    pub before_point : (IsFurther d p e.0 → ⊥) → reach d e.0 <ℤ reach d p
-    before_point not =
-        int_apart (reach d e.0) (reach d p) (not_below (reach d p) (reach d e.0) not)
-        (λ same. free c (subst (Stands (spot_at a) l d c) (sym (stands_reach a l d c _ e is here) ∙ same) here))
-
     pub coming_next : (next : Option ℕ) → next ≡ link a l (Some c) d → IsNext (Stands (spot_at a) l d) (Some (reach d e.0)) next
     coming_next next read =
         let spot = here.spot in
@@ -62,21 +57,30 @@ module _ (a : Lists) (l : ℕ) (d : Dir) (p : Point) (lists : AreLists a) (runs 
         subst (IsNext (Stands (spot_at a) l d) (Some (reach d e.0))) (sym read)
         (subst (λ z. IsNext (Stands (spot_at a) l d) (Some z) (link a l (Some c) d)) (here.along ∙ sym (stands_reach a l d c _ e is here)) on)
 
-    pub coming_more : (IsFurther d p e.0 → ⊥) → (next : Option ℕ) → next ≡ link a l (Some c) d → IsComing a l d p next
-    coming_more not next read = record { from = Some (reach d e.0); past = before_point not; is_next = coming_next next read }
+    pub coming_more : IsFurther d e.0 p → (next : Option ℕ) → next ≡ link a l (Some c) d → IsComing a l d p next
+    coming_more before next read = record { from = Some (reach d e.0); past = before; is_next = coming_next next read }
 
-    pub found : IsFurther d p e.0 → IsNext (Stands (spot_at a) l d) (Some (reach d p)) (Some c)
-    found further =
+    pub found : (IsFurther d e.0 p → ⊥) → IsFirstFrom (Stands (spot_at a) l d) (reach d p) (Some c)
+    found not =
         let h = coming.is_next in (
           h.0,
           h.1,
-          subst (λ z. reach d p <ℤ z) (stands_reach a l d c _ e is here) further,
-          λ k z at q. h.3 k z at (past_further coming.from (reach d p) z coming.past (let less : reach d p <ℤ z = q in omega (arith, ints))),
+          subst (λ z. reach d p ≤ℤ z) (stands_reach a l d c _ e is here) (not_below (reach d e.0) (reach d p) not),
+          λ k z at q. h.3 k z at (past_further coming.from (reach d p) z coming.past q),
         )
 
-  pub found_none : IsComing a l d p None → IsNext (Stands (spot_at a) l d) (Some (reach d p)) None
-  found_none coming = λ k z at q.
-      coming.is_next k z at (past_further coming.from (reach d p) z coming.past (let less : reach d p <ℤ z = q in omega (arith, ints)))
+  pub found_none : IsComing a l d p None → IsFirstFrom (Stands (spot_at a) l d) (reach d p) None
+  found_none coming = λ k z at q. coming.is_next k z at (past_further coming.from (reach d p) z coming.past q)
+
+-- where nothing stands at the coordinate, the first from it on is the nearest past it
+pub past_from : (At : ℕ → ℤ → Type 0) (from : ℤ) → ((c : ℕ) → At c from → ⊥) → (answer : Option ℕ) → IsFirstFrom At from answer → IsNext At (Some from) answer
+past_from At from free None h = λ c z at q. h c z at (let less : from <ℤ z = q in omega (arith, ints))
+past_from At from free (Some n) h = (
+  h.0,
+  h.1,
+  int_apart from h.0 h.2 (λ e. free n (subst (At n) (sym e) h.1)),
+  λ c z at q. h.3 c z at (let less : from <ℤ z = q in omega (arith, ints)),
+)
 
 -- the number, and 0 for one below 0
 abbrev pub above_zero : ℤ → ℕ
@@ -178,3 +182,36 @@ module _ (a : Lists) (l : ℕ) (d : Dir) (runs : RunsAlong a l d) where
           let least : h.0 ≤ℤ (pos 0 -ℤ z) = h.3 c (pos 0 -ℤ z) (turned_back (spot_at a) l d c z here) (omega (arith, ints)) in
           omega (arith, ints))
           (link a l (Some n) (opposite d)) placed
+
+-- what stands at the point is the first from there on
+first_at : (a : Lists) (l : ℕ) (d : Dir) (p : Point) → AreLists a → (answer : Option ℕ) → IsFirstFrom (Stands (spot_at a) l d) (reach d p) answer
+    → (c : ℕ) → Stands (spot_at a) l d c (reach d p) → answer ≡ Some c
+first_at a l d p lists None h c at = absurd (h c (reach d p) at (omega (arith, ints)))
+first_at a l d p lists (Some n) h c at =
+    let from = h.2 in
+    let least = h.3 c (reach d p) at (omega (arith, ints)) in
+    let same : h.0 ≡ reach d p = omega (arith, ints) in
+    ap Some (apart_of_sound (line_at a) (spot_at a) lists.sound d l n c (reach d p) (subst (Stands (spot_at a) l d n) same h.1) at)
+
+down_along : (d : Dir) (s : Spot) → way_of d ≡ Vertical → line_along d s ≡ s.vertical
+down_along East s e = absurd (cc e)
+down_along South s e = refl
+down_along West s e = absurd (cc e)
+down_along North s e = refl
+
+one_line : (l m : Line) (o : Option Line) → o ≡ Some l → o ≡ Some m → l ≡ m
+one_line l m o e f = cc
+
+-- what stands on a vertical line stands along it both ways
+stands_down : (a : Lists) (l : ℕ) (d : Dir) (p : Point) → RunsAlong a l South → RunsAlong a l d → (c : ℕ) (s : Spot) → spot_at a c ≡ Some s → s.vertical ≡ l → s.point ≡ p
+    → Stands (spot_at a) l d c (reach d p)
+stands_down a l d p down runs c s is on at =
+    let same = one_line runs.line down.line (line_at a l) runs.is down.is in
+    let way : way_of d ≡ Vertical = sym runs.way ∙ ap (λ (x : Line). x.way) same ∙ down.way in
+    record { spot = s; is = is; line = down_along d s way ∙ on; along = ap (reach d) at }
+
+-- what stands at the point of a vertical line is the first from there on, both ways
+pub first_down : (a : Lists) (l : ℕ) (d : Dir) (p : Point) → AreLists a → RunsAlong a l South → RunsAlong a l d
+    → (answer : Option ℕ) → IsFirstFrom (Stands (spot_at a) l d) (reach d p) answer
+    → (c : ℕ) (s : Spot) → spot_at a c ≡ Some s → s.vertical ≡ l → s.point ≡ p → answer ≡ Some c
+first_down a l d p lists down runs answer first c s is on at = first_at a l d p lists answer first c (stands_down a l d p down runs c s is on at)

@@ -2,6 +2,7 @@
 pub mod Keyed
 pub mod Node
 pub mod Lists
+pub mod Order
 pub mod Arena
 pub mod Stands
 pub mod View

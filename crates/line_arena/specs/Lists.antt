@@ -52,6 +52,11 @@ abbrev pub IsNext : (ℕ → ℤ → Type 0) → Option ℤ → Option ℕ → T
 IsNext At from None = (c : ℕ) (z : ℤ) → At c z → IsPast from z → ⊥
 IsNext At from (Some n) = (y : ℤ) × At n y × IsPast from y × ((c : ℕ) (z : ℤ) → At c z → IsPast from z → y ≤ℤ z)
 
+-- of what stands at coordinates, this is the nearest that the given one is not past
+abbrev pub IsFirstFrom : (ℕ → ℤ → Type 0) → ℤ → Option ℕ → Type 0
+IsFirstFrom At from None = (c : ℕ) (z : ℤ) → At c z → from ≤ℤ z → ⊥
+IsFirstFrom At from (Some n) = (y : ℤ) × At n y × (from ≤ℤ y) × ((c : ℕ) (z : ℤ) → At c z → from ≤ℤ z → y ≤ℤ z)
+
 -- the crossing is on the line along which one travels in the direction, so far in that direction
 pub record Stands (spots : ℕ → Option Spot) (l : ℕ) (d : Dir) (c : ℕ) (z : ℤ) : Type 0 where
   pub spot : Spot

@@ -3,9 +3,11 @@ ghost use Rattle.std.specs.Prelude.{◌≡◌, ◌+◌, ◌-◌, ◌<◌, ◌≤
 ghost use Rattle.std.specs.FinMap as map;
 ghost use Rattle.line_arena.specs.Arena.{IsApart, IsArena, IsFirst, IsNearest, IsOn, LiesFurther, Meet, StandsAt, counted};
 
+use crate::crossings::Crossings;
 use crate::id::{CrossId, LineId};
 use crate::keyed::KeyedSlab;
 use crate::lists::Lists;
+use crate::order::{column_through, put_in_order, take_out};
 use plane_geom::{Dir, Line, Point};
 use std::alloc::{AllocError, Global};
 use std::marker::Model;
@@ -13,10 +15,12 @@ use std::marker::Model;
 /// Vertical and horizontal lines and their crossings, each under an id of its own.
 ///
 /// A crossing is a node of two doubly linked lists at once, that of its vertical and that of its horizontal line,
-/// by rising coordinate. Lines and crossings are also found by what they are, in constant time on average.
+/// by rising coordinate. Lines are also found by what they are, in constant time on average, and crossings by where they stand.
 #[derive(Drop)]
 pub struct LineArena {
     lists: Lists,
+    // All lines with their ids, by way, `at` and `lo`.
+    order: Vec<(Line, LineId)>,
     written: u64,
 }
 
@@ -27,12 +31,13 @@ impl Model for LineArena {
 
     ghost coded = { arena_code };
 
-    ghost use Rattle.line_arena.specs.Lists.{AreLists};
+    ghost use Rattle.std.specs.Prelude.{vec_len, vec_capacity};
+    ghost use Rattle.line_arena.specs.Order.{IsOrderedArena};
     ghost use Rattle.line_arena.specs.View.{arena_of};
 
     ghost view = { λ a. arena_of a.lists a.written };
 
-    ghost invariant = { λ a. AreLists a.lists };
+    ghost invariant = { λ a. IsOrderedArena a.lists a.order.items (vec_len a.order) (vec_capacity a.order) };
 }
 
 impl LineArena {
@@ -49,8 +54,9 @@ impl LineArena {
         LineArena {
             lists: Lists {
                 lines: KeyedSlab::new(alloc),
-                crossings: KeyedSlab::new(alloc),
+                crossings: Crossings::new(alloc),
             },
+            order: Vec::new(alloc),
             written: 0,
         }
     }
@@ -77,6 +83,7 @@ impl LineArena {
         ensures room_for_lines { OnOk result (lines ≤ self.new.spare_lines) }
         ensures room_for_crossings { OnOk result (crossings ≤ self.new.spare_crossings) }
     {
+        self.order.reserve(lines)?;
         self.lists.lines.reserve(lines)?;
         self.lists.crossings.reserve(crossings)
     }
@@ -98,12 +105,14 @@ impl LineArena {
         ensures arena { IsArena self.new }
     {
         self.written = self.written.saturating_add(1);
-        self.lists.put_line(line)
+        let id = self.lists.put_line(line);
+        put_in_order(&mut self.order, line, id);
+        id
     }
 
     /// Puts in the crossing of a vertical and a horizontal line that meet. Takes no memory.
     ///
-    /// There is a spare place for a crossing, and none of these two lines is there. Takes constant time on average where the crossing goes first or last on each of its lines.
+    /// There is a spare place for a crossing, and none of these two lines is there. Takes constant time where the crossing goes first or last on each of its lines.
     /// `written` rises by one, and stays once it is 2^64 - 1.
     pub fn put_crossing(&mut self, vertical: LineId, horizontal: LineId) -> CrossId
         requires spare { 0 < self.old.spare_crossings }
@@ -141,7 +150,9 @@ impl LineArena {
           spare_lines = self.old.spare_lines + 1;
         } }
     {
+        let (value, _) = *self.lists.lines.get(line.place());
         self.lists.remove_line(line);
+        take_out(&mut self.order, &value);
     }
 
     /// The id of the line, in constant time on average. `None` where the line is not there.
@@ -164,14 +175,16 @@ impl LineArena {
         self.lists.lines.get(line.place()).1.first
     }
 
-    /// The crossing at the point, in constant time on average. `None` where no crossing stands there.
+    /// The crossing at the point. `None` where no crossing stands there.
+    ///
+    /// Finds the vertical line in logarithmic time, and walks along it from its nearer end.
     pub fn crossing_at(&self, at: Point) -> Option<CrossId>
         ensures found { IfSome result (λ c. StandsAt self.now c at) }
         ensures absent { IsNone result ↔ ((c : ℕ) → StandsAt self.now c at → ⊥) }
         ensures arena { IsArena self.now }
     {
-        let place = self.lists.crossings.find(at)?;
-        Some(CrossId::new(place))
+        let line = column_through(self.order.as_slice(), at)?;
+        self.lists.crossing_on(line, at)
     }
 
     /// The number in the id of a crossing that is there, below `places`.

@@ -1,7 +1,7 @@
-//! Keys: lines and points, whose equality is that of their values.
+//! Keys: lines, whose equality is that of their values.
 ghost use Rattle.std.specs.Prelude.{◌≡◌, true};
 
-use plane_geom::{Line, Point};
+use plane_geom::Line;
 use std::hash::Hash;
 
 /// What an entry is found by: values of which `==` says yes are the same.
@@ -25,10 +25,4 @@ impl Key for Line {
         let lo = (Decides-int_eq x.lo y.lo).0 ends.0 in
         let hi = (Decides-int_eq x.hi y.hi).0 ends.1 in
         λ i. record { way = way i; at = at i; lo = lo i; hi = hi i } };
-}
-
-impl Key for Point {
-    ghost use Rattle.std.proofs.Common.{rules};
-
-    ghost same = { Prim.search rules };
 }

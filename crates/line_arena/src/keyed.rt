@@ -1,10 +1,11 @@
 //! Values under ids, each with a key by which it is found.
-ghost use Rattle.std.specs.Prelude.{◌≡◌, ◌≢◌, ◌+◌, ◌-◌, ◌<◌, ◌≤◌, ℕ, Some, None, true, false, if◌then◌else◌, [], IfSome, IfNone, OnOk};
-ghost use Rattle.slab.specs.Slab.{HasRoomFor, Updates, get, slab_len, SameValues};
+ghost use Rattle.std.specs.Prelude.{◌≡◌, ◌≢◌, ◌+◌, ◌-◌, ◌<◌, ◌≤◌, ℕ, Some, None, true, false, if◌then◌else◌, [], IfSome, IfNone, OnOk, max};
+ghost use Rattle.slab.specs.Slab.{Updates, get, slab_len, SameValues};
 ghost use Rattle.indexmap.specs.IndexMap.{index_map_len, spare, get as id_of};
 ghost use Rattle.line_arena.specs.Keyed.{Lead, entry_at, capacity_of};
 
 use crate::key::Key;
+use crate::room::make_places;
 use indexmap::IndexMap;
 use slab::Slab;
 use std::alloc::{AllocError, Global};
@@ -55,6 +56,7 @@ impl<K: Key, V: Copy> KeyedSlab<K, V> {
             self.new.slab.capacity ≡ self.old.slab.capacity }
         ensures within { slab_len self.old.slab ≤ self.old.room }
         ensures room { self.old.room ≤ self.new.room }
+        ensures no_more { self.new.room ≤ max self.old.room (slab_len self.old.slab + more) }
         ensures ok { OnOk result (slab_len self.old.slab + more ≤ self.new.room) }
     {
         make_places(&mut self.slab, more)?;
@@ -124,36 +126,6 @@ impl<K: Key, V: Copy> KeyedSlab<K, V> {
         let (found, _) = self.slab.get(id)?;
         if *found == key { Some(id) } else { None }
     }
-
-    /// The id of an entry that is there, below `places`. Reads no entry.
-    pub fn index(&self, id: usize) -> usize
-        requires { entry_at self.now id ≢ None }
-        ensures same { result ≡ id }
-        ensures within { id < self.now.slab.capacity }
-    {
-        let _ = &self.slab;
-        id
-    }
-
-    /// Each id is below this.
-    pub fn places(&self) -> usize
-        ensures { result ≡ self.now.slab.capacity }
-    {
-        self.slab.capacity()
-    }
-}
-
-// Makes room for so many more: where there is none, just that, and an eighth of what is there besides.
-fn make_places<T>(slab: &mut Slab<T>, more: usize) -> Result<(), AllocError>
-    ensures room { OnOk result (HasRoomFor slab.new more) }
-    ensures had_room { HasRoomFor slab.old more → slab.new ≡ slab.old }
-    ensures capacity { slab.old.capacity ≤ slab.new.capacity }
-    ensures rest_kept { slab.new ≡ record slab.old { capacity = slab.new.capacity } }
-{
-    if slab.capacity() - slab.len() >= more {
-        return Ok(());
-    }
-    slab.reserve_exact(more.saturating_add(slab.len() / 8))
 }
 
 // Leads the key to the id, where the map has room for one more.

@@ -4,12 +4,15 @@
 #![tactic(auto)]
 
 mod arena;
+mod crossings;
 mod id;
 mod key;
 mod keyed;
 mod laws;
 mod lists;
 mod node;
+mod order;
+mod room;
 
 pub use arena::LineArena;
 pub use id::{CrossId, LineId};

@@ -1,12 +1,14 @@
 //! Lines and crossings, each crossing in the lists of its two lines.
-ghost use Rattle.std.specs.Prelude.{◌≡◌, ◌≢◌, ◌+◌, ◌-◌, ◌<◌, ◌≤◌, ◌↔◌, ℕ, ◌≤ℤ◌, Some, None, IsTrue};
+ghost use Rattle.std.specs.Prelude.{◌≡◌, ◌≢◌, ◌+◌, ◌-◌, ◌<◌, ◌≤◌, ◌↔◌, ℕ, ◌≤ℤ◌, Some, None, IsTrue, IfSome};
 ghost use Rattle.std.specs.Option.{ForSome};
 ghost use Rattle.slab.specs.Slab.{slab_len};
 ghost use Rattle.plane_geom.specs.Point.{opposite};
 ghost use Rattle.plane_geom.specs.declared.point.Dir.{Dir};
+ghost use Rattle.plane_geom.specs.declared.point.Dir.TheVariants.{South};
 ghost use Rattle.plane_geom.specs.Along.{IsFurther, reach};
 ghost use Rattle.line_arena.specs.Keyed.{entry_at};
 
+use crate::crossings::Crossings;
 use crate::id::{CrossId, LineId};
 use crate::keyed::KeyedSlab;
 use crate::node::{Ends, Node};
@@ -15,7 +17,7 @@ use plane_geom::{Dir, Line, Point};
 #[derive(Drop)]
 pub struct Lists {
     pub lines: KeyedSlab<Line, Ends>,
-    pub crossings: KeyedSlab<Point, Node>,
+    pub crossings: Crossings,
 }
 
 /// Whether the second point lies further in the direction.
@@ -30,6 +32,13 @@ fn is_further(dir: Dir, from: Point, to: Point) -> bool
     }
 }
 
+/// Whether the points are one.
+fn is_same(at: Point, point: Point) -> bool
+    ensures { IsTrue result ↔ (at ≡ point) }
+{
+    at == point
+}
+
 /// How far the points are from each other along the lines of the direction.
 fn distance_along(dir: Dir, a: Point, b: Point) -> u64 {
     match dir {
@@ -39,7 +48,7 @@ fn distance_along(dir: Dir, a: Point, b: Point) -> u64 {
 }
 
 impl Lists {
-    ghost use Rattle.line_arena.specs.Lists.{AreLinked, AreLists, IsNext, KnowsNeighbours, AreMet, IsApart, IsPut, IsSpot, Relinks, RunsAlong, SameDirection, SameLinks, SamePlaces, Spot, Stands, UpdatesAt, line_along, line_at, link, spot_at, without};
+    ghost use Rattle.line_arena.specs.Lists.{AreLinked, AreLists, IsFirstFrom, IsNext, KnowsNeighbours, AreMet, IsApart, IsPut, IsSpot, Relinks, RunsAlong, SameDirection, SameLinks, SamePlaces, Spot, Stands, UpdatesAt, line_along, line_at, link, spot_at, without};
 
     /// The crossing that follows in the line's list in the direction; after none it is where the list begins.
     fn next(&self, line: LineId, from: &Option<CrossId>, dir: Dir) -> Option<CrossId>
@@ -72,19 +81,18 @@ impl Lists {
         }
     }
 
-    /// The nearest crossing of the line that lies further in the direction than the point.
+    /// The first crossing of the line in the direction that the point does not lie beyond.
     ///
     /// Walks from where the list begins.
-    fn first_past(&self, line: LineId, dir: Dir, point: Point) -> Option<CrossId>
+    fn first_from(&self, line: LineId, dir: Dir, point: Point) -> Option<CrossId>
         requires lists { AreLists self.now }
         requires runs { RunsAlong self.now line dir }
-        requires free { (c : ℕ) → Stands (spot_at self.now) line dir c (reach dir point) → ⊥ }
-        ensures { IsNext (Stands (spot_at self.now) line dir) (Some (reach dir point)) result }
+        ensures { IsFirstFrom (Stands (spot_at self.now) line dir) (reach dir point) result }
     {
         let mut next = self.next(line, &None, dir);
         while let Some(crossing) = next {
             let (at, node) = self.crossings.get(crossing.place());
-            if is_further(dir, point, *at) {
+            if !is_further(dir, *at, point) {
                 return next;
             }
             next = node.next(dir);
@@ -109,6 +117,19 @@ impl Lists {
         }
     }
 
+    /// The direction, or the one against it, in which the line's list begins nearer to the point than it ends.
+    fn nearer_start(&self, line: LineId, dir: Dir, point: Point) -> Dir
+        requires lists { AreLists self.now }
+        requires runs { RunsAlong self.now line dir }
+        ensures { RunsAlong self.now line result }
+    {
+        if self.starts_nearer(line, dir, point) {
+            dir
+        } else {
+            dir.opposite()
+        }
+    }
+
     /// The crossings of the line between which the point stands: the nearest one back, and the nearest one on in the direction.
     fn neighbours(&self, line: LineId, dir: Dir, point: Point) -> (Option<CrossId>, Option<CrossId>)
         requires lists { AreLists self.now }
@@ -118,13 +139,32 @@ impl Lists {
         ensures on { IsNext (Stands (spot_at self.now) line dir) (Some (reach dir point)) result.1 }
     {
         if self.starts_nearer(line, dir, point) {
-            let on = self.first_past(line, dir, point);
+            let on = self.first_from(line, dir, point);
             let back = self.next(line, &on, dir.opposite());
             (back, on)
         } else {
-            let back = self.first_past(line, dir.opposite(), point);
+            let back = self.first_from(line, dir.opposite(), point);
             let on = self.next(line, &back, dir);
             (back, on)
+        }
+    }
+
+    /// The crossing of the vertical line at the point.
+    ///
+    /// The walk begins at the end of the line that is nearer.
+    pub fn crossing_on(&self, line: LineId, point: Point) -> Option<CrossId>
+        requires lists { AreLists self.now }
+        requires runs { RunsAlong self.now line South }
+        ensures found { IfSome result (λ c. (s : Spot) × (spot_at self.now c ≡ Some s) × (s.point ≡ point)) }
+        ensures only { (c : ℕ) (s : Spot) → spot_at self.now c ≡ Some s → s.vertical ≡ line → s.point ≡ point → result ≡ Some c }
+    {
+        let dir = self.nearer_start(line, Dir::South, point);
+        let crossing = self.first_from(line, dir, point)?;
+        let (at, _) = *self.crossings.get(crossing.place());
+        if is_same(at, point) {
+            Some(crossing)
+        } else {
+            None
         }
     }
 
@@ -245,7 +285,6 @@ impl Lists {
         ensures count { slab_len self.new.crossings.slab ≡ slab_len self.old.crossings.slab + 1 }
         ensures room { self.new.crossings.room ≡ self.old.crossings.room }
         ensures places { self.new.crossings.slab.capacity ≡ self.old.crossings.slab.capacity }
-        ensures within { result < self.new.crossings.slab.capacity }
     {
         let point = self.meeting_point(vertical, horizontal);
         let (north, south) = self.neighbours(vertical, Dir::South, point);

@@ -120,6 +120,20 @@ fn stands(alloc: Global, arena: &LineArena, half: bool) -> Result<bool, AllocErr
     Ok(true)
 }
 
+/// Whether a crossing is found at just the points at which one stands, at all of the grid or at every other one.
+fn finds_just_these(arena: &LineArena, half: bool) -> bool {
+    for column in 0..=SIDE {
+        for row in 0..=SIDE {
+            let left_out = half && (u16::from(column) + u16::from(row)) % 2 == 0;
+            let stands = column < SIDE && row < SIDE && !left_out;
+            if arena.crossing_at(grid_point(column, row)).is_some() != stands {
+                return false;
+            }
+        }
+    }
+    true
+}
+
 /// Where the first crossing of the line stands.
 fn first_of(arena: &LineArena, line: Line) -> Option<Point> {
     let first = arena.first_on_line(arena.line_at(line)?)?;
@@ -143,6 +157,7 @@ fn walks_along_every_line(rt: HostRuntime) -> Result<(), Fail> {
                 stands(rt.alloc(), &arena, half)?,
                 "step {step}, half {half}"
             );
+            assert!(rt; finds_just_these(&arena, half), "step {step}, half {half}");
         }
         assert_eq!(rt; arena.written(), 60 + 900 + 450);
     }
@@ -182,17 +197,29 @@ fn fills_just_the_room_taken(rt: HostRuntime) -> Result<(), Fail> {
         lo: 7,
         hi: 7,
     };
+    // One of two points further down in the same column.
+    let under = Line {
+        lo: 8,
+        hi: 9,
+        ..dot
+    };
     let mut arena = LineArena::new(rt.alloc());
-    arena.reserve(2, 1)?;
+    arena.reserve(3, 1)?;
     let across = arena.put_line(row);
     let down = arena.put_line(dot);
     let crossing = arena.put_crossing(down, across);
     assert_eq!(rt; arena.point(crossing), Point { x: 5, y: 7 });
     assert_eq!(rt; arena.next_on_line(crossing, Dir::South), None);
+    arena.put_line(under);
+    assert_eq!(rt; arena.crossing_at(Point { x: 5, y: 7 }), Some(crossing));
+    assert_eq!(rt; arena.crossing_at(Point { x: 5, y: 8 }), None);
+    assert_eq!(rt; arena.crossing_at(Point { x: 4, y: 7 }), None);
     arena.remove_crossing(crossing);
+    assert_eq!(rt; arena.crossing_at(Point { x: 5, y: 7 }), None);
     arena.remove_line(down);
+    assert_eq!(rt; arena.crossing_at(Point { x: 5, y: 7 }), None);
     assert_eq!(rt; arena.line_at(dot), None);
     assert_eq!(rt; arena.line_at(row), Some(across));
-    assert_eq!(rt; arena.written(), 3);
+    assert_eq!(rt; arena.written(), 4);
     Ok(())
 }

@@ -1,4 +1,4 @@
-use Rattle.std.proofs.Common.{◌≡◌, ◌≢◌, ℕ, pos, Some, None, cond, inl, inr, refl, sym, ap, ◌∙◌, arith}
+use Rattle.std.proofs.Common.{◌≡◌, ◌≢◌, ℕ, pos, Some, None, cond, inl, inr, refl, sym, ap, subst, ◌∙◌, arith}
 use Rattle.std.specs.Prelude.{is_some}
 use Rattle.std.specs.Ordering.{nat_cmp}
 use Rattle.std.specs.FinMap.{FinMap, empty, get, insert, remove, get-empty, get-insert, get-remove}
@@ -7,7 +7,9 @@ use Rattle.std.proofs.lemmas.Cmp.{nat_cmp_total}
 use Rattle.std.proofs.lemmas.Int.{ints}
 use Rattle.std.proofs.lemmas.Option.{none-some}
 use Rattle.plane_geom.specs.declared.point.Way.TheVariants.{Vertical, Horizontal}
+use Rattle.plane_geom.specs.declared.point.Point.{Point}
 use Rattle.plane_geom.specs.declared.floor.Line.{Line}
+use Rattle.plane_geom.specs.Floor.{Holds}
 use Rattle.line_arena.specs.Arena.{Pair}
 use Rattle.line_arena.proofs.Fixtures.{in_empty, in_insert}
 use Rattle.line_arena.proofs.Seen.{tied, untied}
@@ -18,6 +20,17 @@ row = record { way = Horizontal; at = pos 7; lo = pos 0; hi = pos 10 }
 
 abbrev dot : Line
 dot = record { way = Vertical; at = pos 5; lo = pos 7; hi = pos 7 }
+
+abbrev under : Line
+under = record dot { lo = pos 8; hi = pos 9 }
+
+-- one stands above the other
+parts : (p : Point) → Holds dot p → Holds under p → ⊥
+parts p up low =
+    let y : up.along ≡ low.along = ap (λ (q : Point). q.y) (sym up.here ∙ low.here) in
+    let last = up.to in
+    let first = low.from in
+    omega (arith, ints)
 
 different : Horizontal ≡ Vertical → ⊥
 different h = cc
@@ -75,6 +88,20 @@ put_crossing-crossing-requires-clause-new_pair g c = λ k is.
     let none = ap (λ v. v.crossings) c.put_line-down.ensures.after ∙ ap (λ v. v.crossings) c.put_line-across.ensures.after ∙ c.reserve.ensures.crossings ∙ c.new-arena.ensures.crossings in
     none-some _ (sym (get-empty nat_cmp k) ∙ ap (λ m. get m k) (sym none) ∙ is)
 
+pub put_line-requires-clause-apart : goal.put_line-requires-clause-apart
+put_line-requires-clause-apart g c = λ l other p is whole on_other on_under.
+    let first = ap (λ v. v.lines) c.put_line-across.ensures.after in
+    let second = ap (λ v. v.lines) c.put_line-down.ensures.after in
+    let third = ap (λ v. v.lines) c.put_crossing-crossing.ensures.after in
+    elim (in_insert c.put_line-across.new.self.lines c.put_line-down.result l dot other (ap (λ m. get m l) (sym second) ∙ ap (λ m. get m l) (sym third) ∙ is)) [
+      | inl e ↦ parts p (subst (λ (x : Line). Holds x p) (sym e) on_other) on_under
+      | inr there ↦
+          elim (in_insert c.reserve.new.self.lines c.put_line-across.result l row other (ap (λ m. get m l) (sym first) ∙ there)) [
+            | inl e ↦ different (ap (λ x. x.way) e ∙ whole.way)
+            | inr old ↦ in_empty c.reserve.new.self.lines l other (c.reserve.ensures.lines ∙ c.new-arena.ensures.lines) old
+          ]
+    ]
+
 pub point-requires : goal.point-requires
 point-requires g c =
     let id = c.put_crossing-crossing.result in
@@ -84,11 +111,12 @@ point-requires g c =
 pub remove_line-requires-clause-live : goal.remove_line-requires-clause-live
 remove_line-requires-clause-live g c =
     let id = c.put_line-down.result in
-    let lines = ap (λ v. v.lines) c.remove_crossing.ensures.after ∙ ap (λ v. v.lines) c.put_crossing-crossing.ensures.after ∙ ap (λ v. v.lines) c.put_line-down.ensures.after in
-    ap is_some (ap (λ m. get m id) lines ∙ at_insert c.put_line-across.new.self.lines id dot)
+    let was = ap (λ m. get m id) (ap (λ v. v.lines) c.put_crossing-crossing.ensures.after ∙ ap (λ v. v.lines) c.put_line-down.ensures.after) ∙ at_insert c.put_line-across.new.self.lines id dot in
+    let lines = ap (λ v. v.lines) c.remove_crossing.ensures.after ∙ ap (λ v. v.lines) c.put_line.ensures.after in
+    ap is_some (ap (λ m. get m id) lines ∙ past_insert c.put_crossing-crossing.new.self.lines c.put_line.result id under dot c.put_line.ensures.new_id was)
 
 pub remove_line-requires-clause-no_crossings : goal.remove_line-requires-clause-no_crossings
 remove_line-requires-clause-no_crossings g c = λ k on.
     let none = ap (λ v. v.crossings) c.put_line-down.ensures.after ∙ ap (λ v. v.crossings) c.put_line-across.ensures.after ∙ c.reserve.ensures.crossings ∙ c.new-arena.ensures.crossings in
-    let taken = ap (λ v. v.crossings) c.remove_crossing.ensures.after ∙ ap (λ v. remove v.crossings c.put_crossing-crossing.result) c.put_crossing-crossing.ensures.after in
+    let taken = ap (λ v. v.crossings) c.remove_crossing.ensures.after ∙ ap (λ v. remove v.crossings c.put_crossing-crossing.result) c.put_line.ensures.after ∙ ap (λ v. remove v.crossings c.put_crossing-crossing.result) c.put_crossing-crossing.ensures.after in
     gone c.put_line-down.new.self.crossings c.put_crossing-crossing.result k _ on.pair none (ap (λ m. get m k) (sym taken) ∙ on.is)

@@ -1,29 +1,46 @@
-use Rattle.std.proofs.Common.{◌∙◌, ap, refl, sym, subst}
-use Rattle.std.specs.Option.{option_map}
-use Rattle.line_arena.specs.Arena.{StandsAt}
-use Rattle.line_arena.specs.Lists.{spot_of}
-use Rattle.line_arena.proofs.ArenaLemmas.{entry_spot, is_arena, spot_standing, stands_at}
+use Rattle.std.proofs.Common.{◌≡◌, ℕ, None, Some, sym, subst}
+use Rattle.std.specs.Prelude.{Contains}
+use Rattle.line_arena.specs.Lists.{Spot, spot_at}
+use Rattle.line_arena.specs.Order.{AreApart}
+use Rattle.line_arena.proofs.ArenaLemmas.{is_arena}
+use Rattle.line_arena.proofs.OrderKept.{apart_in, at_absent, at_found, column_is, none_there}
 use Rattle.line_arena.proofs.arena.LineArena.crossing_at.Goals as goal
+use Rattle.line_arena.proofs.arena.LineArena.crossing_at.Goals.{After-crossing_on}
 
-pub returns-in_err-place-clause-absent : goal.returns-in_err-place-clause-absent
-returns-in_err-place-clause-absent c =
+pub column_through-requires-clause-apart : goal.column_through-requires-clause-apart
+column_through-requires-clause-apart c = subst AreApart (sym c.as_slice.ensures.value) (apart_in c.self.inside.lists c.self.inside.order.items _ _ c.self.invariant)
+
+pub crossing_on-requires-clause-lists : goal.crossing_on-requires-clause-lists
+crossing_on-requires-clause-lists c = c.self.invariant.lists
+
+pub crossing_on-requires-clause-runs : goal.crossing_on-requires-clause-runs
+crossing_on-requires-clause-runs c =
+    let found = (c.in_ok-line.ensures {u = tt}).found in
+    record { line = found.0; is = (c.self.invariant.listed found.0 c.in_ok-line.line).0 (subst (λ ls. Contains ls (found.0, c.in_ok-line.line)) c.as_slice.ensures.value found.1); way = found.2 }
+
+-- a crossing at the point is on the column that was found
+on_column : (c : After-crossing_on) → (k : ℕ) (s : Spot) → spot_at c.self.inside.lists k ≡ Some s → s.point ≡ c.args.at → s.vertical ≡ c.in_ok-line.line
+on_column c k s is at =
+    let same : Some c.in_ok-line.line ≡ Some s.vertical = column_is c.self.inside.lists c.self.inside.order.items _ _ c.self.invariant c.args.at (Some c.in_ok-line.line)
+    (λ e there. (c.in_ok-line.ensures {u = tt}).only e (subst (λ ls. Contains ls e) (sym c.as_slice.ensures.value) there)) k s is at in
+    (let one : s.vertical ≡ c.in_ok-line.line = cc in one)
+
+pub returns-in_err-line-clause-absent : goal.returns-in_err-line-clause-absent
+returns-in_err-line-clause-absent c =
     let a = c.self.inside.lists in
-    rw c.from_residual.ensures (λ no k stands. let s = spot_standing a c.self.inside.written c.args.self.now c.self.view_is c.self.invariant k c.args.at stands in let e = entry_spot a k s.0 s.1 in (c.in_err-place.ensures {u = tt}).absent k e.0 e.1 (e.2 ∙ s.2), λ _. refl)
+    rw c.from_residual.ensures (at_absent a c.self.inside.written c.args.self.now c.self.view_is c.self.invariant.lists c.args.at None tt
+    (λ k s is at. absurd (none_there s.vertical (column_is a c.self.inside.order.items _ _ c.self.invariant c.args.at None
+    (λ e there. (c.in_err-line.ensures {u = tt}).only e (subst (λ ls. Contains ls e) (sym c.as_slice.ensures.value) there)) k s is at))))
 
-pub returns-in_err-place-clause-arena : goal.returns-in_err-place-clause-arena
-returns-in_err-place-clause-arena c = let a = c.self.inside.lists in is_arena a c.self.inside.written c.args.self.now c.self.view_is c.self.invariant
+pub returns-in_err-line-clause-arena : goal.returns-in_err-line-clause-arena
+returns-in_err-line-clause-arena c = is_arena c.self.inside.lists c.self.inside.written c.args.self.now c.self.view_is c.self.invariant.lists
 
 pub returns-clause-found : goal.returns-clause-found
-returns-clause-found c =
-    let a = c.self.inside.lists in
-    let found = (c.in_ok-place.ensures {u = tt}).found in
-    subst (λ i. StandsAt c.args.self.now i c.args.at) (sym c.new.ensures) (stands_at a c.self.inside.written c.args.self.now c.self.view_is c.self.invariant c.in_ok-place.place (spot_of (c.args.at, found.0)) (ap (option_map spot_of) found.1))
+returns-clause-found c = at_found c.self.inside.lists c.self.inside.written c.args.self.now c.self.view_is c.self.invariant.lists c.args.at c.crossing_on.result c.crossing_on.ensures.found
 
 pub returns-clause-absent : goal.returns-clause-absent
-returns-clause-absent c =
-    let a = c.self.inside.lists in
-    let found = (c.in_ok-place.ensures {u = tt}).found in
-    (λ e. absurd (cc e), λ none. absurd (none c.new.result (subst (λ i. StandsAt c.args.self.now i c.args.at) (sym c.new.ensures) (stands_at a c.self.inside.written c.args.self.now c.self.view_is c.self.invariant c.in_ok-place.place (spot_of (c.args.at, found.0)) (ap (option_map spot_of) found.1)))))
+returns-clause-absent c = at_absent c.self.inside.lists c.self.inside.written c.args.self.now c.self.view_is c.self.invariant.lists c.args.at c.crossing_on.result c.crossing_on.ensures.found
+    (λ k s is at. c.crossing_on.ensures.only k s is (on_column c k s is at) at)
 
 pub returns-clause-arena : goal.returns-clause-arena
-returns-clause-arena c = let a = c.self.inside.lists in is_arena a c.self.inside.written c.args.self.now c.self.view_is c.self.invariant
+returns-clause-arena c = is_arena c.self.inside.lists c.self.inside.written c.args.self.now c.self.view_is c.self.invariant.lists

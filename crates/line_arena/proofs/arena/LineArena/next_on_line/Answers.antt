@@ -11,7 +11,7 @@ use Rattle.line_arena.proofs.arena.LineArena.next_on_line.Goals as goal
 pub get-requires : goal.get-requires
 get-requires c =
     subst (λ i. entry_at c.self.inside.lists.crossings i ≢ None) (sym c.place.ensures)
-    (live_entry c.self.inside.lists c.self.inside.written c.args.self.now c.self.view_is c.self.invariant c.args.crossing c.requires.live)
+    (live_entry c.self.inside.lists c.self.inside.written c.args.self.now c.self.view_is c.self.invariant.lists c.args.crossing c.requires.live)
 
 pub returns-clause-nearest : goal.returns-clause-nearest
 returns-clause-nearest c =
@@ -21,8 +21,8 @@ returns-clause-nearest c =
     let is = subst (λ i. entry_at a.crossings i ≡ Some e) c.place.ensures c.get.ensures.value in
     let spot = ap (option_map spot_of) is in
     let read = c.next.ensures ∙ sym (ap (option_and_then (λ x. next_of d x.1)) is) in
-    let next = subst (IsNext (Stands (spot_at a) (line_along d (spot_of e)) d) (Some (reach d e.0))) (sym read) ((c.self.invariant.linked d).nexts c.args.crossing (spot_of e) spot) in
-    nearest_seen a c.self.inside.written c.args.self.now c.self.view_is c.self.invariant d c.args.crossing (spot_of e) spot c.next.result next
+    let next = subst (IsNext (Stands (spot_at a) (line_along d (spot_of e)) d) (Some (reach d e.0))) (sym read) ((c.self.invariant.lists.linked d).nexts c.args.crossing (spot_of e) spot) in
+    nearest_seen a c.self.inside.written c.args.self.now c.self.view_is c.self.invariant.lists d c.args.crossing (spot_of e) spot c.next.result next
 
 pub returns-clause-absent : goal.returns-clause-absent
 returns-clause-absent c =
@@ -32,8 +32,8 @@ returns-clause-absent c =
     let is = subst (λ i. entry_at a.crossings i ≡ Some e) c.place.ensures c.get.ensures.value in
     let spot = ap (option_map spot_of) is in
     let read = c.next.ensures ∙ sym (ap (option_and_then (λ x. next_of d x.1)) is) in
-    let next = subst (IsNext (Stands (spot_at a) (line_along d (spot_of e)) d) (Some (reach d e.0))) (sym read) ((c.self.invariant.linked d).nexts c.args.crossing (spot_of e) spot) in
-    none_seen a c.self.inside.written c.args.self.now c.self.view_is c.self.invariant d c.args.crossing (spot_of e) spot c.next.result next
+    let next = subst (IsNext (Stands (spot_at a) (line_along d (spot_of e)) d) (Some (reach d e.0))) (sym read) ((c.self.invariant.lists.linked d).nexts c.args.crossing (spot_of e) spot) in
+    none_seen a c.self.inside.written c.args.self.now c.self.view_is c.self.invariant.lists d c.args.crossing (spot_of e) spot c.next.result next
 
 pub returns-clause-arena : goal.returns-clause-arena
-returns-clause-arena c = is_arena c.self.inside.lists c.self.inside.written c.args.self.now c.self.view_is c.self.invariant
+returns-clause-arena c = is_arena c.self.inside.lists c.self.inside.written c.args.self.now c.self.view_is c.self.invariant.lists

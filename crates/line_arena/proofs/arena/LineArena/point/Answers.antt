@@ -8,10 +8,10 @@ use Rattle.line_arena.proofs.arena.LineArena.point.Goals as goal
 pub get-requires : goal.get-requires
 get-requires c =
     subst (λ i. entry_at c.self.inside.lists.crossings i ≢ None) (sym c.place.ensures)
-    (live_entry c.self.inside.lists c.self.inside.written c.args.self.now c.self.view_is c.self.invariant c.args.crossing c.requires.live)
+    (live_entry c.self.inside.lists c.self.inside.written c.args.self.now c.self.view_is c.self.invariant.lists c.args.crossing c.requires.live)
 
 pub returns : goal.returns
 returns c =
     let a = c.self.inside.lists in
     let is = subst (λ i. entry_at a.crossings i ≡ Some c.get.result.now) c.place.ensures c.get.ensures.value in
-    stands_at a c.self.inside.written c.args.self.now c.self.view_is c.self.invariant c.args.crossing (spot_of c.get.result.now) (ap (option_map spot_of) is)
+    stands_at a c.self.inside.written c.args.self.now c.self.view_is c.self.invariant.lists c.args.crossing (spot_of c.get.result.now) (ap (option_map spot_of) is)

@@ -19,11 +19,6 @@ neighbours-west-requires-clause-free c =
     let a = c.args.self.now in
     free_at (line_at a) (spot_at a) c.requires.lists.sound _ c.meeting_point-point.ensures c.requires.new_pair East
 
-pub insert-requires-clause-new_key : goal.insert-requires-clause-new_key
-insert-requires-clause-new_key c = λ id e is.
-    let a = c.args.self.now in
-    new_point (line_at a) (spot_at a) c.requires.lists.sound _ c.meeting_point-point.ensures c.requires.new_pair id (spot_of e) (ap (option_map spot_of) is)
-
 pub link_all-requires-clause-knows : goal.link_all-requires-clause-knows
 link_all-requires-clause-knows c =
     let a = c.args.self.now in

@@ -1,5 +1,5 @@
 use Rattle.line_arena.proofs.Walk.{IsComing, left_at}
-use Rattle.line_arena.proofs.lists.Lists.first_past.Given as goal
+use Rattle.line_arena.proofs.lists.Lists.first_from.Given as goal
 
 abbrev pub invariant-loop-next : goal.invariant-loop-next
 invariant-loop-next l = IsComing l.self l.fn.line l.dir l.point l.next

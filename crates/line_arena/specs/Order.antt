@@ -1,0 +1,47 @@
+-- Lines with their ids, in order. No public clause cites this module.
+use Rattle.std.specs.Prelude.{◌≡◌, ◌≤◌, ◌↔◌, ℕ, Bool, true, false, ◌&&◌, ◌||◌, int_lt, ◌≤ℤ◌, List, Some, AllPairs, Contains}
+use Rattle.std.specs.Ordering.{int_eq}
+use Rattle.slab.specs.Slab.{slab_len}
+use Rattle.plane_geom.specs.declared.point.Point.{Point}
+use Rattle.plane_geom.specs.declared.point.Way.{Way}
+use Rattle.plane_geom.specs.declared.point.Way.TheVariants.{Vertical, Horizontal}
+use Rattle.plane_geom.specs.declared.floor.Line.{Line}
+use Rattle.plane_geom.specs.Floor.{AreOnOneWholeLine, Holds}
+use Rattle.line_arena.specs.declared.lists.Lists.{Lists}
+use Rattle.line_arena.specs.Lists.{AreLists, line_at}
+
+-- whether a line of the one way stands before a line of the other; the rest tells lines of one way
+abbrev pub way_before : Way → Way → Bool → Bool
+way_before Vertical Vertical rest = rest
+way_before Vertical Horizontal rest = true
+way_before Horizontal Vertical rest = false
+way_before Horizontal Horizontal rest = rest
+
+-- whether one line stands before another: vertical ones first, then by coordinate, then by begin
+abbrev pub stands_before : Line → Line → Bool
+stands_before l m = way_before l.way m.way (int_lt l.at m.at || (int_eq l.at m.at && int_lt l.lo m.lo))
+
+-- the vertical line of the point alone
+abbrev pub at_point : Point → Line
+at_point p = record { way = Vertical; at = p.x; lo = p.y; hi = p.y }
+
+-- each line stands before all later ones
+abbrev pub AreInOrder : List (Line × ℕ) → Type 0
+AreInOrder = AllPairs (λ d e. stands_before d.0 e.0 ≡ true)
+
+-- each of the lines stands before the line or after it
+abbrev pub HasPlace : List (Line × ℕ) → Line → Type 0
+HasPlace lines line = (e : Line × ℕ) → Contains lines e → stands_before line e.0 ≡ false → stands_before e.0 line ≡ true
+
+-- no two of the lines share a point of one whole line, and none ends before it begins
+pub record AreApart (lines : List (Line × ℕ)) : Type 0 where
+  pub ordered : (e : Line × ℕ) → Contains lines e → e.0.lo ≤ℤ e.0.hi
+  pub apart : (d e : Line × ℕ) (p : Point) → Contains lines d → Contains lines e → AreOnOneWholeLine d.0 e.0 → Holds d.0 p → Holds e.0 p → d ≡ e
+
+-- what an arena keeps: its lists, and all their lines in order; so many are held, and there is room for all that fit
+pub record IsOrderedArena (a : Lists) (lines : List (Line × ℕ)) (held capacity : ℕ) : Type 0 where
+  pub lists : AreLists a
+  pub ordered : AreInOrder lines
+  pub listed : (line : Line) (id : ℕ) → Contains lines (line, id) ↔ (line_at a id ≡ Some line)
+  pub count : held ≡ slab_len a.lines.slab
+  pub room : a.lines.room ≤ capacity

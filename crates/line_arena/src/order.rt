@@ -1,0 +1,99 @@
+//! Lines with their ids, in order.
+ghost use Rattle.std.specs.Prelude.{◌≡◌, ◌+◌, ◌<◌, ◌≤◌, ◌⊎◌, ◌↔◌, ◌≢◌, ◌≤ℤ◌, ℕ, true, false, Some, Contains, IfSome, IsTrue, length, vec_len, vec_capacity};
+ghost use Rattle.std.specs.List.Sorted.{IsPartitionPoint};
+ghost use Rattle.plane_geom.specs.declared.floor.Line.{Line};
+ghost use Rattle.plane_geom.specs.declared.point.Way.TheVariants.{Vertical};
+ghost use Rattle.plane_geom.specs.Floor.{Holds};
+ghost use Rattle.line_arena.specs.Order.{AreApart, AreInOrder, HasPlace, at_point, stands_before};
+
+use crate::id::LineId;
+use plane_geom::{Line, Point, Way};
+
+/// Whether the line stands before the other one: vertical lines first, then by coordinate, then by begin.
+fn is_before(line: &Line, other: &Line) -> bool
+    ensures { result ≡ stands_before line.now other.now }
+{
+    match (line.way, other.way) {
+        (Way::Vertical, Way::Horizontal) => true,
+        (Way::Horizontal, Way::Vertical) => false,
+        _ => line.at < other.at || (line.at == other.at && line.lo < other.lo),
+    }
+}
+
+/// How many of the lines the line does not stand before.
+fn count_upto(lines: &[(Line, LineId)], line: &Line) -> usize
+    requires { AreInOrder lines.now }
+    ensures bound { result ≤ length lines.now }
+    ensures point { IsPartitionPoint (λ e. stands_before line.now e.0 ≡ false) (λ e. stands_before line.now e.0 ≡ true) lines.now result }
+{
+    lines.partition_point(|(other, _)| !is_before(line, other))
+}
+
+/// Puts a line in at its place, and takes no memory.
+pub fn put_in_order(lines: &mut Vec<(Line, LineId)>, line: Line, id: LineId)
+    requires ordered { AreInOrder lines.old.items }
+    requires place { HasPlace lines.old.items line }
+    requires room { vec_len lines.old < vec_capacity lines.old }
+    ensures ordered { AreInOrder lines.new.items }
+    ensures there { (e : Line × ℕ) → Contains lines.new.items e ↔ ((e ≡ (line, id)) ⊎ Contains lines.old.items e) }
+    ensures len { vec_len lines.new ≡ vec_len lines.old + 1 }
+    ensures room { vec_capacity lines.new ≡ vec_capacity lines.old }
+{
+    let place = count_upto(lines.as_slice(), &line);
+    let _ = lines.insert(place, (line, id));
+}
+
+/// Takes a line out that is there.
+pub fn take_out(lines: &mut Vec<(Line, LineId)>, line: &Line)
+    requires ordered { AreInOrder lines.old.items }
+    requires there { (id : ℕ) × Contains lines.old.items (line.now, id) }
+    ensures ordered { AreInOrder lines.new.items }
+    ensures left { (e : Line × ℕ) → Contains lines.new.items e ↔ (Contains lines.old.items e × (e.0 ≢ line.now)) }
+    ensures len { vec_len lines.new + 1 ≡ vec_len lines.old }
+    ensures room { vec_capacity lines.new ≡ vec_capacity lines.old }
+{
+    let place = count_upto(lines.as_slice(), line);
+    lines.remove(place - 1);
+}
+
+/// The id of the vertical line through the point, in logarithmic time.
+pub fn column_through(lines: &[(Line, LineId)], point: Point) -> Option<LineId>
+    requires ordered { AreInOrder lines.now }
+    requires apart { AreApart lines.now }
+    ensures found { IfSome result (λ id. (line : Line) × Contains lines.now (line, id) × (line.way ≡ Vertical)) }
+    ensures only { (e : Line × ℕ) → Contains lines.now e → e.0.way ≡ Vertical → Holds e.0 point → result ≡ Some e.1 }
+{
+    let here = column_at(point);
+    let place = count_upto(lines, &here);
+    if place == 0 {
+        return None;
+    }
+    let (line, id) = lines[place - 1];
+    if reaches(&line, point) {
+        Some(id)
+    } else {
+        None
+    }
+}
+
+/// The vertical line of the point alone.
+fn column_at(point: Point) -> Line
+    ensures { result ≡ at_point point }
+{
+    Line {
+        way: Way::Vertical,
+        at: point.x,
+        lo: point.y,
+        hi: point.y,
+    }
+}
+
+/// Whether the line is a vertical one in the point's column that does not end before the point.
+fn reaches(line: &Line, point: Point) -> bool
+    ensures { IsTrue result ↔ ((line.now.way ≡ Vertical) × (line.now.at ≡ point.x) × (point.y ≤ℤ line.now.hi)) }
+{
+    match line.way {
+        Way::Vertical => line.at == point.x && point.y <= line.hi,
+        Way::Horizontal => false,
+    }
+}
