@@ -3,7 +3,7 @@ ghost use Rattle.std.specs.Prelude.{◌≡◌, ◌<◌, pos, IfOk, ℕ, ◌<ℤ�
 ghost use Rattle.std.specs.Option.{ForSome};
 ghost use Rattle.line_arena.specs.Fixtures.{grid_line_of, grid_point_of};
 
-use crate::LineArena;
+use crate::{CrossId, LineArena};
 use plane_geom::{Dir, Line, Point, Way};
 use std::alloc::{AllocError, Global};
 use std::test::Fail;
@@ -134,6 +134,10 @@ fn finds_just_these(arena: &LineArena, half: bool) -> bool {
     true
 }
 
+fn found(arena: &LineArena, column: u8, row: u8) -> Option<CrossId> {
+    arena.crossing_at(grid_point(column, row))
+}
+
 /// Where the first crossing of the line stands.
 fn first_of(arena: &LineArena, line: Line) -> Option<Point> {
     let first = arena.first_on_line(arena.line_at(line)?)?;
@@ -211,13 +215,13 @@ fn fills_just_the_room_taken(rt: HostRuntime) -> Result<(), Fail> {
     assert_eq!(rt; arena.point(crossing), Point { x: 5, y: 7 });
     assert_eq!(rt; arena.next_on_line(crossing, Dir::South), None);
     arena.put_line(under);
-    assert_eq!(rt; arena.crossing_at(Point { x: 5, y: 7 }), Some(crossing));
-    assert_eq!(rt; arena.crossing_at(Point { x: 5, y: 8 }), None);
-    assert_eq!(rt; arena.crossing_at(Point { x: 4, y: 7 }), None);
+    assert_eq!(rt; found(&arena, 5, 7), Some(crossing));
+    assert_eq!(rt; found(&arena, 5, 8), None);
+    assert_eq!(rt; found(&arena, 4, 7), None);
     arena.remove_crossing(crossing);
-    assert_eq!(rt; arena.crossing_at(Point { x: 5, y: 7 }), None);
+    assert_eq!(rt; found(&arena, 5, 7), None);
     arena.remove_line(down);
-    assert_eq!(rt; arena.crossing_at(Point { x: 5, y: 7 }), None);
+    assert_eq!(rt; found(&arena, 5, 7), None);
     assert_eq!(rt; arena.line_at(dot), None);
     assert_eq!(rt; arena.line_at(row), Some(across));
     assert_eq!(rt; arena.written(), 4);
