@@ -8,6 +8,10 @@ use Rattle.gml_text.specs.Token.{begun, after, is_sign}
 use Rattle.gml_text.specs.declared.token.NumberPart.{NumberPart}
 use Rattle.gml_text.specs.declared.token.NumberPart.TheVariants.{Sign, Whole, Point, Fraction, Mark, MarkSign, Exponent}
 
+-- two that are not the same, as a test
+pub not_same : (a b : ℕ) → (a ≡ b → ⊥) → (a == b) ≡ false
+not_same a b h = grind (arith, nat_tests)
+
 -- what begins a key is no white space and no bracket
 pub key_begin : (b : ℕ) → begins_key b ≡ true → (is_space b ≡ false) × ((b == 35) ≡ false) × ((b == 93) ≡ false)
 key_begin b h = (grind (arith, nat_tests), grind (arith, nat_tests), grind (arith, nat_tests))

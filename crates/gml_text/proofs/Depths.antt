@@ -5,20 +5,12 @@ use Rattle.std.proofs.lemmas.Option.{none-some, same_Some}
 use Rattle.gml_text.specs.Bytes.{is_space, begins_key, is_key_byte, is_word_byte}
 use Rattle.gml_text.specs.Tree.{Content, number, text, list, Pairs, no_pairs, pair, depth, value_depth, ◌then◌}
 use Rattle.gml_text.specs.Reading.{Where, between, behind, Mode, in_gap, in_comment, in_key, in_number, in_text, Frame, State, closed, opened, begins, in_space, key_step, number_step, text_step, mode_step, stepped, whole, finished, accepted}
+use Rattle.gml_text.specs.Standing.{closed_up, height}
 use Rattle.gml_text.specs.Token.{begun, after, is_complete}
 use Rattle.gml_text.specs.declared.token.NumberPart.{NumberPart}
 use Rattle.gml_text.specs.declared.token.NumberPart.TheVariants.{Sign, Whole, Point, Fraction, Mark, MarkSign, Exponent}
 use Rattle.gml_text.proofs.Accepting.{at}
 use Rattle.gml_text.proofs.Spelling.{complete_or_none}
-
--- the pairs of the document where each open list is closed at once
-abbrev pub closed_up : List Frame → Pairs → Pairs
-closed_up [] ps = ps
-closed_up (f ∷ fs) ps = closed_up fs (f.before then pair f.key (list ps) no_pairs)
-
--- how deep that document is
-abbrev pub height : State → ℕ
-height s = depth (closed_up s.lists s.pairs)
 
 pub depth-then : (a b : Pairs) → depth (a then b) ≡ max (depth a) (depth b)
 depth-then no_pairs b = omega arith

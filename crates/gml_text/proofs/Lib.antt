@@ -6,4 +6,6 @@ pub mod Accepting
 pub mod Spelling
 pub mod Depths
 pub mod Parsing
+pub mod Standing
 pub mod Printing
+pub mod Answering

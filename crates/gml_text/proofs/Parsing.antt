@@ -1,40 +1,22 @@
 -- From the states of a reader to what the bytes are read as.
-use Rattle.std.proofs.Common.{◌≡◌, ℕ, zero, suc, ◌+◌, ◌≤◌, ◌<◌, List, [], ◌∷◌, ◌++◌, length, take, get_or, Option, Some, None, Result, Ok, Err, IsSomeAnd, inl, inr, refl, sym, ap, ◌∙◌, subst, arith, append_assoc}
+use Rattle.std.proofs.Common.{◌≡◌, ℕ, zero, suc, ◌+◌, ◌≤◌, ◌<◌, List, [], ◌∷◌, ◌++◌, length, take, Option, Some, None, Result, Ok, Err, inl, inr, refl, sym, ap, ◌∙◌, subst, arith, append_assoc}
 use Rattle.std.specs.Option.{option_and_then}
 use Rattle.std.proofs.lemmas.Bool.{cases_lt, cases_order}
 use Rattle.std.proofs.lemmas.Option.{none-some, same_Some}
-use Rattle.std.proofs.lemmas.List.{append-nil, take_more}
+use Rattle.std.proofs.lemmas.List.{append-nil}
 use Rattle.std.proofs.Math.Seq.{take-length}
 use Rattle.gml_text.specs.Tree.{Pairs, depth}
 use Rattle.gml_text.specs.Grammar.{Spells}
 use Rattle.gml_text.specs.Parse.{most_open, Begins, BeginsWithinLimit, IsTooDeepAt, IsSyntaxAt, IsDocument, Reads}
-use Rattle.gml_text.specs.Fault.{fault_at}
-use Rattle.gml_text.specs.Reader.{FinishGives}
+use Rattle.gml_text.specs.Standing.{height, Leads, LeadsWithinLimit, IsFaultOf}
 use Rattle.gml_text.specs.View.{Answers}
 use Rattle.gml_text.specs.declared.fault.GmlFault.{GmlFault}
 use Rattle.gml_text.specs.declared.fault.GmlFault.TheVariants as faults
-use Rattle.gml_text.specs.declared.fault.Refusal.{Refusal}
-use Rattle.gml_text.specs.declared.fault.Refusal.TheVariants.{Syntax, TooDeep, Memory}
 use Rattle.gml_text.specs.declared.tree.Doc.{Doc}
-use Rattle.gml_text.specs.Reading.{State, start, stepped, accepted, finished, Gives}
+use Rattle.gml_text.specs.Reading.{State, start, stepped, accepted, finished}
 use Rattle.gml_text.proofs.Accepting.{spelled_is_accepted}
 use Rattle.gml_text.proofs.Spelling.{accepted_is_spelled}
-use Rattle.gml_text.proofs.Depths.{height, lists_below, Keeps, step_keeps, accepted_height, completion, finished_depth}
-
--- the fault that the bytes have; want of memory is none of theirs
-abbrev pub IsFaultOf : List ℕ → GmlFault → Type 0
-IsFaultOf bytes (faults.Syntax at) = IsSyntaxAt bytes at
-IsFaultOf bytes (faults.TooDeep at) = IsTooDeepAt bytes at
-IsFaultOf bytes faults.Memory = Unit {0}
-
--- the bytes lead from the start to the state
-abbrev pub Leads : List ℕ → State → Type 0
-Leads front s = (more : List ℕ) → accepted (front ++ more) start ≡ accepted more s
-
--- within the limit, too
-pub record LeadsWithinLimit (front : List ℕ) (s : State) : Type 0 where
-  pub leads : Leads front s
-  pub within : height s ≤ most_open
+use Rattle.gml_text.proofs.Depths.{lists_below, Keeps, step_keeps, accepted_height, completion, finished_depth}
 
 pub leads_on : (front : List ℕ) (b : ℕ) (s t : State) → Leads front s → stepped s b ≡ Some t → Leads (front ++ b ∷ []) t
 leads_on front b s t leads e more =
@@ -136,34 +118,6 @@ too_deep_at bytes at b s t h more r e many =
 pub document_at_end : (bytes : List ℕ) (s : State) (tree : Pairs) → LeadsWithinLimit bytes s → accepted [] s ≡ Some tree → Spells tree bytes
 document_at_end bytes s tree r e =
     accepted_is_spelled bytes tree (ap (λ x. accepted x start) (sym (append-nil bytes)) ∙ (r.leads [] ∙ e))
-
-too_deep_step : (bytes : List ℕ) (at b : ℕ) (s : State) (o : Option State) → at < length bytes → take (at + 1) bytes ≡ take at bytes ++ b ∷ []
-    → LeadsWithinLimit (take at bytes) s → stepped s b ≡ o → IsSomeAnd o (λ u. most_open < length u.lists) → IsTooDeepAt bytes at
-too_deep_step bytes at b s None h more r e many = absurd many
-too_deep_step bytes at b s (Some u) h more r e many = too_deep_at bytes at b s u h more r e many
-
--- the fault of a refused byte
-step_fault_at : (bytes : List ℕ) (at b : ℕ) (s t : State) (refusal : Refusal) → at < length bytes → take (at + 1) bytes ≡ take at bytes ++ b ∷ []
-    → LeadsWithinLimit (take at bytes) s → Gives (stepped s b) (Err refusal) t → IsFaultOf bytes (fault_at refusal at)
-step_fault_at bytes at b s t Syntax h more r g = syntax_at_byte bytes at b s h more r g
-step_fault_at bytes at b s t TooDeep h more r g = too_deep_step bytes at b s (stepped s b) h more r refl g
-step_fault_at bytes at b s t Memory h more r g = tt
-
-pub step_fault : (bytes : List ℕ) (at : ℕ) (s t : State) (refusal : Refusal) (fault : GmlFault) → fault ≡ fault_at refusal at → at < length bytes
-    → LeadsWithinLimit (take at bytes) s → Gives (stepped s (get_or bytes at 0)) (Err refusal) t → IsFaultOf bytes fault
-step_fault bytes at s t refusal fault e h r g =
-    subst (IsFaultOf bytes) (sym e) (step_fault_at bytes at (get_or bytes at 0) s t refusal h (take_more bytes at 0 h) r g)
-
--- the fault of a refused end
-end_fault_at : (bytes : List ℕ) (s : State) (refusal : Refusal) → LeadsWithinLimit bytes s → FinishGives s (Err refusal)
-    → IsFaultOf bytes (fault_at refusal (length bytes))
-end_fault_at bytes s Syntax r g = syntax_at_end bytes s r g
-end_fault_at bytes s TooDeep r g = absurd g
-end_fault_at bytes s Memory r g = tt
-
-pub end_fault : (bytes : List ℕ) (s : State) (refusal : Refusal) (fault : GmlFault) → fault ≡ fault_at refusal (length bytes)
-    → LeadsWithinLimit bytes s → FinishGives s (Err refusal) → IsFaultOf bytes fault
-end_fault bytes s refusal fault e r g = subst (IsFaultOf bytes) (sym e) (end_fault_at bytes s refusal r g)
 
 spelled_one : (tree other : Pairs) (bytes : List ℕ) → Spells tree bytes → Spells other bytes → tree ≡ other
 spelled_one tree other bytes s t = same_Some tree other (sym (spelled_is_accepted tree bytes s) ∙ spelled_is_accepted other bytes t)

@@ -7,6 +7,6 @@ pub mod Parse
 pub mod View
 pub mod Token
 pub mod Reading
+pub mod Standing
 pub mod Reader
-pub mod Fault
 pub mod Printed

@@ -1,13 +1,10 @@
--- How a reader goes on byte by byte: the code once more, as a function on states. No public clause cites this module; what is promised is `Grammar` and `Parse`.
-use Rattle.std.specs.Prelude.{◌≡◌, ℕ, ◌<◌, ⊤, not, ◌==◌, ◌||◌, if◌then◌else◌, List, [], ◌∷◌, ◌++◌, length, Option, Some, None, Result, Ok, Err, IsSomeAnd}
+-- How bytes are read one by one, as a function on states. No public clause cites this module; what is promised is `Grammar` and `Parse`.
+use Rattle.std.specs.Prelude.{ℕ, not, ◌==◌, ◌||◌, if◌then◌else◌, List, [], ◌∷◌, ◌++◌, Option, Some, None}
 use Rattle.std.specs.Option.{option_map, option_and_then}
 use Rattle.gml_text.specs.Bytes.{line_feed, hash, quote, opening, closing, is_space, begins_key, is_key_byte, is_word_byte}
 use Rattle.gml_text.specs.Tree.{Content, number, text, list, Pairs, no_pairs, pair, ◌then◌}
 use Rattle.gml_text.specs.Token.{begun, after, is_complete}
-use Rattle.gml_text.specs.Parse.{most_open}
 use Rattle.gml_text.specs.declared.token.NumberPart.{NumberPart}
-use Rattle.gml_text.specs.declared.fault.Refusal.{Refusal}
-use Rattle.gml_text.specs.declared.fault.Refusal.TheVariants.{Syntax, TooDeep, Memory}
 
 -- where white space stands: between two pairs, or behind a key
 pub data Where : Type 0 where
@@ -124,10 +121,3 @@ finished (in_text key inner) fs ps = None
 abbrev pub accepted : List ℕ → State → Option Pairs
 accepted [] s = finished s.mode s.lists s.pairs
 accepted (b ∷ bs) s = option_and_then (accepted bs) (stepped s b)
-
--- a reader that is to go on to a state does so, or refuses what has none, or a list too many, or finds no memory
-abbrev pub Gives : Option State → Result ⊤ Refusal → State → Type 0
-Gives wanted (Ok done) new = wanted ≡ Some new
-Gives wanted (Err Syntax) new = wanted ≡ None
-Gives wanted (Err TooDeep) new = IsSomeAnd wanted (λ s. most_open < length s.lists)
-Gives wanted (Err Memory) new = Unit {0}

@@ -1,6 +1,5 @@
-//! Why bytes are refused: the public faults, and the reader's refusals.
+//! Why bytes are refused.
 
-use std::alloc::{AllocError, AllocFailed};
 use thiserror::Error;
 
 /// Why bytes were not read as a document.
@@ -15,51 +14,4 @@ pub enum GmlFault {
     /// Memory is wanting.
     #[error("memory is wanting")]
     Memory,
-}
-
-/// Why a reader refuses a byte, or the end.
-#[derive(Clone, Copy, Debug)]
-pub(crate) enum Refusal {
-    Syntax,
-    TooDeep,
-    Memory,
-}
-
-impl Refusal {
-    ghost use Rattle.std.specs.Prelude.{◌≡◌};
-    ghost use Rattle.gml_text.specs.Fault.{fault_at};
-
-    /// The fault of a refusal at an offset.
-    pub(crate) fn at(self, at: usize) -> GmlFault
-        ensures { result ≡ fault_at self at }
-    {
-        let at = at as u64;
-        match self {
-            Refusal::Syntax => GmlFault::Syntax { at },
-            Refusal::TooDeep => GmlFault::TooDeep { at },
-            Refusal::Memory => GmlFault::Memory,
-        }
-    }
-}
-
-impl From<AllocError> for Refusal {
-    ghost use Rattle.std.specs.Prelude.{◌≡◌};
-    ghost use Rattle.gml_text.specs.declared.fault.Refusal.TheVariants.{Memory};
-
-    ghost from_gives = { λ _ e. e ≡ Memory };
-
-    fn from(_: AllocError) -> Self {
-        Refusal::Memory
-    }
-}
-
-impl<T: Drop> From<AllocFailed<T>> for Refusal {
-    ghost use Rattle.std.specs.Prelude.{◌≡◌};
-    ghost use Rattle.gml_text.specs.declared.fault.Refusal.TheVariants.{Memory};
-
-    ghost from_gives = { λ _ e. e ≡ Memory };
-
-    fn from(_: AllocFailed<T>) -> Self {
-        Refusal::Memory
-    }
 }

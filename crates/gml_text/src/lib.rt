@@ -24,6 +24,7 @@ mod fault;
 mod laws;
 mod read;
 mod reader;
+mod scan;
 mod search;
 mod token;
 mod tree;

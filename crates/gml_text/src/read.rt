@@ -10,6 +10,7 @@ ghost use Rattle.gml_text.specs.declared.fault.GmlFault.TheVariants.{Syntax, Too
 
 use crate::fault::GmlFault;
 use crate::reader::Reader;
+use crate::scan;
 use crate::tree::Doc;
 use std::alloc::Global;
 
@@ -33,13 +34,10 @@ pub fn parse(alloc: Global, bytes: &[u8]) -> Result<Doc, GmlFault>
     ensures exact { (answer : Result Pairs GmlFault) → Reads bytes.now answer → Answers result answer }
 {
     let mut reader = Reader::new(alloc);
-    for (at, byte) in bytes.iter().enumerate() {
-        if let Err(refusal) = reader.step(*byte) {
-            return Err(refusal.at(at));
-        }
+    let mut at = scan::gap_end(bytes, 0);
+    while at < bytes.len() {
+        let next = reader.item(bytes, at)?;
+        at = scan::gap_end(bytes, next);
     }
-    match reader.finish() {
-        Ok(pairs) => Ok(Doc { pairs }),
-        Err(refusal) => Err(refusal.at(bytes.len())),
-    }
+    reader.finish(bytes)
 }

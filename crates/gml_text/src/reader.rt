@@ -1,12 +1,13 @@
-//! Reading byte by byte: the open lists stand in a vector, so that depth takes no stack.
+//! Reading pair by pair: the open lists stand in a vector, so that depth takes no stack.
 
-ghost use Rattle.std.specs.Prelude.{◌≡◌, ◌≤◌, [], ◌∷◌, IfOk, vec_len};
+ghost use Rattle.std.specs.Prelude.{◌≡◌, ◌≢◌, ◌<◌, ◌≤◌, IfOk, IfErr, OnOk, length, slice_index, vec_len};
 ghost use Rattle.gml_text.specs.Parse.{most_open};
 
-use crate::fault::Refusal;
-use crate::token::{self, NumberPart, Token, Where};
-use crate::tree::{Bytes, Pair, Value};
-use std::alloc::{AllocError, Global};
+use crate::fault::GmlFault;
+use crate::scan;
+use crate::token::{self, NumberPart};
+use crate::tree::{Bytes, Doc, Pair, Value};
+use std::alloc::Global;
 use std::mem;
 
 /// The most lists that may be open.
@@ -19,38 +20,38 @@ struct OpenList {
     before: Vec<Pair>,
 }
 
-/// What the bytes so far leave: the open lists, outermost first, the pairs of the innermost one, the
-/// key of the pair that has begun, the bytes of its value, and what the last byte belongs to.
+/// What the pairs so far leave: the open lists, outermost first, and the pairs of the innermost one.
 #[derive(Drop)]
 pub(crate) struct Reader {
     alloc: Global,
     lists: Vec<OpenList>,
     pairs: Vec<Pair>,
-    key: Vec<u8>,
-    lexeme: Vec<u8>,
-    token: Token,
     ghost within_limit: { vec_len lists ≤ most_open },
 }
 
-/// A vector with the byte alone.
-fn single(alloc: Global, byte: u8) -> Result<Vec<u8>, AllocError>
-    ensures { IfOk result (λ bytes. bytes.items ≡ byte ∷ []) }
+/// A vector with these bytes, and room for no more.
+fn copied(alloc: Global, bytes: &[u8]) -> Result<Vec<u8>, GmlFault>
+    ensures ok { IfOk result (λ copy. copy.items ≡ bytes.now) }
+    ensures err { IfErr result (λ fault. fault ≡ GmlFault.Memory) }
 {
-    let mut bytes = Vec::new(alloc);
-    bytes.push(byte)?;
-    Ok(bytes)
+    let Ok(mut copy) = Vec::with_capacity(alloc, bytes.len()) else {
+        return Err(GmlFault::Memory);
+    };
+    let Ok(()) = copy.extend_from_slice(bytes) else {
+        return Err(GmlFault::Memory);
+    };
+    Ok(copy)
 }
 
 impl Reader {
-    ghost use Rattle.std.specs.Prelude.{MatchResult, Some, None};
-    ghost use Rattle.gml_text.specs.Reading.{start, begins, between, behind, closed, ended, finished, Gives, in_space, key_step, number_step, opened, stepped, text_step};
-    ghost use Rattle.gml_text.specs.Reader.{frames, state_of, where_of, FinishGives};
-    ghost use Rattle.gml_text.specs.Token.{after};
-    ghost use Rattle.gml_text.specs.Tree.{number};
+    ghost use Rattle.gml_text.specs.Bytes.{closing, opening, quote};
+    ghost use Rattle.gml_text.specs.Reading.{between, behind, start};
+    ghost use Rattle.gml_text.specs.Reader.{frames, state_of};
+    ghost use Rattle.gml_text.specs.Standing.{gap_state, text_state, Goes, IsAnswer, IsNoGap, Stands};
+    ghost use Rattle.gml_text.specs.Tree.{◌then◌, no_pairs, pair};
     ghost use Rattle.gml_text.specs.View.{content, pairs};
-    ghost use Rattle.gml_text.specs.declared.token.Token.TheVariants.{Key, Number, Text};
 
-    /// Before the first byte.
+    /// Before the first pair.
     pub(crate) fn new(alloc: Global) -> Reader
         ensures { state_of result ≡ start }
     {
@@ -58,185 +59,151 @@ impl Reader {
             alloc,
             lists: Vec::new(alloc),
             pairs: Vec::new(alloc),
-            key: Vec::new(alloc),
-            lexeme: Vec::new(alloc),
-            token: Token::Gap(Where::BetweenPairs),
         }
     }
 
-    /// Reads one more byte.
-    pub(crate) fn step(&mut self, byte: u8) -> Result<(), Refusal>
-        ensures { Gives (stepped (state_of self.old) byte) result (state_of self.new) }
+    /// Reads a pair, or its key and the bracket where its value is a list, or the bracket that closes the innermost
+    /// list.
+    pub(crate) fn item(&mut self, bytes: &[u8], at: usize) -> Result<usize, GmlFault>
+        requires within { at < length bytes.now }
+        requires no_gap { IsNoGap (slice_index bytes.now at) }
+        requires stands { Stands bytes.now at (state_of self.old) }
+        ensures onward { IfOk result (λ next. at < next) }
+        ensures goes { Goes bytes.now result (state_of self.new) }
     {
-        match self.token {
-            Token::Gap(here) => self.in_gap(here, byte),
-            Token::Comment(here) => {
-                if byte == b'\n' {
-                    self.token = Token::Gap(here);
-                }
-                Ok(())
-            }
-            Token::Key => self.in_key(byte),
-            Token::Number(part) => self.in_number(part, byte),
-            Token::Text => self.in_text(byte),
-        }
-    }
-
-    /// The pairs of the document, where it may end here.
-    pub(crate) fn finish(mut self) -> Result<Vec<Pair>, Refusal>
-        ensures { FinishGives (state_of self) result }
-    {
-        if let Token::Number(part) = self.token
-            && part.is_complete()
-        {
-            self.end_number()?;
-        }
-        match self.token {
-            Token::Gap(Where::BetweenPairs) | Token::Comment(Where::BetweenPairs)
-                if self.lists.is_empty() => { Ok(self.pairs) }
-            _ => Err(Refusal::Syntax),
-        }
-    }
-
-    /// A byte of white space, or one that ends it.
-    fn in_gap(&mut self, here: Where, byte: u8) -> Result<(), Refusal>
-        ensures { Gives (in_space (where_of here self.old.key.items) (frames self.old.lists.items) (pairs self.old.pairs.items) byte) result (state_of self.new) }
-    {
-        if token::is_space(byte) {
-            self.token = Token::Gap(here);
-            return Ok(());
-        }
-        if byte == b'#' {
-            self.token = Token::Comment(here);
-            return Ok(());
-        }
-        match here {
-            Where::BetweenPairs => self.begin_pair(byte),
-            Where::BeforeValue => self.begin_value(byte),
-        }
-    }
-
-    /// A byte of a key, or one that ends it.
-    fn in_key(&mut self, byte: u8) -> Result<(), Refusal>
-        requires { self.old.token ≡ Key }
-        ensures { Gives (key_step self.old.key.items (frames self.old.lists.items) (pairs self.old.pairs.items) byte) result (state_of self.new) }
-    {
-        if token::is_key_byte(byte) {
-            self.key.push(byte)?;
-            return Ok(());
-        }
-        if token::is_word_byte(byte) {
-            return Err(Refusal::Syntax);
-        }
-        self.in_gap(Where::BeforeValue, byte)
-    }
-
-    /// A byte of a number, or one that ends it.
-    fn in_number(&mut self, part: NumberPart, byte: u8) -> Result<(), Refusal>
-        ensures { Gives (number_step self.old.key.items self.old.lexeme.items part (frames self.old.lists.items) (pairs self.old.pairs.items) byte (after part byte)) result (state_of self.new) }
-    {
-        if let Some(part) = part.after(byte) {
-            self.lexeme.push(byte)?;
-            self.token = Token::Number(part);
-            return Ok(());
-        }
-        if token::is_word_byte(byte) || !part.is_complete() {
-            return Err(Refusal::Syntax);
-        }
-        self.end_number()?;
-        self.in_gap(Where::BetweenPairs, byte)
-    }
-
-    /// A byte of a string, or the quote that ends it.
-    fn in_text(&mut self, byte: u8) -> Result<(), Refusal>
-        requires { self.old.token ≡ Text }
-        ensures { Gives (text_step self.old.key.items self.old.lexeme.items (frames self.old.lists.items) (pairs self.old.pairs.items) byte) result (state_of self.new) }
-    {
-        if byte != b'"' {
-            self.lexeme.push(byte)?;
-            return Ok(());
-        }
-        let text = mem::replace(&mut self.lexeme, Vec::new(self.alloc));
-        self.end_value(Value::Text(Bytes(text)))
-    }
-
-    /// The first byte of a key, or the bracket that closes the innermost list.
-    fn begin_pair(&mut self, byte: u8) -> Result<(), Refusal>
-        ensures { Gives (begins between (frames self.old.lists.items) (pairs self.old.pairs.items) byte) result (state_of self.new) }
-    {
+        let byte = bytes[at];
         if byte == b']' {
-            return self.close_list();
+            return self.close_list(bytes, at);
         }
         if !token::begins_key(byte) {
-            return Err(Refusal::Syntax);
+            return Err(GmlFault::Syntax { at: at as u64 });
         }
-        self.key = single(self.alloc, byte)?;
-        self.token = Token::Key;
-        Ok(())
+        let end = scan::key_end(bytes, at);
+        if end < bytes.len() && token::is_word_byte(bytes[end]) {
+            return Err(GmlFault::Syntax { at: end as u64 });
+        }
+        let key = copied(self.alloc, &bytes[at..end])?;
+        let from = scan::gap_end(bytes, end);
+        self.value(key, bytes, from)
     }
 
-    /// The first byte of a value.
-    fn begin_value(&mut self, byte: u8) -> Result<(), Refusal>
-        ensures { Gives (begins (behind self.old.key.items) (frames self.old.lists.items) (pairs self.old.pairs.items) byte) result (state_of self.new) }
+    /// The document of the pairs, where it may end at the end of the bytes.
+    pub(crate) fn finish(self, bytes: &[u8]) -> Result<Doc, GmlFault>
+        requires stands { Stands bytes.now (length bytes.now) (state_of self) }
+        ensures { IsAnswer bytes.now result }
     {
-        if byte == b'[' {
-            return self.open_list();
+        if !self.lists.is_empty() {
+            let at = bytes.len() as u64;
+            return Err(GmlFault::Syntax { at });
         }
-        if byte == b'"' {
-            self.lexeme = Vec::new(self.alloc);
-            self.token = Token::Text;
-            return Ok(());
+        Ok(Doc { pairs: self.pairs })
+    }
+
+    /// Reads the value behind the key, or the bracket that opens it.
+    fn value(&mut self, key: Vec<u8>, bytes: &[u8], at: usize) -> Result<usize, GmlFault>
+        requires within { at ≤ length bytes.now }
+        requires no_gap { at < length bytes.now → IsNoGap (slice_index bytes.now at) }
+        requires stands { Stands bytes.now at (gap_state (behind key.items) (frames self.old.lists.items) (pairs self.old.pairs.items)) }
+        ensures onward { IfOk result (λ next. at < next) }
+        ensures goes { Goes bytes.now result (state_of self.new) }
+    {
+        if at == bytes.len() {
+            return Err(GmlFault::Syntax { at: at as u64 });
         }
-        let part = NumberPart::begun(byte).ok_or(Refusal::Syntax)?;
-        self.lexeme = single(self.alloc, byte)?;
-        self.token = Token::Number(part);
-        Ok(())
+        match bytes[at] {
+            b'[' => self.open_list(key, bytes, at),
+            b'"' => self.text(key, bytes, at),
+            _ => self.number(key, bytes, at),
+        }
+    }
+
+    /// Reads the string that begins with the quote there.
+    fn text(&mut self, key: Vec<u8>, bytes: &[u8], at: usize) -> Result<usize, GmlFault>
+        requires within { at < length bytes.now }
+        requires opens { slice_index bytes.now at ≡ quote }
+        requires stands { Stands bytes.now at (gap_state (behind key.items) (frames self.old.lists.items) (pairs self.old.pairs.items)) }
+        ensures onward { IfOk result (λ next. at < next) }
+        ensures goes { Goes bytes.now result (state_of self.new) }
+    {
+        let from = at + 1;
+        let end = scan::text_end(bytes, from);
+        if end == bytes.len() {
+            return Err(GmlFault::Syntax { at: end as u64 });
+        }
+        let text = copied(self.alloc, &bytes[from..end])?;
+        self.put(key, Value::Text(Bytes(text)))?;
+        Ok(end + 1)
+    }
+
+    /// Reads the number that begins there.
+    fn number(&mut self, key: Vec<u8>, bytes: &[u8], at: usize) -> Result<usize, GmlFault>
+        requires within { at < length bytes.now }
+        requires no_gap { IsNoGap (slice_index bytes.now at) }
+        requires no_bracket { slice_index bytes.now at ≢ opening }
+        requires no_quote { slice_index bytes.now at ≢ quote }
+        requires stands { Stands bytes.now at (gap_state (behind key.items) (frames self.old.lists.items) (pairs self.old.pairs.items)) }
+        ensures onward { IfOk result (λ next. at < next) }
+        ensures goes { Goes bytes.now result (state_of self.new) }
+    {
+        let Some(begun) = NumberPart::begun(bytes[at]) else {
+            return Err(GmlFault::Syntax { at: at as u64 });
+        };
+        let (end, part) = scan::number_end(bytes, at, begun);
+        if !part.is_complete() || end < bytes.len() && token::is_word_byte(bytes[end]) {
+            return Err(GmlFault::Syntax { at: end as u64 });
+        }
+        let digits = copied(self.alloc, &bytes[at..end])?;
+        self.put(key, Value::Number(Bytes(digits)))?;
+        Ok(end)
     }
 
     /// Opens a list behind the key.
-    fn open_list(&mut self) -> Result<(), Refusal>
-        ensures { Gives (Some (opened (frames self.old.lists.items) (pairs self.old.pairs.items) self.old.key.items)) result (state_of self.new) }
+    fn open_list(&mut self, key: Vec<u8>, bytes: &[u8], at: usize) -> Result<usize, GmlFault>
+        requires within { at < length bytes.now }
+        requires opens { slice_index bytes.now at ≡ opening }
+        requires stands { Stands bytes.now at (gap_state (behind key.items) (frames self.old.lists.items) (pairs self.old.pairs.items)) }
+        ensures onward { IfOk result (λ next. at < next) }
+        ensures goes { Goes bytes.now result (state_of self.new) }
     {
         if self.lists.len() >= MOST_OPEN {
-            return Err(Refusal::TooDeep);
+            return Err(GmlFault::TooDeep { at: at as u64 });
         }
-        let key = mem::replace(&mut self.key, Vec::new(self.alloc));
         let before = mem::replace(&mut self.pairs, Vec::new(self.alloc));
-        self.lists.push(OpenList { key, before })?;
-        self.token = Token::Gap(Where::BetweenPairs);
-        Ok(())
+        let Ok(()) = self.lists.push(OpenList { key, before }) else {
+            return Err(GmlFault::Memory);
+        };
+        Ok(at + 1)
     }
 
     /// Closes the innermost list.
-    fn close_list(&mut self) -> Result<(), Refusal>
-        ensures { Gives (closed (frames self.old.lists.items) (pairs self.old.pairs.items)) result (state_of self.new) }
+    fn close_list(&mut self, bytes: &[u8], at: usize) -> Result<usize, GmlFault>
+        requires within { at < length bytes.now }
+        requires closes { slice_index bytes.now at ≡ closing }
+        requires stands { Stands bytes.now at (state_of self.old) }
+        ensures onward { IfOk result (λ next. at < next) }
+        ensures goes { Goes bytes.now result (state_of self.new) }
     {
         let Some(OpenList { key, before }) = self.lists.pop() else {
-            return Err(Refusal::Syntax);
+            return Err(GmlFault::Syntax { at: at as u64 });
         };
         let inner = mem::replace(&mut self.pairs, before);
-        self.key = key;
-        self.end_value(Value::List(inner))
-    }
-
-    /// Ends the number that stands behind the key.
-    fn end_number(&mut self) -> Result<(), Refusal>
-        ensures { Gives (Some (ended (frames self.old.lists.items) (pairs self.old.pairs.items) self.old.key.items (number self.old.lexeme.items))) result (state_of self.new) }
-    {
-        let digits = mem::replace(&mut self.lexeme, Vec::new(self.alloc));
-        self.end_value(Value::Number(Bytes(digits)))
+        self.put(key, Value::List(inner))?;
+        Ok(at + 1)
     }
 
     /// Puts the key with this value behind the pairs.
-    fn end_value(&mut self, value: Value) -> Result<(), Refusal>
-        ensures { Gives (Some (ended (frames self.old.lists.items) (pairs self.old.pairs.items) self.old.key.items (content value))) result (state_of self.new) }
+    fn put(&mut self, key: Vec<u8>, value: Value) -> Result<(), GmlFault>
+        ensures lists { self.new.lists ≡ self.old.lists }
+        ensures ok { OnOk result (pairs self.new.pairs.items ≡ pairs self.old.pairs.items then pair key.items (content value) no_pairs) }
+        ensures err { IfErr result (λ fault. fault ≡ GmlFault.Memory) }
     {
-        let key = mem::replace(&mut self.key, Vec::new(self.alloc));
-        self.pairs.push(Pair {
+        let pair = Pair {
             key: Bytes(key),
             value,
-        })?;
-        self.token = Token::Gap(Where::BetweenPairs);
+        };
+        let Ok(()) = self.pairs.push(pair) else {
+            return Err(GmlFault::Memory);
+        };
         Ok(())
     }
 }

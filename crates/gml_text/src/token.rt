@@ -1,17 +1,8 @@
-//! What the byte that was read last belongs to, and which bytes go on with it.
+//! Kinds of bytes, and how far a number has been read.
 
 ghost use Rattle.std.specs.Prelude.{◌≡◌};
 ghost use Rattle.gml_text.specs.Bytes.{is_space, begins_key, is_key_byte, is_word_byte};
 ghost use Rattle.gml_text.specs.Token.{begun, after, is_complete};
-
-/// Where white space stands.
-#[derive(Clone, Copy)]
-pub(crate) enum Where {
-    /// Before a key, a closing bracket or the end of the document.
-    BetweenPairs,
-    /// Behind a key.
-    BeforeValue,
-}
 
 /// How far a number has been read.
 #[derive(Clone, Copy)]
@@ -32,16 +23,6 @@ pub(crate) enum NumberPart {
     Exponent,
 }
 
-/// What the byte that was read last belongs to.
-#[derive(Clone, Copy)]
-pub(crate) enum Token {
-    Gap(Where),
-    Comment(Where),
-    Key,
-    Number(NumberPart),
-    Text,
-}
-
 impl NumberPart {
     /// The part after a number's first byte, if a number begins with it.
     pub(crate) fn begun(byte: u8) -> Option<NumberPart>
@@ -60,6 +41,9 @@ impl NumberPart {
         ensures { result ≡ after self byte }
     {
         let digit = byte.is_ascii_digit();
+        if digit && self.is_complete() {
+            return Some(self);
+        }
         let point = byte == b'.';
         let sign = byte == b'+' || byte == b'-';
         let mark = byte == b'e' || byte == b'E';

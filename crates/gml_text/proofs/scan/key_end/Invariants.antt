@@ -1,0 +1,10 @@
+-- What holds while a key goes on.
+use Rattle.std.proofs.Common.{◌<◌, ◌≤◌, ◌-◌, length}
+use Rattle.gml_text.specs.Standing.{EndsKey}
+use Rattle.gml_text.proofs.scan.key_end.Given as goal
+
+abbrev pub invariant-loop-end : goal.invariant-loop-end
+invariant-loop-end l = record { after : l.fn.at < l.end; within : l.end ≤ length l.bytes; ends : EndsKey l.bytes l.fn.at l.end }
+
+abbrev pub decreases-loop-end : goal.decreases-loop-end
+decreases-loop-end l = length l.bytes - l.end
