@@ -5,3 +5,4 @@ pub mod Links
 pub mod Classes
 pub mod Bundles
 pub mod Placed
+pub mod Fixtures
