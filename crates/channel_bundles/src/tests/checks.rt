@@ -1,11 +1,11 @@
 //! Whether a phase may be handed these routes between these solids.
-ghost use Rattle.std.specs.Prelude.{◌≡◌, ◌≢◌, ◌↔◌, ℕ, ◌+◌, ◌-◌, ◌<◌, ◌≤◌, ◌<ℤ◌, ◌≤ℤ◌, All, AllPairs, Contains, EachIndex, IsTrue, length};
+ghost use Rattle.std.specs.Prelude.{◌≡◌, ◌≢◌, ◌↔◌, ℕ, ◌+◌, ◌-◌, ◌<◌, ◌≤◌, ◌<ℤ◌, ◌≤ℤ◌, All, AllPairs, EachIndex, IsTrue, length};
 ghost use Rattle.plane_geom.specs.declared.point.Point.{Point};
 ghost use Rattle.plane_geom.specs.declared.point.Way.{Way};
 ghost use Rattle.plane_geom.specs.Along.{across};
 ghost use Rattle.plane_geom.specs.Floor.{Holds, IsSolid};
 ghost use Rattle.plane_geom.specs.Point.{IsCoordinate, PointIsOnSheet, opposite};
-ghost use Rattle.segment_order.specs.Run.{AreRunsOf, IsRun, end_of, line_of, run_at, start_of};
+ghost use Rattle.segment_order.specs.Run.{IsRun, end_of, line_of, run_at, start_of};
 ghost use Rattle.separation_model.specs.Bundle.{most_items};
 ghost use Rattle.channel_bundles.specs.Route.{HasToLeave, HasToReach, IsFixed, IsPhaseRoute, runs_of_way};
 ghost use Rattle.channel_bundles.specs.Limits.{IsReached, MayStandAt, Sweeps};

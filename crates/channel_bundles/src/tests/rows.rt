@@ -1,4 +1,4 @@
-//! Worked phases, with what an independent program or a sheet of paper gives.
+//! Worked phases, with the bundles that an independent program gives.
 use plane_geom::Dir::{East, North, South, West};
 use plane_geom::{Dir, SHEET_END, SHEET_START};
 

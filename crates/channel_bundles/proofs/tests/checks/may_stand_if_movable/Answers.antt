@@ -1,5 +1,4 @@
 -- A fixed run is not movable.
-use Rattle.std.proofs.Common.{refl}
 use Rattle.channel_bundles.proofs.tests.checks.may_stand_if_movable.Goals as goal
 
 pub returns-then-is_fixed : goal.returns-then-is_fixed
