@@ -1,9 +1,9 @@
 -- An outcome has one status, and its cause.
-use Rattle.std.proofs.Common.{◌≡◌, ◌↔◌, ◌⊎◌, inl, inr, ℕ, suc, ◌<◌, ◌≤◌, Bool, true, false, List, [], ◌∷◌, ◌++◌, length, Option, Some, None, Result, Ok, Err, All, refl, sym, ap, subst, ◌∙◌, arith, append-nil, append_assoc, length-append, true≢false}
+use Rattle.std.proofs.Common.{◌≡◌, ◌↔◌, ◌⊎◌, inl, inr, ℕ, suc, ◌≤◌, Bool, true, false, List, [], ◌∷◌, ◌++◌, length, Option, Some, None, Result, Ok, Err, All, refl, sym, ap, subst, ◌∙◌, arith, append-nil, append_assoc, length-append, true≢false}
 use Rattle.std.specs.Prelude.{◌||◌, IsSome, Any}
 use Rattle.std.specs.List.{list_any, AllZip}
 use Rattle.std.proofs.lemmas.List.Elements.{All-nil, All-cons}
-use Rattle.std.proofs.lemmas.List.{append_cancel_left, append_cancel_right}
+use Rattle.std.proofs.lemmas.List.{append_cancel_left}
 use Rattle.host_edge.specs.Folder.{ToldFiles}
 use Rattle.host_edge.specs.Note.{Note}
 use Rattle.plane_geom.specs.declared.point.Point.{Point}
@@ -23,9 +23,8 @@ use Rattle.diagram_read.specs.Scene.{scene_of}
 use Rattle.diagram_read.specs.Lines.{line_of}
 use Rattle.edit_script.specs.Script.{commands}
 use Rattle.report_text.specs.declared.finding.Finding.{Finding}
-use Rattle.report_text.specs.declared.finding.Finding.TheVariants.{Loop, NoLine, Judged}
+use Rattle.report_text.specs.declared.finding.Finding.TheVariants.{Judged}
 use Rattle.report_text.specs.declared.finding.EdgeFinding.{EdgeFinding}
-use Rattle.report_text.specs.declared.reply.LineReply.{LineReply}
 use Rattle.route_replay.specs.Replies.{AreReplies, HaveOneListOfReplies, world_after}
 use Rattle.route_report.specs.Report.{has_refusal}
 use Rattle.command_words.specs.Words.{Form, check, route, make, form_of}
@@ -36,7 +35,7 @@ use Rattle.reroute_app.specs.Outcome.{Outcome, Course, Ends}
 use Rattle.reroute_app.specs.Reads.{HasRead, HasFailed, HasMore, ReadsFile}
 use Rattle.reroute_app.specs.Reads.ReadsFile.{fails, is_too_long, goes_on}
 use Rattle.reroute_app.specs.Diagram.{most_bytes, IsDiagram, TakesScene, TakesTree, ReadsDiagram}
-use Rattle.reroute_app.specs.Check.{IsFinding, IsFindingOf, IsLineFinding, IsJudged, first_line_fault, is_breach, status_of, SaysFindings, ChecksUnless, Checks}
+use Rattle.reroute_app.specs.Check.{IsFinding, IsFindingOf, IsLineFinding, first_line_fault, is_breach, status_of, SaysFindings, ChecksUnless, Checks}
 use Rattle.reroute_app.specs.Replay.{most_script_bytes, replay_status, Replays}
 use Rattle.reroute_app.specs.Run.{IsFormOutcome}
 use Rattle.reroute_app.specs.Causes.{GainsLast, LastFailed, LastTookMore, HasReadDiagram, IsNoDiagram, HasNoLine, IsRefusedBy, FindsNoDiagram, FindsLines, HasBadLine, HasNoBadLine, FindsBadLine, FindsLegalLines, FindsReplay, FindsRefusal, FindsNothing}

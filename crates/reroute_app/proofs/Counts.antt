@@ -1,10 +1,10 @@
 -- A document has no more pairs than bytes, and a list in it no more than the document.
-use Rattle.std.proofs.Common.{◌≡◌, ℕ, zero, suc, ◌+◌, ◌<◌, ◌≤◌, Bool, true, false, List, [], ◌∷◌, ◌++◌, length, Option, Some, None, refl, ap, arith, length-append}
+use Rattle.std.proofs.Common.{◌≡◌, ℕ, zero, suc, ◌+◌, ◌<◌, ◌≤◌, Bool, true, false, List, [], ◌∷◌, length, Option, Some, None, refl, ap, arith, length-append}
 use Rattle.std.specs.Prelude.{bytes_eq, codes, slice_get, option_and_then, if◌then◌else◌}
 use Rattle.std.specs.List.{filter_map}
 use Rattle.std.proofs.lemmas.Option.{none-some, same_Some}
 use Rattle.gml_text.specs.Tree.{Content, number, text, list, Pairs, no_pairs, pair}
-use Rattle.gml_text.specs.Grammar.{IsKey, Spells, SpellsPairs, SpellsValue}
+use Rattle.gml_text.specs.Grammar.{IsKey, SpellsPairs, SpellsValue}
 use Rattle.gml_text.specs.Parse.{IsDocument}
 use Rattle.diagram_read.specs.Values.{as_list, value_at, values_at, lists_at, list_at, values}
 use Rattle.diagram_read.specs.Lines.{list_with, line_in}

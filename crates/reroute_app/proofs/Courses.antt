@@ -1,19 +1,18 @@
 -- Courses only add notes, and lead to one outcome.
-use Rattle.std.proofs.Common.{◌≡◌, ℕ, ◌<◌, ◌≤◌, Bool, true, false, List, [], ◌∷◌, ◌++◌, length, Option, Some, None, Result, Ok, Err, refl, sym, ap, subst, ◌∙◌, append_assoc, append-nil, arith, true≢false}
+use Rattle.std.proofs.Common.{◌≡◌, ℕ, Bool, true, false, List, [], ◌∷◌, ◌++◌, length, Option, Some, None, Result, Ok, Err, refl, sym, ap, subst, ◌∙◌, append_assoc, append-nil, arith, true≢false}
 use Rattle.std.specs.Prelude.{IsSome, IfSome}
 use Rattle.std.proofs.lemmas.List.{append_cancel_left}
 use Rattle.std.proofs.lemmas.Option.{same_Some}
 use Rattle.host_edge.specs.Folder.{ToldFiles, file_named, GainsNote}
 use Rattle.host_edge.specs.Note.{Note}
 use Rattle.gml_text.specs.Tree.{Pairs}
-use Rattle.gml_text.specs.Parse.{Reads}
 use Rattle.gml_text.specs.declared.fault.GmlFault.{GmlFault}
 use Rattle.gml_text.proofs.Parsing.{reads_once}
 use Rattle.scene_model.specs.Scene.{Scene}
 use Rattle.diagram_read.specs.declared.fault.DiagramFault.{DiagramFault}
 use Rattle.diagram_read.specs.Scene.{scene_of}
 use Rattle.reroute_app.specs.Outcome.{Outcome, Course, Ends, EndsWith}
-use Rattle.reroute_app.specs.Reads.{HasRead, HasFailed, HasMore, ReadsFile}
+use Rattle.reroute_app.specs.Reads.{ReadsFile}
 use Rattle.reroute_app.specs.Reads.ReadsFile.{fails, is_too_long, goes_on}
 use Rattle.reroute_app.specs.Diagram.{most_bytes, TakesScene, TakesTree, TakesDiagram, ReadsDiagram}
 

@@ -1,12 +1,10 @@
 -- What is found of edges, one after the other.
 use Rattle.std.proofs.Common.{◌≡◌, ◌≢◌, ℕ, zero, suc, ◌+◌, ◌-◌, ◌<◌, ◌≤◌, ◌==◌, Bool, true, false, cond, List, [], ◌∷◌, ◌++◌, length, take, drop, get_or, Option, Some, None, Result, Ok, Err, refl, sym, ap, subst, ◌∙◌, arith, add-one, drop-cons, eq-eqb}
 use Rattle.std.specs.Prelude.{IfErr, IsErrAnd, slice_get, find, if◌then◌else◌}
-use Rattle.std.specs.Ordering.{int_eq}
-use Rattle.std.specs.Option.{option_or}
 use Rattle.std.specs.Result.{result_err}
 use Rattle.std.specs.List.{AllByRecursion as Each, AllZip}
 use Rattle.std.proofs.lemmas.Bool.{false≢true}
-use Rattle.std.proofs.lemmas.Bool.Decides.{Decides-int_eq, nat_tests}
+use Rattle.std.proofs.lemmas.Bool.Decides.{nat_tests}
 use Rattle.std.proofs.lemmas.List.{take_more}
 use Rattle.std.proofs.lemmas.Option.{none-some, same_Some}
 use Rattle.plane_geom.specs.declared.point.Point.{Point}
@@ -19,7 +17,6 @@ use Rattle.diagram_read.specs.declared.fault.DiagramFault.{DiagramFault}
 use Rattle.diagram_read.specs.declared.fault.DiagramFault.TheVariants as faults
 use Rattle.diagram_read.specs.Lines.{line_of}
 use Rattle.report_text.specs.declared.finding.Finding.{Finding}
-use Rattle.report_text.specs.declared.finding.Finding.TheVariants.{Loop}
 use Rattle.report_text.specs.declared.finding.EdgeFinding.{EdgeFinding}
 use Rattle.report_text.specs.Findings.{finding_lines}
 use Rattle.reroute_app.specs.declared.status.Status.{Status}

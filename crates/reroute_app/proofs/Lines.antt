@@ -1,5 +1,5 @@
 -- The line of an edge lies on the sheet, and is not too long to be judged.
-use Rattle.std.proofs.Common.{◌≡◌, ℕ, suc, ◌+◌, ◌*◌, ◌^◌, ◌≤◌, Bool, true, false, List, [], ◌∷◌, ◌++◌, length, Option, Some, None, Result, Ok, Err, All, refl, sym, ap, subst, arith, length-append, ltb-false}
+use Rattle.std.proofs.Common.{◌≡◌, ℕ, suc, ◌+◌, ◌*◌, ◌^◌, ◌≤◌, Bool, true, false, List, [], ◌∷◌, length, Option, Some, None, Ok, All, refl, subst, arith, length-append, ltb-false}
 use Rattle.std.specs.Prelude.{ℤ, ◌||◌, unsigned_abs, nat_lt, codes, option_and_then, IfOk, IfSome, if◌then◌else◌}
 use Rattle.std.proofs.lemmas.Int.{ints}
 use Rattle.std.proofs.lemmas.Option.{none-some, same_Some}
@@ -10,10 +10,9 @@ use Rattle.walk_model.specs.Line.{IsPolyline}
 use Rattle.gml_text.specs.Tree.{Pairs}
 use Rattle.scene_model.specs.declared.edge.Edge.{Edge}
 use Rattle.diagram_read.specs.declared.fault.Part.TheVariants as part
-use Rattle.diagram_read.specs.declared.fault.DiagramFault.{DiagramFault}
 use Rattle.diagram_read.specs.declared.fault.DiagramFault.TheVariants.{BadNumber, OutOfRange}
 use Rattle.diagram_read.specs.Values.{value_at, lists_at, number_in, is_no_number, in_range}
-use Rattle.diagram_read.specs.Faults.{◌>>=◌, need, refuse, each}
+use Rattle.diagram_read.specs.Faults.{need, refuse, each}
 use Rattle.diagram_read.specs.Lines.{on_sheet, point_in, with_point, line_with, line_in, list_with, line_of}
 use Rattle.diagram_read.proofs.Steps.{bound, ok_told, there}
 use Rattle.reroute_app.specs.View.{pair_count, HasFewPairs}

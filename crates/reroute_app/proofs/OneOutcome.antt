@@ -1,6 +1,6 @@
 -- For given words, told files and notes there is one outcome.
-use Rattle.std.proofs.Common.{◌≡◌, ℕ, Bool, true, false, List, [], ◌∷◌, Option, Some, None, Result, Ok, Err, refl, sym, ap, subst, ◌∙◌}
-use Rattle.std.specs.Prelude.{IsSome, if◌then◌else◌}
+use Rattle.std.proofs.Common.{◌≡◌, ℕ, Bool, true, false, List, [], ◌∷◌, Option, Some, None, Result, Ok, Err, refl, sym, ap, ◌∙◌}
+use Rattle.std.specs.Prelude.{IsSome}
 use Rattle.std.specs.List.{AllZip}
 use Rattle.plane_geom.specs.declared.point.Point.{Point}
 use Rattle.host_edge.specs.Folder.{ToldFiles}
@@ -14,7 +14,7 @@ use Rattle.diagram_read.specs.declared.fault.DiagramFault.{DiagramFault}
 use Rattle.diagram_read.specs.Lines.{line_of}
 use Rattle.diagram_read.specs.Scene.{scene_of}
 use Rattle.report_text.specs.declared.finding.Finding.{Finding}
-use Rattle.report_text.specs.declared.finding.Finding.TheVariants.{Loop, Judged}
+use Rattle.report_text.specs.declared.finding.Finding.TheVariants.{Judged}
 use Rattle.report_text.specs.declared.finding.EdgeFinding.{EdgeFinding}
 use Rattle.report_text.specs.Findings.{finding_lines}
 use Rattle.edit_script.specs.Script.{commands}

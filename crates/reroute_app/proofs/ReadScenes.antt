@@ -1,6 +1,6 @@
 -- The scene of a tree is valid.
-use Rattle.std.proofs.Common.{◌≡◌, ◌≢◌, ℕ, suc, ◌+◌, ◌≤◌, ◌<◌, ◌^◌, true, false, cond, List, [], ◌∷◌, ◌++◌, length, Option, Some, None, Result, Ok, Err, All, refl, sym, ap, subst, ◌∙◌, arith, length-append, leb-false}
-use Rattle.std.specs.Prelude.{ℤ, pos, ◌≤ℤ◌, ◌||◌, ◌==◌, int_lt, nat_le, unsigned_abs, codes, option_and_then, option_map, is_some, IfOk, IfSome, IsTrue, IsSomeAnd, if◌then◌else◌}
+use Rattle.std.proofs.Common.{◌≡◌, ◌≢◌, ℕ, suc, ◌+◌, ◌≤◌, ◌<◌, true, false, List, [], ◌∷◌, length, Option, Some, None, Result, Ok, Err, All, refl, sym, ap, subst, ◌∙◌, arith, length-append, leb-false}
+use Rattle.std.specs.Prelude.{ℤ, pos, ◌||◌, ◌==◌, int_lt, nat_le, unsigned_abs, codes, option_and_then, option_map, is_some, IfOk, IsTrue, IsSomeAnd}
 use Rattle.std.proofs.lemmas.Bool.{eqb-false}
 use Rattle.std.proofs.lemmas.Bool.Decides.{Decides-int_eq}
 use Rattle.std.proofs.lemmas.Int.{ints}

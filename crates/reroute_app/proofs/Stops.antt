@@ -1,5 +1,5 @@
 -- Runs that stop early: what they end with, and what goes on.
-use Rattle.std.proofs.Common.{◌≡◌, ◌≢◌, ◌⊎◌, inl, inr, ℕ, ◌<◌, false, Bool, List, [], ◌∷◌, ◌++◌, length, Option, Some, Result, Ok, Err, refl, sym, ap, subst, ◌∙◌, arith, append-nil, append_assoc}
+use Rattle.std.proofs.Common.{◌≡◌, ◌≢◌, inl, inr, ℕ, ◌<◌, false, Bool, List, [], ◌∷◌, ◌++◌, length, Option, Some, Result, Ok, Err, refl, sym, ap, subst, ◌∙◌, arith, append-nil, append_assoc}
 use Rattle.std.specs.Prelude.{IfOk, IfErr, IsErrAnd}
 use Rattle.std.proofs.lemmas.Option.{none-some, same_Some}
 use Rattle.std.specs.declared.alloc.AllocError.{AllocError}
@@ -24,7 +24,7 @@ use Rattle.command_words.specs.Words.{Form, check, route, form_of}
 use Rattle.reroute_app.specs.Outcome.{Outcome, Course, Ends, unsearched}
 use Rattle.reroute_app.specs.Reads.{HasRead, ReadsFile}
 use Rattle.reroute_app.specs.Reads.ReadsFile.{fails, is_too_long, goes_on}
-use Rattle.reroute_app.specs.Diagram.{most_bytes, IsDiagram, TakesScene, TakesTree, TakesDiagram, ReadsDiagram}
+use Rattle.reroute_app.specs.Diagram.{most_bytes, TakesScene, TakesTree, TakesDiagram, ReadsDiagram}
 use Rattle.reroute_app.specs.Check.{Checks}
 use Rattle.reroute_app.specs.Replay.{most_script_bytes, Replays}
 use Rattle.reroute_app.specs.Run.{IsFormOutcome, IsOutcome, files_of, AreNotesOf, ReadsFirstAsDiagram, ReadsInOrder}

@@ -7,6 +7,7 @@ use std::sync::atomic::{AtomicBool, AtomicU32, Ordering};
 use std::test::Fail;
 
 mod diagrams;
+mod large;
 mod rows;
 
 /// What a run is given beside the file `d.gml`, and what it must leave.
@@ -456,6 +457,26 @@ fn meets_faults_of_the_outside(rt: HostRuntime) -> Result<(), Fail> {
         "too long: d.gml limit 16777216\n",
     )?;
     assert_eq!(rt; Status::TooLong.code(), 7);
+    Ok(())
+}
+
+/// Names that the folder does not have.
+#[test]
+fn tells_missing_files(rt: HostRuntime) -> Result<(), Fail> {
+    let alloc = rt.alloc();
+    let rows = [
+        ("check|x.gml", "read fault: x.gml\n"),
+        ("route|x.gml|s.txt", "read fault: x.gml\n"),
+        ("route|x.gml|x.txt", "read fault: x.gml\n"),
+        ("route|d.gml|x.txt", "read fault: x.txt\n"),
+    ];
+    for (words, output) in rows {
+        let row = Row {
+            words,
+            ..whole_row(Status::ReadFault, 4, output)
+        };
+        run_row(&rt, alloc, &row, Vec::from_slice(alloc, b"graph [ ]")?)?;
+    }
     Ok(())
 }
 

@@ -1,9 +1,9 @@
 -- One edge on.
-use Rattle.std.proofs.Common.{◌≡◌, ◌+◌, ◌<◌, drop, length, vec_len, Some, sym, ap, subst, ◌∙◌, arith}
+use Rattle.std.proofs.Common.{◌≡◌, ◌+◌, drop, vec_len, Some, sym, ap, ◌∙◌, arith}
 use Rattle.std.specs.Prelude.{slice_get}
 use Rattle.gml_text.specs.View.{tree}
 use Rattle.reroute_app.specs.Check.{IsFinding, first_line_fault}
-use Rattle.reroute_app.proofs.Findings.{IsAt, at_place, edge_found, fault_later, fault_on, no_fault, zipped_more, all_found}
+use Rattle.reroute_app.proofs.Findings.{at_place, edge_found, fault_later, fault_on, no_fault, zipped_more, all_found}
 use Rattle.reroute_app.proofs.check.findings_of.Goals as goal
 
 pub finding_of-requires-clause-edge : goal.finding_of-requires-clause-edge

@@ -1,7 +1,7 @@
 -- The outcome of the form is that of the words.
 use Rattle.std.proofs.Common.{Some}
 use Rattle.std.specs.Prelude.{map, string_bytes}
-use Rattle.command_words.specs.Words.{check, route, make}
+use Rattle.command_words.specs.Words.{check, route}
 use Rattle.reroute_app.proofs.Crews.{crew_of, told_form}
 use Rattle.reroute_app.proofs.Stops.{words_come, one_in_order, two_in_order}
 use Rattle.reroute_app.proofs.form.outcome_of.Goals as goal

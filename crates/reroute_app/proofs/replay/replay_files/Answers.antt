@@ -1,5 +1,5 @@
 -- A diagram or a script that is not read is the end, and what is read is replayed.
-use Rattle.std.proofs.Common.{◌≡◌, ◌<◌, ◌≤◌, ◌+◌, suc, inl, inr, length, sym, ap, subst, ◌∙◌, arith}
+use Rattle.std.proofs.Common.{length, sym, ap, subst, ◌∙◌, arith}
 use Rattle.std.specs.Prelude.{Option, Some}
 use Rattle.host_edge.specs.Folder.{ToldFiles}
 use Rattle.gml_text.specs.Tree.{Pairs}
@@ -16,7 +16,7 @@ use Rattle.reroute_app.specs.Reads.{ReadsFile}
 use Rattle.reroute_app.specs.Replay.{most_script_bytes, Replays}
 use Rattle.reroute_app.specs.Run.{IsFormOutcome}
 use Rattle.reroute_app.specs.View.{HasCommands, StopsAt, never, never_two}
-use Rattle.reroute_app.specs.View.NotesTwo.{of_diagram, of_both}
+use Rattle.reroute_app.specs.View.NotesTwo.{of_both}
 use Rattle.reroute_app.proofs.Scripts.{few_commands}
 use Rattle.reroute_app.proofs.Stops.{stops_as, comes_on, diagram_ends, script_stops, replayed}
 use Rattle.reroute_app.proofs.replay.replay_files.Goals as goal
