@@ -1,4 +1,5 @@
-//! A session through its calls, and each of its faults from one state, after which all is as before.
+//! A session through its calls, what its graph is written, and each of its faults from one state, after which all is
+//! as before.
 ghost use Rattle.scene_model.specs.Edits.{IsDirected};
 
 use crate::{Session, SessionFault};
@@ -7,6 +8,8 @@ use scene_store::{Dirs, Edit, Scene, SceneFault, Setting};
 use std::alloc::Global;
 use std::test::Fail;
 use std::thread::Threads;
+
+mod nudging;
 
 const EAST: Dirs = Dirs {
     east: true,
@@ -218,10 +221,14 @@ fn make_all<R: Threads + Sync>(
     Ok(())
 }
 
+fn session_on<R: Threads + Sync>(rt: &R, alloc: Global, scene: Scene) -> Result<Session, Fail> {
+    Ok(Session::open(rt, alloc, scene, 2, &OpenGate)?)
+}
+
 /// A session on the small scene.
 fn opened<R: Threads + Sync>(rt: &R, alloc: Global) -> Result<Session, Fail> {
     let scene = small_scene(alloc).map_err(|_| "a scene")?;
-    Ok(Session::open(rt, alloc, scene, 2, &OpenGate)?)
+    session_on(rt, alloc, scene)
 }
 
 #[test]
@@ -303,5 +310,57 @@ fn goes_back_and_forth(rt: HostRuntime) -> Result<(), Fail> {
     let lines = session.nudged()?.routes;
     assert!(rt; lines.len() == 1 && lines[0].edge == 1);
     assert_eq!(rt; session.into_tally().count(), 2);
+    Ok(())
+}
+
+/// Calls that leave a transaction open, and none.
+const GIVEN_UP: [&[Call]; 2] = [&[Call::Begin, Call::Move(120_000), Call::Join], &[]];
+
+fn give_up(session: &mut Session) {
+    session.give_up();
+}
+
+#[test]
+fn gives_up_what_is_open(rt: HostRuntime) -> Result<(), Fail> {
+    let mut session = opened(&rt, rt.alloc())?;
+    let before = look(&session);
+    for calls in GIVEN_UP {
+        assert!(rt; make_all(&rt, &mut session, calls).is_ok());
+        give_up(&mut session);
+        assert_eq!(rt; look(&session), before);
+    }
+    Ok(())
+}
+
+/// Calls on the second box alone, and how many lines and crossings the graph was written after them.
+///
+/// The box has 8 lines: that of each side, through the whole sheet, and one outward from each port. They cross at its
+/// corners and at its ports, so there are 8 crossings. Where it goes east, the lines of its upper and its lower side
+/// stay; the other 6 are new, and so is each crossing.
+const WRITTEN: [(&[Call], u64); 7] = [
+    (&[], 16),
+    (&[Call::Begin, Call::Move(100_000), Call::Commit], 30),
+    (&[Call::Begin, Call::Commit], 30),
+    (&[Call::Begin, Call::Move(100_000), Call::Commit], 30),
+    (&[Call::Undo, Call::Undo], 30),
+    (&[Call::Undo], 44),
+    (&[Call::Redo], 58),
+];
+
+/// A scene with the second box alone.
+fn one_box(alloc: Global) -> Result<Scene, SceneFault> {
+    let mut scene = Scene::new(alloc);
+    scene.add_node(2, 0, 0, 20_000, 20_000)?;
+    Ok(scene)
+}
+
+#[test]
+fn writes_new_lines(rt: HostRuntime) -> Result<(), Fail> {
+    let scene = one_box(rt.alloc()).map_err(|_| "a scene")?;
+    let mut session = session_on(&rt, rt.alloc(), scene)?;
+    for (calls, written) in WRITTEN {
+        assert!(rt; make_all(&rt, &mut session, calls).is_ok());
+        assert_eq!(rt; look(&session).written, written);
+    }
     Ok(())
 }
