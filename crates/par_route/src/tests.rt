@@ -18,6 +18,8 @@ use std::thread::Threads;
 use visibility_graph::Graph;
 use walk_model::{Choices, Route, Task};
 
+mod on_a_line;
+
 /// Counts the pieces that pass, and adds up their numbers.
 #[derive(Drop)]
 struct Counter {
