@@ -1,5 +1,5 @@
 -- Whether a line stands in a list, and lists that part the kept lines of two floors.
-use Rattle.std.proofs.Common.{◌≡◌, ◌≢◌, ◌⊎◌, inl, inr, ℕ, ℤ, ◌<◌, ◌≤◌, Bool, true, false, not, ◌&&◌, List, ◌++◌, length, get_or, refl, sym, ap, subst, ◌∙◌, arith, rules}
+use Rattle.std.proofs.Common.{◌≡◌, ◌≢◌, ◌⊎◌, inl, inr, ℕ, ◌<◌, ◌≤◌, Bool, true, false, not, ◌&&◌, List, ◌++◌, length, get_or, refl, sym, ap, subst, ◌∙◌, arith, rules}
 use Rattle.std.specs.Prelude.{Contains, filter, int_lt, ◌||◌, ◌↔◌, IsTrue}
 use Rattle.std.specs.List.{AllWithin}
 use Rattle.std.specs.List.Sorted.{IsPartitionedBy}
@@ -16,9 +16,10 @@ use Rattle.plane_geom.specs.declared.point.Way.TheVariants.{Vertical, Horizontal
 use Rattle.plane_geom.specs.declared.floor.Line.{Line}
 use Rattle.plane_geom.specs.declared.floor.Floor.{Floor}
 use Rattle.plane_geom.specs.Floor.{IsKept}
-use Rattle.sweep_lines.specs.Kept.{AreAllKept, AreOrdered, stands_before, way_before}
+use Rattle.sweep_lines.specs.Kept.{AreAllKept, AreOrdered}
+use Rattle.plane_geom.specs.Order.{stands_before}
 use Rattle.sweep_lines.proofs.Members.{Among, among_filter, among_filtered, among_of_any, among_of_contains, any_of_among, contains_of_among, rising_joined, rising_of_pairs}
-use Rattle.sweep_lines.proofs.OneList.{never_both}
+use Rattle.plane_geom.proofs.Order.{before_apart, never_both, stands_through}
 use Rattle.visibility_graph.specs.Meeting.{same_way}
 use Rattle.visibility_graph.proofs.KeptList.{is_kept}
 use Rattle.visibility_graph.proofs.Counts.{no_line}
@@ -144,11 +145,8 @@ alone_at a b ls ms lines others xs of_a of_b e f g =
 
 -- ---- the two parts of the kept lines of a floor
 
-never_itself : (l m : Line) → stands_before l m ≡ true → l ≢ m
-never_itself l m e same = let r : stands_before m m ≡ true = subst (λ (x : Line). stands_before x m ≡ true) same e in never_both m m r r
-
 distinct_ordered : (ls : List Line) → AreOrdered ls → AreDistinct ls
-distinct_ordered ls ordered = rising_more (λ l m. stands_before l m ≡ true) (λ l m. l ≢ m) never_itself ls (rising_of_pairs (λ l m. stands_before l m ≡ true) ls ordered)
+distinct_ordered ls ordered = rising_more (λ l m. stands_before l m ≡ true) (λ l m. l ≢ m) before_apart ls (rising_of_pairs (λ l m. stands_before l m ≡ true) ls ordered)
 
 module _ (a b : Floor) (stay here : List Line) (shared : AreShared a b stay) (alone : AreAlone a b here) where
   pub in_a_part : (l : Line) → IsKept a l → Contains stay l ⊎ Contains here l
@@ -172,21 +170,6 @@ pub distinct_shared : (a b : Floor) (stay : List Line) → AreShared a b stay �
 distinct_shared a b stay shared = distinct_ordered stay shared.ordered
 
 -- ---- where a line stands in a list in order
-
-by_place : (a b c x y z : ℤ) → (int_lt a b || (int_eq a b && int_lt x y)) ≡ true → (int_lt b c || (int_eq b c && int_lt y z)) ≡ true → (int_lt a c || (int_eq a c && int_lt x z)) ≡ true
-by_place a b c x y z e f = grind (arith, ints, Decides-int_eq a b, Decides-int_eq b c, Decides-int_eq a c)
-
-before_by : (u v w : Way) (a b c x y z : ℤ) → way_before u v (int_lt a b || (int_eq a b && int_lt x y)) ≡ true → way_before v w (int_lt b c || (int_eq b c && int_lt y z)) ≡ true → way_before u w (int_lt a c || (int_eq a c && int_lt x z)) ≡ true
-before_by Vertical Vertical Vertical a b c x y z e f = by_place a b c x y z e f
-before_by Vertical Vertical Horizontal a b c x y z e f = refl
-before_by Vertical Horizontal Vertical a b c x y z e f = absurd (cc)
-before_by Vertical Horizontal Horizontal a b c x y z e f = refl
-before_by Horizontal Vertical w a b c x y z e f = absurd (cc)
-before_by Horizontal Horizontal Vertical a b c x y z e f = absurd (cc)
-before_by Horizontal Horizontal Horizontal a b c x y z e f = by_place a b c x y z e f
-
-pub stands_through : (k l m : Line) → stands_before k l ≡ true → stands_before l m ≡ true → stands_before k m ≡ true
-stands_through k l m e f = before_by k.way l.way m.way k.at l.at m.at k.lo l.lo m.lo e f
 
 pub parted_at : (line : Line) (ls : List Line) → AreOrdered ls → IsPartitionedBy (λ m. stands_before m line) ls
 parted_at line ls ordered = λ i j d h l e. elim (cases_lt i j) [

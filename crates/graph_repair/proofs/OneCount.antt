@@ -3,9 +3,11 @@ use Rattle.std.proofs.Common.{◌≡◌, ℕ, ◌+◌, true, List, length, sym, 
 use Rattle.std.specs.Prelude.{Contains}
 use Rattle.plane_geom.specs.declared.floor.Line.{Line}
 use Rattle.plane_geom.specs.declared.floor.Floor.{Floor}
-use Rattle.sweep_lines.specs.Kept.{AreOrdered, stands_before}
+use Rattle.sweep_lines.specs.Kept.{AreOrdered}
+use Rattle.plane_geom.specs.Order.{stands_before}
 use Rattle.sweep_lines.proofs.Members.{among_of_contains, contains_of_among, rising_of_pairs}
-use Rattle.sweep_lines.proofs.OneList.{never_both, one_list}
+use Rattle.plane_geom.proofs.Order.{never_both}
+use Rattle.sweep_lines.proofs.OneList.{one_list}
 use Rattle.visibility_graph.specs.Meeting.{coming}
 use Rattle.graph_repair.specs.Change.{AreAlone, AreShared, IsWriteCount}
 

@@ -1,14 +1,14 @@
 //! What changes from one floor to another, and the room for it.
 ghost use Rattle.std.specs.Prelude.{◌≡◌, ◌↔◌, ◌-◌, ◌≤◌, false, not, IsTrue, Contains, filter, length, IfOk, OnOk};
 ghost use Rattle.plane_geom.specs.Floor.{IsFloor};
-ghost use Rattle.sweep_lines.specs.Kept.{AreOrdered, stands_before};
+ghost use Rattle.sweep_lines.specs.Kept.{AreOrdered};
 ghost use Rattle.visibility_graph.specs.Meeting.{coming};
 ghost use Rattle.graph_repair.specs.Change.{LeadsFrom};
 ghost use Rattle.graph_repair.specs.Listed.{is_listed};
 
 use crate::exchange::take;
 use crate::repair::Repair;
-use plane_geom::{Floor, Line, Way};
+use plane_geom::{Floor, Line};
 use std::alloc::{AllocError, Global};
 use sweep_lines::all_lines;
 use visibility_graph::{Graph, crossings_of};
@@ -81,7 +81,7 @@ fn is_among(line: &Line, others: &[Line]) -> bool
     requires { AreOrdered others.now }
     ensures { result ≡ is_listed others.now line.now }
 {
-    let place = others.partition_point(|other| is_before(other, line));
+    let place = others.partition_point(|other| other.stands_before(line));
     if place == others.len() {
         return false;
     }
@@ -93,17 +93,6 @@ fn is_same(line: &Line, other: &Line) -> bool
     ensures { IsTrue result ↔ (line.now ≡ other.now) }
 {
     line == other
-}
-
-/// Whether one line stands before another: vertical ones first, then by coordinate, then by begin.
-fn is_before(line: &Line, other: &Line) -> bool
-    ensures { result ≡ stands_before line.now other.now }
-{
-    match (line.way, other.way) {
-        (Way::Vertical, Way::Horizontal) => true,
-        (Way::Horizontal, Way::Vertical) => false,
-        _ => line.at < other.at || (line.at == other.at && line.lo < other.lo),
-    }
 }
 
 /// Makes room for the lines and crossings that come, less those that go.

@@ -17,61 +17,20 @@ use Rattle.plane_geom.specs.declared.point.Way.{Way}
 use Rattle.plane_geom.specs.declared.point.Way.TheVariants.{Vertical, Horizontal}
 use Rattle.plane_geom.specs.declared.floor.Line.{Line}
 use Rattle.plane_geom.specs.Floor.{Holds, point_on}
-use Rattle.line_arena.specs.Order.{AreApart, AreInOrder, HasPlace, at_point, stands_before, way_before}
+use Rattle.line_arena.specs.Order.{AreApart, AreInOrder, HasPlace, at_point}
+use Rattle.plane_geom.specs.Order.{stands_before}
+use Rattle.plane_geom.proofs.Order.{before_apart, not_before_itself, stands_through}
 use Rattle.line_arena.proofs.Put.{held}
-
--- ---- one line before another
-
-on : (a b c x y z : ℤ) → (int_lt a b || (int_eq a b && int_lt x y)) ≡ true → (int_lt b c || (int_eq b c && int_lt y z)) ≡ true → (int_lt a c || (int_eq a c && int_lt x z)) ≡ true
-on a b c x y z e f = grind (arith, ints, Decides-int_eq a b, Decides-int_eq b c, Decides-int_eq a c)
-
-on_by : (u v w : Way) (a b c x y z : ℤ) → way_before u v (int_lt a b || (int_eq a b && int_lt x y)) ≡ true → way_before v w (int_lt b c || (int_eq b c && int_lt y z)) ≡ true → way_before u w (int_lt a c || (int_eq a c && int_lt x z)) ≡ true
-on_by Vertical Vertical Vertical a b c x y z e f = on a b c x y z e f
-on_by Vertical Vertical Horizontal a b c x y z e f = refl
-on_by Vertical Horizontal Vertical a b c x y z e f = absurd (cc)
-on_by Vertical Horizontal Horizontal a b c x y z e f = refl
-on_by Horizontal Vertical w a b c x y z e f = absurd (cc)
-on_by Horizontal Horizontal Vertical a b c x y z e f = absurd (cc)
-on_by Horizontal Horizontal Horizontal a b c x y z e f = on a b c x y z e f
-
-before_on : (k l m : Line) → stands_before k l ≡ true → stands_before l m ≡ true → stands_before k m ≡ true
-before_on k l m e f = on_by k.way l.way m.way k.at l.at m.at k.lo l.lo m.lo e f
-
-not_on_itself : (a x : ℤ) → (int_lt a a || (int_eq a a && int_lt x x)) ≡ false
-not_on_itself a x = grind (arith, ints, Decides-int_eq a a)
-
-itself_by : (w : Way) (a x : ℤ) → way_before w w (int_lt a a || (int_eq a a && int_lt x x)) ≡ false
-itself_by Vertical a x = not_on_itself a x
-itself_by Horizontal a x = not_on_itself a x
-
-pub not_before_itself : (l : Line) → stands_before l l ≡ false
-not_before_itself l = itself_by l.way l.at l.lo
 
 true_false : (b : Bool) → b ≡ true → b ≡ false → ⊥
 true_false b t f = cc (t, f)
-
-pub before_apart : (l m : Line) → stands_before l m ≡ true → l ≢ m
-before_apart l m e same = true_false (stands_before m m) (subst (λ (x : Line). stands_before x m ≡ true) same e) (not_before_itself m)
-
-either_by : (a b x y : ℤ) → ((a ≡ b) → (x ≡ y) → ⊥) → (int_lt a b || (int_eq a b && int_lt x y)) ≡ false → (int_lt b a || (int_eq b a && int_lt y x)) ≡ true
-either_by a b x y apart e = grind (arith, ints, Decides-int_eq a b, Decides-int_eq b a)
-
-either_way : (v w : Way) (a b x y : ℤ) → ((v ≡ w) → (a ≡ b) → (x ≡ y) → ⊥) → way_before v w (int_lt a b || (int_eq a b && int_lt x y)) ≡ false → way_before w v (int_lt b a || (int_eq b a && int_lt y x)) ≡ true
-either_way Vertical Vertical a b x y apart e = either_by a b x y (apart refl) e
-either_way Vertical Horizontal a b x y apart e = absurd (cc)
-either_way Horizontal Vertical a b x y apart e = refl
-either_way Horizontal Horizontal a b x y apart e = either_by a b x y (apart refl) e
-
--- of two lines that do not begin at one point of one whole line, one stands before the other
-pub either_before : (l m : Line) → ((l.way ≡ m.way) → (l.at ≡ m.at) → (l.lo ≡ m.lo) → ⊥) → stands_before l m ≡ false → stands_before m l ≡ true
-either_before l m apart e = either_way l.way m.way l.at m.at l.lo m.lo apart e
 
 -- ---- the place of a line
 
 none_before : (line l m : Line) → stands_before l m ≡ true → not (stands_before line m) ≡ true → not (stands_before line l) ≡ true
 none_before line l m e f =
     elim (cases_Bool (stands_before line l)) [
-      | inl t ↦ absurd (true_false (not (stands_before line m)) f (ap not (before_on line l m t e)))
+      | inl t ↦ absurd (true_false (not (stands_before line m)) f (ap not (stands_through line l m t e)))
       | inr n ↦ ap not n
     ]
 

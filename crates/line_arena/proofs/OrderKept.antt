@@ -15,7 +15,7 @@ use Rattle.line_arena.specs.View.{arena_of}
 use Rattle.line_arena.specs.Lists.{AreLists, IsApart, Spot, UpdatesAt, line_at, spot_at}
 use Rattle.line_arena.specs.Order.{AreApart, AreInOrder, HasPlace, IsOrderedArena}
 use Rattle.line_arena.proofs.ArenaLemmas.{spot_standing, stands_at}
-use Rattle.line_arena.proofs.InOrder.{either_before}
+use Rattle.plane_geom.proofs.Order.{either_before}
 
 pub none_there : {X : Type 0} (x : X) → ◌≡◌ {A = Option X} None (Some x) → ⊥
 none_there x e = cc

@@ -10,17 +10,6 @@ use Rattle.plane_geom.specs.Floor.{AreOnOneWholeLine, Holds}
 use Rattle.line_arena.specs.declared.lists.Lists.{Lists}
 use Rattle.line_arena.specs.Lists.{AreLists, line_at}
 
--- whether a line of the one way stands before a line of the other; the rest tells lines of one way
-abbrev pub way_before : Way → Way → Bool → Bool
-way_before Vertical Vertical rest = rest
-way_before Vertical Horizontal rest = true
-way_before Horizontal Vertical rest = false
-way_before Horizontal Horizontal rest = rest
-
--- whether one line stands before another: vertical ones first, then by coordinate, then by begin
-abbrev pub stands_before : Line → Line → Bool
-stands_before l m = way_before l.way m.way (int_lt l.at m.at || (int_eq l.at m.at && int_lt l.lo m.lo))
-
 -- the vertical line of the point alone
 abbrev pub at_point : Point → Line
 at_point p = record { way = Vertical; at = p.x; lo = p.y; hi = p.y }

@@ -4,21 +4,11 @@ ghost use Rattle.std.specs.List.Sorted.{IsPartitionPoint};
 ghost use Rattle.plane_geom.specs.declared.floor.Line.{Line};
 ghost use Rattle.plane_geom.specs.declared.point.Way.TheVariants.{Vertical};
 ghost use Rattle.plane_geom.specs.Floor.{Holds};
-ghost use Rattle.line_arena.specs.Order.{AreApart, AreInOrder, HasPlace, at_point, stands_before};
+ghost use Rattle.line_arena.specs.Order.{AreApart, AreInOrder, HasPlace, at_point};
+ghost use Rattle.plane_geom.specs.Order.{stands_before};
 
 use crate::id::LineId;
 use plane_geom::{Line, Point, Way};
-
-/// Whether the line stands before the other one: vertical lines first, then by coordinate, then by begin.
-fn is_before(line: &Line, other: &Line) -> bool
-    ensures { result ≡ stands_before line.now other.now }
-{
-    match (line.way, other.way) {
-        (Way::Vertical, Way::Horizontal) => true,
-        (Way::Horizontal, Way::Vertical) => false,
-        _ => line.at < other.at || (line.at == other.at && line.lo < other.lo),
-    }
-}
 
 /// How many of the lines the line does not stand before.
 fn count_upto(lines: &[(Line, LineId)], line: &Line) -> usize
@@ -26,7 +16,7 @@ fn count_upto(lines: &[(Line, LineId)], line: &Line) -> usize
     ensures bound { result ≤ length lines.now }
     ensures point { IsPartitionPoint (λ e. stands_before line.now e.0 ≡ false) (λ e. stands_before line.now e.0 ≡ true) lines.now result }
 {
-    lines.partition_point(|(other, _)| !is_before(line, other))
+    lines.partition_point(|(other, _)| !line.stands_before(other))
 }
 
 /// Puts a line in at its place, and takes no memory.

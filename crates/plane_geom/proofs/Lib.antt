@@ -7,3 +7,4 @@ pub mod Ways
 pub mod Pieces
 pub mod LongestPiece
 pub mod KeptLines
+pub mod Order

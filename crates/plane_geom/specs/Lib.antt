@@ -3,4 +3,5 @@ pub mod Point
 pub mod Along
 pub mod Rect
 pub mod Floor
+pub mod Order
 pub mod Axes

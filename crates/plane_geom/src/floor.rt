@@ -1,6 +1,7 @@
 //! Lines, and the floor on which the lines of a visibility graph are drawn.
 ghost use Rattle.std.specs.Prelude.{◌≡◌, ◌≤ℤ◌};
 ghost use Rattle.plane_geom.specs.Floor.{Holds, IsFreePiece, IsKept, IsLongestFreePiece, AreOnOneWholeLine};
+ghost use Rattle.plane_geom.specs.Order.{stands_before};
 ghost use Rattle.plane_geom.specs.declared.floor.Floor.{Floor};
 ghost use Rattle.plane_geom.specs.declared.floor.Line.{Line};
 ghost use Rattle.plane_geom.specs.declared.point.Point.{Point};
@@ -18,6 +19,19 @@ pub struct Line {
     pub at: i64,
     pub lo: i64,
     pub hi: i64,
+}
+
+impl Line {
+    /// Whether the line stands before the other one: vertical lines first, then by coordinate, then by begin.
+    pub fn stands_before(&self, other: &Line) -> bool
+        ensures { result ≡ stands_before self.now other.now }
+    {
+        match (self.way, other.way) {
+            (Way::Vertical, Way::Horizontal) => true,
+            (Way::Horizontal, Way::Vertical) => false,
+            _ => self.at < other.at || (self.at == other.at && self.lo < other.lo),
+        }
+    }
 }
 
 /// What the lines of a visibility graph are drawn on: the solids, and as anchors the ports of all pins

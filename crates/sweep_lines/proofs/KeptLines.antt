@@ -21,7 +21,8 @@ use Rattle.sweep_lines.specs.Bars.{bar_of, bars_of}
 use Rattle.sweep_lines.specs.Gaps.{Piece, gaps}
 use Rattle.sweep_lines.specs.Marks.{marks_of, keeps, line_of, kept_gaps, AreAt}
 use Rattle.sweep_lines.specs.Open.{AreSpansOf, IsCrossed, AreOpen, HasLength}
-use Rattle.sweep_lines.specs.Kept.{stands_before, way_before, AreKept, AreAllKept}
+use Rattle.sweep_lines.specs.Kept.{AreKept, AreAllKept}
+use Rattle.plane_geom.specs.Order.{stands_before, way_before}
 use Rattle.sweep_lines.proofs.Members.{Among, among_of_contains, contains_of_among, all_among, among_all, among_filter, among_filtered, among_map, among_mapped, Rising, rising_filter, rising_map, rising_joined, rising_of_pairs, pairs_of_rising, among_number, number_mapped}
 use Rattle.sweep_lines.proofs.Gaps.{Rise, IsGap, AreApart}
 use Rattle.sweep_lines.proofs.Longest.{are_gaps, apart, longest_of_gap, gap_of_longest}

@@ -1,17 +1,13 @@
 -- Two lists in strict order with the same members are one.
-use Rattle.std.proofs.Common.{◌≡◌, inl, inr, ℤ, true, List, [], ◌∷◌, refl, sym, subst, ◌∙◌, arith}
-use Rattle.std.specs.Prelude.{int_lt, ◌||◌, ◌&&◌}
-use Rattle.std.specs.Ordering.{int_eq}
-use Rattle.std.proofs.lemmas.Int.{ints}
-use Rattle.std.proofs.lemmas.Bool.Decides.{Decides-int_eq}
+use Rattle.std.proofs.Common.{◌≡◌, inl, inr, true, List, [], ◌∷◌, refl, sym, subst, ◌∙◌}
 use Rattle.std.specs.List.{AllByRecursion}
 use Rattle.std.proofs.lemmas.List.Elements.{All-contains}
-use Rattle.plane_geom.specs.declared.point.Way.{Way}
-use Rattle.plane_geom.specs.declared.point.Way.TheVariants.{Vertical, Horizontal}
 use Rattle.plane_geom.specs.declared.floor.Line.{Line}
 use Rattle.plane_geom.specs.declared.floor.Floor.{Floor}
 use Rattle.plane_geom.specs.Floor.{IsKept}
-use Rattle.sweep_lines.specs.Kept.{stands_before, way_before, AreKept}
+use Rattle.sweep_lines.specs.Kept.{AreKept}
+use Rattle.plane_geom.specs.Order.{stands_before}
+use Rattle.plane_geom.proofs.Order.{never_both}
 use Rattle.sweep_lines.proofs.Members.{Among, among_of_contains, contains_of_among, all_among, Rising, rising_of_pairs}
 
 module _ {X : Type 0} (R : X → X → Type 0) (one_way : (x y : X) → R x y → R y x → ⊥) where
@@ -37,18 +33,6 @@ module _ {X : Type 0} (R : X → X → Type 0) (one_way : (x y : X) → R x y �
       (λ z i. among_rest x y z xs ys e a.0 i (f z (inr i)))
       (λ z i. among_rest y x z ys xs (sym e) b.0 i (g z (inr i))) in
       (λ i. e i ∷ rest i)
-
-not_both : (a b c d : ℤ) → (int_lt a b || (int_eq a b && int_lt c d)) ≡ true → (int_lt b a || (int_eq b a && int_lt d c)) ≡ true → ⊥
-not_both a b c d e f = grind (arith, ints, Decides-int_eq a b, Decides-int_eq b a)
-
-never_both_by : (v w : Way) (a b c d : ℤ) → way_before v w (int_lt a b || (int_eq a b && int_lt c d)) ≡ true → way_before w v (int_lt b a || (int_eq b a && int_lt d c)) ≡ true → ⊥
-never_both_by Vertical Vertical a b c d e f = not_both a b c d e f
-never_both_by Vertical Horizontal a b c d e f = absurd (cc)
-never_both_by Horizontal Vertical a b c d e f = absurd (cc)
-never_both_by Horizontal Horizontal a b c d e f = not_both a b c d e f
-
-pub never_both : (l m : Line) → stands_before l m ≡ true → stands_before m l ≡ true → ⊥
-never_both l m e f = never_both_by l.way m.way l.at m.at l.lo m.lo e f
 
 pub one_list_of_kept : (floor : Floor) (IsAsked : Line → Type 0) (ls ms : List Line) → AreKept floor IsAsked ls → AreKept floor IsAsked ms → ls ≡ ms
 one_list_of_kept floor IsAsked ls ms a b =

@@ -25,7 +25,8 @@ use Rattle.sweep_lines.specs.declared.mark.Mark.{Mark}
 use Rattle.sweep_lines.specs.Bars.{bar_of, bars_of}
 use Rattle.sweep_lines.specs.Marks.{begin_mark, end_mark, anchor_mark, marks_of, begins, ends, begun_span, kept_gaps, AreAt}
 use Rattle.sweep_lines.specs.Open.{AreSpansOf, HasBegun, IsCrossed, HasNotEnded, HasLength, AreOpened}
-use Rattle.sweep_lines.specs.Kept.{stands_before, way_before, AreKept}
+use Rattle.sweep_lines.specs.Kept.{AreKept}
+use Rattle.plane_geom.specs.Order.{stands_before, way_before}
 use Rattle.sweep_lines.proofs.Members.{Among, contains_of_among, among_of_any, among_number, number_map, Rising, rising_of_pairs, rising_joined, pairs_of_rising}
 use Rattle.sweep_lines.proofs.Sides.{bar_of_side}
 use Rattle.sweep_lines.proofs.Standing.{mark_cases, marks_have_sides, marks_have_anchors, begins_once}

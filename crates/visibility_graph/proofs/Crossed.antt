@@ -10,9 +10,10 @@ use Rattle.plane_geom.specs.declared.point.Way.TheVariants.{Vertical, Horizontal
 use Rattle.plane_geom.specs.declared.floor.Line.{Line}
 use Rattle.line_arena.specs.Arena.{Arena, IsArena, Pair, counted}
 use Rattle.line_arena.proofs.ArenaLaws.{within_crossing_put}
-use Rattle.sweep_lines.specs.Kept.{AreOrdered, stands_before}
+use Rattle.sweep_lines.specs.Kept.{AreOrdered}
+use Rattle.plane_geom.specs.Order.{stands_before}
 use Rattle.sweep_lines.proofs.Members.{Among, among_filter, among_filtered, among_of_contains, contains_of_among}
-use Rattle.sweep_lines.proofs.OneList.{never_both}
+use Rattle.plane_geom.proofs.Order.{never_both}
 use Rattle.visibility_graph.specs.Meeting.{counted_by}
 use Rattle.visibility_graph.specs.Fill.{IsCrossed, IsUncrossed, IsWithOneOf, pair_along}
 use Rattle.visibility_graph.proofs.Lines.{in_put, one_id, one_more, put_there, same_some}

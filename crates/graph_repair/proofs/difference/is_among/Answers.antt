@@ -1,7 +1,7 @@
 -- A line that is listed stands where those before it end.
 use Rattle.std.proofs.Common.{arith, rules}
 use Rattle.std.proofs.lemmas.List.Sorted.{IsPartitionPoint-from_clause}
-use Rattle.sweep_lines.specs.Kept.{stands_before}
+use Rattle.plane_geom.specs.Order.{stands_before}
 use Rattle.graph_repair.proofs.Listing.{listed_answer, parted_at, past_answer}
 use Rattle.graph_repair.proofs.difference.is_among.Goals as goal
 

@@ -4,7 +4,7 @@ use Rattle.std.specs.List.Sorted.{IsPartitionPoint}
 use Rattle.std.proofs.lemmas.List.{get_or_default}
 use Rattle.plane_geom.specs.declared.floor.Line.{Line}
 use Rattle.plane_geom.specs.declared.point.Way.TheVariants.{Vertical}
-use Rattle.line_arena.specs.Order.{stands_before}
+use Rattle.plane_geom.specs.Order.{stands_before}
 use Rattle.line_arena.proofs.InOrder.{begins_upto, held_down, last_is}
 use Rattle.line_arena.proofs.order.column_through.Goals as goal
 

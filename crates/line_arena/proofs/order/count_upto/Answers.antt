@@ -1,7 +1,7 @@
 -- Lines in order are parted at the first that the line stands before.
 use Rattle.std.proofs.Common.{not, rules}
 use Rattle.std.proofs.lemmas.List.Sorted.{IsPartitionPoint-from_clause}
-use Rattle.line_arena.specs.Order.{stands_before}
+use Rattle.plane_geom.specs.Order.{stands_before}
 use Rattle.line_arena.proofs.InOrder.{not_false, not_true, parted}
 use Rattle.line_arena.proofs.order.count_upto.Goals as goal
 

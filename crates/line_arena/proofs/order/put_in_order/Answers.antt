@@ -3,7 +3,8 @@ use Rattle.std.proofs.Common.{◌≡◌, ◌⊎◌, ◌≤◌, true, false, leng
 use Rattle.std.specs.Prelude.{Contains, ◌↔◌}
 use Rattle.std.specs.List.{insert}
 use Rattle.std.specs.List.Sorted.{IsPartitionPoint}
-use Rattle.line_arena.specs.Order.{AreInOrder, stands_before}
+use Rattle.line_arena.specs.Order.{AreInOrder}
+use Rattle.plane_geom.specs.Order.{stands_before}
 use Rattle.line_arena.proofs.InOrder.{in_order_put, succeeded, there_put}
 use Rattle.line_arena.proofs.order.put_in_order.Goals as goal
 use Rattle.line_arena.proofs.order.put_in_order.Goals.{After-insert}

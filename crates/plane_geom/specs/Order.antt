@@ -1,0 +1,17 @@
+-- The order of lines.
+use Rattle.std.specs.Prelude.{Bool, true, false, ◌&&◌, ◌||◌, int_lt}
+use Rattle.std.specs.Ordering.{int_eq}
+use Rattle.plane_geom.specs.declared.point.Way.{Way}
+use Rattle.plane_geom.specs.declared.point.Way.TheVariants.{Vertical, Horizontal}
+use Rattle.plane_geom.specs.declared.floor.Line.{Line}
+
+-- whether a line of the one way stands before a line of the other; the rest tells lines of one way
+abbrev pub way_before : Way → Way → Bool → Bool
+way_before Vertical Vertical rest = rest
+way_before Vertical Horizontal rest = true
+way_before Horizontal Vertical rest = false
+way_before Horizontal Horizontal rest = rest
+
+-- whether one line stands before another: vertical ones first, then by coordinate, then by begin
+abbrev pub stands_before : Line → Line → Bool
+stands_before l m = way_before l.way m.way (int_lt l.at m.at || (int_eq l.at m.at && int_lt l.lo m.lo))
