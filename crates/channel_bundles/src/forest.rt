@@ -1,5 +1,5 @@
 //! Numbers in classes, as trees that are joined two at a time.
-ghost use Rattle.std.specs.Prelude.{◌≡◌, ℕ, ◌<◌, ◌≤◌, [], All, IfOk, EachIndex, length, map, slice_set, slice_index};
+ghost use Rattle.std.specs.Prelude.{◌≡◌, ℕ, ◌<◌, [], All, IfOk, EachIndex, length, map, slice_set, slice_index};
 ghost use Rattle.channel_bundles.specs.Classes.{AreClasses, AreTreeNumbers, Connected, IsForest, LeadsUp, LeadsUpOr};
 
 use std::alloc::{AllocError, Global};

@@ -1,7 +1,7 @@
 //! The scene of a diagram: its settings, its nodes and its edges, one after the other.
 ghost use Rattle.std.specs.Prelude.{◌≡◌, ◌≤◌, codes, length, suc, IfOk, IfErr};
 ghost use Rattle.gml_text.specs.View.{pairs, tree};
-ghost use Rattle.scene_model.specs.Scene.{empty_scene, pin_count, via_count};
+ghost use Rattle.scene_model.specs.Scene.{pin_count, via_count};
 ghost use Rattle.diagram_read.specs.declared.fault.DiagramFault.TheVariants.{Memory};
 ghost use Rattle.diagram_read.specs.Edges.{edge_in, with_edge_in, with_edges_in};
 ghost use Rattle.diagram_read.specs.Faults.{IsRead, Leaves};

@@ -45,9 +45,9 @@ fn copied(alloc: Global, bytes: &[u8]) -> Result<Vec<u8>, GmlFault>
 
 impl Reader {
     ghost use Rattle.gml_text.specs.Bytes.{closing, opening, quote};
-    ghost use Rattle.gml_text.specs.Reading.{between, behind, start};
+    ghost use Rattle.gml_text.specs.Reading.{behind, start};
     ghost use Rattle.gml_text.specs.Reader.{frames, state_of};
-    ghost use Rattle.gml_text.specs.Standing.{gap_state, text_state, Goes, IsAnswer, IsNoGap, Stands};
+    ghost use Rattle.gml_text.specs.Standing.{gap_state, Goes, IsAnswer, IsNoGap, Stands};
     ghost use Rattle.gml_text.specs.Tree.{◌then◌, no_pairs, pair};
     ghost use Rattle.gml_text.specs.View.{content, pairs};
 

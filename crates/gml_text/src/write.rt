@@ -1,11 +1,11 @@
 //! Writing a document in its printed form.
 
-ghost use Rattle.std.specs.Prelude.{◌≡◌, ◌+◌, ◌++◌, ◌≤◌, ◌∷◌, [], IfOk, OnOk, length};
+ghost use Rattle.std.specs.Prelude.{◌≡◌, ◌+◌, ◌++◌, ◌≤◌, ◌∷◌, [], IfOk, OnOk};
 ghost use Rattle.gml_text.specs.Grammar.{Spells};
 ghost use Rattle.gml_text.specs.Parse.{most_open};
 ghost use Rattle.gml_text.specs.Printed.{indent, printed, printed_inside, printed_value, IsPrintable};
-ghost use Rattle.gml_text.specs.Tree.{depth, value_depth, pair, no_pairs};
-ghost use Rattle.gml_text.specs.View.{content, entry, pairs, tree};
+ghost use Rattle.gml_text.specs.Tree.{depth, value_depth, pair};
+ghost use Rattle.gml_text.specs.View.{content, pairs, tree};
 
 use crate::tree::{Bytes, Doc, Pair, Value};
 use std::alloc::{AllocError, Global};

@@ -1,6 +1,6 @@
 //! The commands that are made from a number.
 ghost use Rattle.std.specs.Prelude.{◌≡◌, IfOk, OnOk, [], ◌∷◌, ◌++◌};
-ghost use Rattle.made_input.specs.Draws.{next_state, state_after};
+ghost use Rattle.made_input.specs.Draws.{state_after};
 ghost use Rattle.made_input.specs.Made.{made_commands, made_move};
 
 use crate::draws::Draws;

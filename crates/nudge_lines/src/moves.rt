@@ -1,5 +1,5 @@
 //! How the runs of a phase move: those of its way to their coordinates, and the others with their corners.
-ghost use Rattle.std.specs.Prelude.{◌≡◌, ℕ, ◌<◌, ◌-◌, ◌+◌, ◌++◌, ℤ, List, Some, All, length, slice_get};
+ghost use Rattle.std.specs.Prelude.{◌≡◌, ℕ, ◌<◌, ◌-◌, ◌+◌, ◌++◌, List, Some, All, length, slice_get};
 ghost use Rattle.plane_geom.specs.declared.point.Way.{Way};
 ghost use Rattle.channel_bundles.specs.Route.{IsPhaseRoute, is_way};
 ghost use Rattle.channel_bundles.specs.declared.route.PhaseRoute.{PhaseRoute};

@@ -1,5 +1,5 @@
 //! Both phases, and the lines that are written after them.
-ghost use Rattle.std.specs.Prelude.{ℕ, ◌≤◌, All, IfOk, length};
+ghost use Rattle.std.specs.Prelude.{◌≤◌, All, IfOk, length};
 ghost use Rattle.plane_geom.specs.Floor.{IsSolid};
 ghost use Rattle.plane_geom.specs.declared.point.Way.{Way};
 ghost use Rattle.separation_model.specs.Bundle.{most_items};

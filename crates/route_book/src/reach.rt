@@ -1,13 +1,10 @@
 //! How near to a rectangle the ways of a connector come within a cost.
-ghost use Rattle.std.specs.Prelude.{◌≡◌, ◌↔◌, ◌+◌, ◌*◌, ◌^◌, ◌<◌, ◌≤◌, ◌≤ℤ◌, ◌==◌, ◌∷◌, ◌++◌, [], All, Contains, IsTrue, filter, length};
+ghost use Rattle.std.specs.Prelude.{◌≡◌, ◌↔◌, ◌+◌, ◌*◌, ◌^◌, ◌<◌, ◌≤◌, ◌==◌, ◌∷◌, ◌++◌, [], All, IsTrue, filter, length};
 ghost use Rattle.plane_geom.specs.Point.{PointIsOnSheet};
-ghost use Rattle.plane_geom.specs.Floor.{IsSolid};
-ghost use Rattle.plane_geom.specs.Rect.{RectIsOnSheet};
 ghost use Rattle.route_book.specs.Reach.{AreParts, IsBox, IsNear, IsNearBetween, IsNearFrom, IsPlaced, IsShortestBy};
 ghost use Rattle.scene_model.specs.Routing.{pins_of_class, place_of};
-ghost use Rattle.scene_model.specs.Stale.{LineMeets, way_length};
-ghost use Rattle.scene_model.specs.Valid.{IsNode, IsOnField, IsPin};
-ghost use Rattle.walk_model.specs.Line.{IsStraightLine};
+ghost use Rattle.scene_model.specs.Stale.{way_length};
+ghost use Rattle.scene_model.specs.Valid.{IsNode};
 
 use crate::coordinates::moved;
 use plane_geom::{Point, Rect};

@@ -1,6 +1,5 @@
 //! What a task takes of a node, and its solid.
-ghost use Rattle.std.specs.Prelude.{◌≡◌, ◌↔◌, Contains, IfOk, IsTrue, option_copied, option_to_list};
-ghost use Rattle.std.specs.Option.{option_map};
+ghost use Rattle.std.specs.Prelude.{◌≡◌, ◌↔◌, Contains, IfOk, IsTrue, option_to_list};
 ghost use Rattle.route_book.specs.Shapes.{AskSame, shape_of};
 ghost use Rattle.route_book.specs.Solids.{AreRemoved};
 ghost use Rattle.scene_model.specs.Routing.{box, solid_of, solids};

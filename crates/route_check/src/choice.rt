@@ -1,9 +1,8 @@
 //! The choices with whose stubs a line begins and ends.
-ghost use Rattle.std.specs.Prelude.{◌≡◌, ◌↔◌, ◌≤◌, length, nat_le, All, IsTrue, MatchOption, if◌then◌else◌};
-ghost use Rattle.plane_geom.specs.Point.{PointIsOnSheet};
+ghost use Rattle.std.specs.Prelude.{◌≡◌, ◌↔◌, ◌≤◌, length, nat_le, IsTrue, MatchOption, if◌then◌else◌};
 ghost use Rattle.walk_model.specs.Choice.{AreChoices, IsChoice, stub_length};
 ghost use Rattle.walk_model.specs.Legal.{Arrives, Leaves};
-ghost use Rattle.walk_model.specs.Line.{AreStraight, walk_through};
+ghost use Rattle.walk_model.specs.Line.{walk_through};
 ghost use Rattle.route_check.specs.Line.{IsLineFrom};
 ghost use Rattle.route_check.specs.Choices.{FitsRun, IsCheapestIfAny};
 

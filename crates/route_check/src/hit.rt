@@ -3,7 +3,7 @@ ghost use Rattle.std.specs.Prelude.{◌≡◌, ◌↔◌, ℕ, pos, ◌<◌, ◌
 ghost use Rattle.plane_geom.specs.Point.{PointIsOnSheet, forward};
 ghost use Rattle.plane_geom.specs.Rect.{RectIsOnSheet, StepMeets};
 ghost use Rattle.walk_model.specs.Choice.{IsChoice, stub_length};
-ghost use Rattle.walk_model.specs.Line.{AreStraight, steps_through, walk_through};
+ghost use Rattle.walk_model.specs.Line.{steps_through, walk_through};
 ghost use Rattle.walk_model.specs.Walk.{Walk};
 ghost use Rattle.route_check.specs.Line.{IsLineFrom};
 ghost use Rattle.route_check.specs.Hit.{IsFirstMeeting, MeetsNone};

@@ -1,7 +1,6 @@
 //! The equal steps with which a line begins and ends.
-ghost use Rattle.std.specs.Prelude.{◌≤◌, length, All};
-ghost use Rattle.plane_geom.specs.Point.{PointIsOnSheet};
-ghost use Rattle.walk_model.specs.Line.{AreStraight, walk_through};
+ghost use Rattle.std.specs.Prelude.{length};
+ghost use Rattle.walk_model.specs.Line.{walk_through};
 ghost use Rattle.route_check.specs.Line.{IsLineFrom};
 ghost use Rattle.route_check.specs.Run.{IsFirstRun, IsLastRun};
 

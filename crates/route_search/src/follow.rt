@@ -1,6 +1,6 @@
 //! The first walk is followed forwards, along labels, by its earliest steps.
 
-ghost use Rattle.std.specs.Prelude.{◌≡◌, ◌≢◌, ◌⊎◌, ◌+◌, ◌*◌, ◌^◌, ◌<◌, ◌≤◌, ◌==◌, ◌++◌, ◌∷◌, [], ◌↔◌, if◌then◌else◌, IsTrue, None, Some, All, Contains, IfOk, IfSome, IsNone, OnOk, unsigned_abs};
+ghost use Rattle.std.specs.Prelude.{◌≡◌, ◌⊎◌, ◌+◌, ◌*◌, ◌^◌, ◌<◌, ◌≤◌, ◌==◌, ◌++◌, ◌∷◌, [], ◌↔◌, if◌then◌else◌, IsTrue, None, Some, All, Contains, IfOk, IfSome, IsNone, OnOk, unsigned_abs};
 ghost use Rattle.move_model.specs.Ahead.{with_stretch};
 ghost use Rattle.plane_geom.specs.Along.{across, way_of};
 ghost use Rattle.plane_geom.specs.declared.point.Dir.{Dir};

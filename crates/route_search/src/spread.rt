@@ -1,11 +1,10 @@
 //! Labels are spread backwards, from the endings on, the lowest bound first.
-ghost use Rattle.std.specs.Prelude.{◌≡◌, ◌≢◌, ◌<◌, ◌≤◌, ◌+◌, ◌↔◌, ◌⊎◌, ℕ, Option, None, Some, All, Contains, IfOk, IfSome, IsTrue, OnErr, OnOk, length};
+ghost use Rattle.std.specs.Prelude.{◌≡◌, ◌≢◌, ◌<◌, ◌≤◌, ◌+◌, ◌↔◌, ◌⊎◌, Option, None, Some, All, Contains, IsTrue, OnErr, OnOk, length};
 ghost use Rattle.std.specs.BinaryHeap.{heap_items};
 ghost use Rattle.std.specs.declared.cmp.Reverse.{Reverse};
 ghost use Rattle.search_labels.specs.declared.queue.Candidate.{Candidate};
 ghost use Rattle.move_model.specs.declared.ahead.Ahead.{Ahead};
 ghost use Rattle.std.specs.declared.cmp.Ordering.TheVariants.{Greater};
-ghost use Rattle.line_arena.specs.Arena.{StandsAt};
 ghost use Rattle.move_model.specs.Ahead.{ahead_cmp, with_stretch};
 ghost use Rattle.plane_geom.specs.declared.point.Dir.{Dir};
 ghost use Rattle.plane_geom.specs.Point.{PointIsOnSheet};

@@ -1,5 +1,5 @@
 //! The laws between a legal walk and what is legal run by run. No public clause cites this module.
-ghost use Rattle.std.specs.Prelude.{◌≡◌, ℕ, ◌-◌, ◌≤◌, ◌<ℤ◌, List, Some, length, All};
+ghost use Rattle.std.specs.Prelude.{ℕ, ◌-◌, ◌≤◌, ◌<ℤ◌, List, Some, length, All};
 ghost use Rattle.plane_geom.specs.declared.point.Point.{Point};
 ghost use Rattle.plane_geom.specs.declared.rect.Solid.{Solid};
 ghost use Rattle.segment_order.specs.declared.run.Run.{Run};

@@ -1,5 +1,5 @@
 //! The lists of a scene and what is looked up in them. That they are valid is the scene's to keep.
-ghost use Rattle.std.specs.Prelude.{◌≡◌, ℕ, ◌==◌, pos, find, option_map, slice_get, option_copied, IfSome, IfOk};
+ghost use Rattle.std.specs.Prelude.{◌≡◌, ◌==◌, pos, find, option_map, option_copied, IfOk};
 ghost use Rattle.scene_model.specs.Edits.{touches, uses};
 ghost use Rattle.scene_model.specs.Scene.{Scene as SceneValue, node_with, edge_with, pin_count, via_count};
 ghost use Rattle.scene_model.specs.Valid.{IsValid};

@@ -1,5 +1,5 @@
 //! What routing sees of a scene: its floor, and the tasks of its connectors.
-ghost use Rattle.std.specs.Prelude.{◌≡◌, ◌^◌, ◌≤◌, ◌+◌, ◌+ℤ◌, ◌-ℤ◌, ◌++◌, [], ◌∷◌, unsigned_abs, map, if◌then◌else◌, IsSome, IsSomeAnd, IfSome, IfOk, OnOk};
+ghost use Rattle.std.specs.Prelude.{◌≡◌, ◌^◌, ◌≤◌, ◌+◌, ◌+ℤ◌, ◌-ℤ◌, ◌++◌, [], ◌∷◌, unsigned_abs, map, if◌then◌else◌, IsSome, IfSome, IfOk, OnOk};
 ghost use Rattle.std.specs.List.{flat_map};
 ghost use Rattle.scene_model.specs.Routing.{anchors, buffered_box, centre_pin, choice, choices_of, choices_with, directions, floor_of, pins_of_class, place_of, port, solids, task_of};
 ghost use Rattle.scene_model.specs.Scene.{connectors, edge_with, node_with};

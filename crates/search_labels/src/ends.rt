@@ -1,5 +1,5 @@
 //! Where walks enter and leave the lines of an arena.
-ghost use Rattle.std.specs.Prelude.{◌≡◌, ◌≢◌, ◌+◌, ◌≤◌, ◌↔◌, ℕ, Some, All, IfOk, IfSome, IsNone, IsTrue, OnOk, length, slice_get};
+ghost use Rattle.std.specs.Prelude.{◌≡◌, ◌≢◌, ◌+◌, ◌↔◌, ℕ, Some, All, IfOk, IfSome, IsNone, IsTrue, OnOk, length, slice_get};
 ghost use Rattle.line_arena.specs.Arena.{StandsAt};
 ghost use Rattle.move_model.specs.Places.{HasFreeStub, IsEntry};
 ghost use Rattle.move_model.specs.declared.place.Place.{Place};

@@ -1,7 +1,5 @@
 //! What is searched.
-ghost use Rattle.std.specs.Prelude.{◌≡◌, ◌⊎◌, ◌+◌, ◌*◌, ◌^◌, ◌<◌, ◌≤◌, ◌↔◌, ℕ, All, Any, IfOk, IsTrue, OnOk, length, vec_len};
-ghost use Rattle.line_arena.specs.Arena.{StandsAt};
-ghost use Rattle.move_model.specs.Ahead.{nothing};
+ghost use Rattle.std.specs.Prelude.{◌≡◌, ◌⊎◌, ◌+◌, ◌*◌, ◌^◌, ◌<◌, ◌≤◌, All, Any, IfOk, OnOk, length, vec_len};
 ghost use Rattle.move_model.specs.Problems.{IsProblem};
 ghost use Rattle.plane_geom.specs.Point.{PointIsOnSheet};
 ghost use Rattle.plane_geom.specs.declared.floor.Floor.{Floor};

@@ -1,5 +1,5 @@
 //! The runs of a route.
-ghost use Rattle.std.specs.Prelude.{◌≡◌, ◌+◌, ◌≤◌, ◌^◌, IfOk, length};
+ghost use Rattle.std.specs.Prelude.{◌≡◌, ◌≤◌, ◌^◌, IfOk, length};
 ghost use Rattle.segment_order.specs.Run.{AreCorners, AreRunsOf, run_between, runs_along};
 
 use plane_geom::{Dir, Point, Way};

@@ -1,4 +1,4 @@
--- Sums, products and the order of whole numbers, and lists put in order: nothing here knows of bundles.
+-- Arithmetic: sums, products and the order of whole numbers, and lists put in order. Nothing here knows of bundles.
 pub mod Ring
 pub mod Order
 pub mod Sums

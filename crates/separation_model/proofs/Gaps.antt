@@ -1,4 +1,4 @@
--- Latest positions, and the widest gap.
+-- Latest places, and a widest gap.
 pub mod Bounds
 pub mod Widest
 pub mod WidestExists

@@ -1,4 +1,4 @@
--- The laws of least positions: multipliers show them, there is one list of them at most, and there is one.
+-- Weak duality, one, some: multipliers show positions to be least, there is one list of them at most, and there is one.
 pub mod Positions
 pub mod Duality
 pub mod Certificates

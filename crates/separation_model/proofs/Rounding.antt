@@ -1,4 +1,4 @@
--- Rounding down keeps whole limits and whole gaps, and equal fractions have one rounding.
+-- Rounding down: it keeps whole limits and whole gaps, and equal fractions have one rounding.
 use Rattle.std.proofs.Common.{◌≡◌, ℕ, zero, suc, ◌*◌, ◌<◌, ℤ, pos, negsuc, ◌+ℤ◌, ◌-ℤ◌, ◌*ℤ◌, ◌≤ℤ◌, ◌<ℤ◌, List, [], ◌∷◌, length, get_or, replicate, ◌↔◌, refl, sym, ap, subst, ◌∙◌, arith}
 use Rattle.std.specs.Prelude.{slice_index, slice_index_or}
 use Rattle.std.specs.Int.{int_div_euclid, int_rem_euclid}

@@ -1,6 +1,6 @@
 //! The check of a solution: its positions meet the bundle, and its multipliers show that they are least.
 
-ghost use Rattle.std.specs.Prelude.{◌≡◌, ◌^◌, ◌+◌, ◌<◌, pos, ◌+ℤ◌, ◌-ℤ◌, ◌≤ℤ◌, ◌<ℤ◌, IsTrue, ◌↔◌, All, EachIndex, MatchOption, length, slice_index};
+ghost use Rattle.std.specs.Prelude.{◌≡◌, ◌^◌, ◌+◌, ◌<◌, pos, ◌+ℤ◌, ◌-ℤ◌, ◌≤ℤ◌, ◌<ℤ◌, IsTrue, ◌↔◌, All, EachIndex, MatchOption, length};
 ghost use Rattle.std.specs.Ordering.{MatchOrdering};
 ghost use Rattle.separation_model.specs.Bundle.{IsBundle, IsItem, int_at, slack, PlacesRule, IsGapUpTo};
 ghost use Rattle.separation_model.specs.Certified.{IsAccepted, from_left, from_right};

@@ -1,6 +1,6 @@
 //! The latest positions of a bundle, in one pass over its rules.
 
-ghost use Rattle.std.specs.Prelude.{◌≡◌, pos, ◌≤ℤ◌, IfOk, MatchOption, map};
+ghost use Rattle.std.specs.Prelude.{◌≡◌, pos, IfOk, MatchOption, map};
 ghost use Rattle.std.specs.List.Sorted.{IsNonDecreasingBy, IsPermutation};
 ghost use Rattle.separation_model.specs.Bundle.{IsBundle, IsGapUpTo};
 ghost use Rattle.separation_model.specs.Latest.{HasNoPositions, IsLatest};

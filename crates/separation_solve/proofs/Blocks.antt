@@ -1,4 +1,4 @@
--- Blocks, and what it does to move one.
+-- Moving a block: what it does to places, flow and sums.
 pub mod Members
 pub mod BlockForce
 pub mod Mean

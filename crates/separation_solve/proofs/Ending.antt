@@ -1,4 +1,4 @@
--- Places and flow of a balanced network as a certified solution.
+-- The end: places and flow of a balanced network as a certified solution.
 use Rattle.std.proofs.Common.{◌≡◌, ◌≢◌, ℕ, ◌+◌, ◌^◌, ◌<◌, ◌≤◌, ℤ, pos, neg_ℤ, ◌+ℤ◌, ◌-ℤ◌, ◌*ℤ◌, ◌≤ℤ◌, unsigned_abs, List, [], ◌∷◌, ◌++◌, length, get_or, map, take, drop, slice_index, false, if◌then◌else◌, All, arith, refl, ap, sym, subst, ◌∙◌, length-append, lit<}
 use Rattle.std.proofs.lemmas.Int.{ints}
 use Rattle.std.proofs.lemmas.List.{append_assoc, get_or-append_right, get_or_append_left, get_or-map, get_or-take, length-drop, length-map, length-take-le, take-append-drop}

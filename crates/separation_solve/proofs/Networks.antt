@@ -1,4 +1,4 @@
--- The network of a bundle: its links, forces and mirror image.
+-- The solver's network: the links of a bundle, its forces and its mirror image.
 pub mod LinkLists
 pub mod Listing
 pub mod Forces

@@ -1,4 +1,4 @@
--- Searches for a way on which flow can go, and what is sent along it.
+-- Balancing: searches for a way on which flow can go, and what is sent along it.
 pub mod Leads
 pub mod Reaches
 pub mod Extending

@@ -1,3 +1,3 @@
--- The places at which the solver begins.
+-- The first places: where the solver begins.
 pub mod Pressing
 pub mod StartPlaces

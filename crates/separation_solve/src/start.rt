@@ -1,6 +1,6 @@
 //! The places at which the solver begins: whole ones that meet the bundle.
 
-ghost use Rattle.std.specs.Prelude.{◌≡◌, ◌≤◌, ◌≤ℤ◌, pos, All, EachIndex, IfOk, length, map, ◌++◌, ◌∷◌, []};
+ghost use Rattle.std.specs.Prelude.{◌≡◌, ◌≤◌, pos, All, EachIndex, IfOk, length, map, ◌++◌, ◌∷◌, []};
 ghost use Rattle.std.specs.Int.{int_min};
 ghost use Rattle.std.specs.List.Sorted.{IsNonDecreasingBy};
 ghost use Rattle.plane_geom.specs.Point.{IsCoordinate};

@@ -1,5 +1,5 @@
 //! The two sweeps: marks by rising coordinate, with the spans of the solids that are open across it.
-ghost use Rattle.std.specs.Prelude.{◌≡◌, ◌≤◌, ◌++◌, true, false, not, ◌&&◌, ◌||◌, ◌↔◌, ◌⊎◌, ℕ, List, [], ◌∷◌, length, filter, All, AllPairs, Any, Contains, Some, IfOk, OnOk, count_by, ◌≤ℤ◌, ◌<ℤ◌};
+ghost use Rattle.std.specs.Prelude.{◌≡◌, ◌≤◌, ◌++◌, false, not, ◌&&◌, ℕ, List, [], length, filter, All, AllPairs, Any, Contains, Some, IfOk, OnOk, count_by, ◌≤ℤ◌, ◌<ℤ◌};
 ghost use Rattle.std.specs.Ordering.{int_eq};
 ghost use Rattle.std.specs.List.{AllWithin, list_any};
 ghost use Rattle.interval_index.specs.declared.span.Span.{Span};

@@ -1,7 +1,6 @@
 //! The order of routes.
-ghost use Rattle.std.specs.Prelude.{◌≡◌, ◌+◌, ◌+ℤ◌, ◌<◌, ◌≤◌, ◌^◌, ◌↔◌, List, length, All, IfOk, IsTrue, unsigned_abs};
+ghost use Rattle.std.specs.Prelude.{◌≡◌, ◌+◌, ◌+ℤ◌, ◌<◌, ◌^◌, ◌↔◌, List, All, IfOk, IsTrue, unsigned_abs};
 ghost use Rattle.plane_geom.specs.declared.rect.Solid.{Solid};
-ghost use Rattle.plane_geom.specs.Point.{PointIsOnSheet};
 ghost use Rattle.walk_model.specs.Answers.{HasOneAnswer};
 ghost use Rattle.walk_model.specs.Cost.{runs};
 ghost use Rattle.walk_model.specs.Lean.{line_lean};

@@ -1,4 +1,4 @@
--- The latest positions: each bounds all fractions from the right, and the rules that were taken hold.
+-- Latest places: each bounds all fractions from the right, and the rules that were taken hold.
 use Rattle.std.proofs.Common.{◌≡◌, ◌≢◌, ℕ, ◌+◌, ◌-◌, ◌^◌, ◌<◌, ◌≤◌, ℤ, pos, ◌+ℤ◌, ◌-ℤ◌, ◌*ℤ◌, ◌≤ℤ◌, ◌<ℤ◌, List, [], ◌∷◌, length, get_or, map, set, replicate, All, ap, sym, subst, refl, ◌∙◌, ⊎_elim, arith, length-set, get_or-set_same, get_or-set_other}
 use Rattle.std.specs.Prelude.{slice_index}
 use Rattle.std.specs.List.Sorted.{IsPermutation, IsNonDecreasingBy}

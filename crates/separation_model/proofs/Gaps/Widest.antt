@@ -1,4 +1,4 @@
--- The widest gap: a wider gap that is met makes each narrower one met.
+-- Latest places: a wider gap that is met makes each narrower one met.
 use Rattle.std.proofs.Common.{◌≡◌, ℕ, true, false, cond, ℤ, pos, ◌+ℤ◌, ◌-ℤ◌, ◌*ℤ◌, ◌≤ℤ◌, ◌<ℤ◌, List, [], ◌∷◌, length, sym, subst, refl, arith}
 use Rattle.std.specs.Prelude.{slice_index, slice_index_or}
 use Rattle.std.proofs.lemmas.Int.{ints}

@@ -1,4 +1,4 @@
--- Each bundle has a widest gap: for each gap some positions meet it or none do, and there are finitely many.
+-- A widest gap: for each gap some positions meet it or none do, and there are finitely many.
 use Rattle.std.proofs.Common.{◌≡◌, ◌⊎◌, inl, inr, ℕ, zero, suc, ◌+◌, ◌-◌, ◌<◌, ◌≤◌, ℤ, pos, ◌-ℤ◌, ◌≤ℤ◌, List, length, map, set, subst, refl, ⊎_elim, arith}
 use Rattle.std.proofs.lemmas.Int.{by_lt_z, ints}
 use Rattle.separation_model.specs.declared.bundle.Item.{Item}

@@ -1,4 +1,4 @@
--- Each linear form has its gradient in a rational subspace, by Gram and Schmidt.
+-- Some: each linear form has its gradient in a rational subspace, by Gram and Schmidt.
 use Rattle.std.proofs.Common.{◌≡◌, ℕ, zero, suc, ◌*◌, ◌/◌, ◌<◌, ◌≤◌, ℤ, pos, ◌+ℤ◌, ◌-ℤ◌, ◌*ℤ◌, ◌≤ℤ◌, List, [], ◌∷◌, ap, refl, ◌∙◌, ⊎_elim, arith}
 use Rattle.std.specs.List.{AllByRecursion}
 use Rattle.std.proofs.lemmas.Int.{ints}
