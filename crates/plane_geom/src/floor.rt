@@ -75,6 +75,27 @@ mod tests {
     use crate::rect::{Rect, Solid};
     use std::test::Fail;
 
+    fn line(way: Way, at: i64, lo: i64) -> Line {
+        Line { way, at, lo, hi: 9 }
+    }
+
+    #[test]
+    fn orders_lines(rt: HostRuntime) -> Result<(), Fail> {
+        let in_order = [
+            line(Way::Vertical, -3, 5),
+            line(Way::Vertical, 2, -7),
+            line(Way::Vertical, 2, 4),
+            line(Way::Horizontal, -3, 0),
+            line(Way::Horizontal, 0, -8),
+        ];
+        for (place, first) in in_order.iter().enumerate() {
+            for (other_place, second) in in_order.iter().enumerate() {
+                assert_eq!(rt; first.stands_before(second), place < other_place);
+            }
+        }
+        Ok(())
+    }
+
     #[test]
     fn copies_a_large_floor(rt: HostRuntime) -> Result<(), Fail> {
         let alloc = rt.alloc();
