@@ -22,7 +22,7 @@ use Rattle.line_arena.proofs.Seen.{get-seen, seen_insert, seen_remove, seen_same
 use Rattle.line_arena.proofs.Put.{apart_of_sound, held, some_of}
 use Rattle.line_arena.proofs.Nearest.{int_apart}
 use Rattle.line_arena.proofs.Linked.{same_spot}
-use Rattle.line_arena.specs.Keyed.{entry_at}
+use Rattle.line_arena.specs.Entries.{entry_at}
 use Rattle.line_arena.specs.Node.{next_of, start_of}
 use Rattle.line_arena.specs.declared.node.Ends.{Ends}
 use Rattle.line_arena.specs.declared.node.Node.{Node}

@@ -14,7 +14,7 @@ use Rattle.plane_geom.specs.declared.floor.Line.{Line}
 use Rattle.plane_geom.specs.Floor.{Holds, point_on}
 use Rattle.line_arena.specs.declared.lists.Lists.{Lists}
 use Rattle.line_arena.specs.declared.node.Node.{Node}
-use Rattle.line_arena.specs.Keyed.{entry_at}
+use Rattle.line_arena.specs.Entries.{entry_at}
 use Rattle.line_arena.specs.Node.{next_of, start_of}
 use Rattle.plane_geom.specs.Along.{reach, way_of}
 use Rattle.line_arena.specs.Lists.{AreApart, AreLinked, AreLists, AreMet, IsApart, IsNext, IsSound, IsSpot, KnowsNeighbours, SamePlaces, Spot, Stands, UpdatesAt, line_along, line_at, link, spot_at, spot_of, without}
