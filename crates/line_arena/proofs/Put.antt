@@ -401,7 +401,3 @@ lists_without_line a b id lists empty updates crossings = record {
 
     still : (l : ℕ) (m : Line) → l ≢ id → line_at a l ≡ Some m → line_at b l ≡ Some m
     still l m ne is = ap (option_map (λ x. x.0)) (updates.others l ne) ∙ is
-
--- a line holds its first point
-pub first_held : (l : Line) → l.lo ≤ℤ l.hi → (p : Point) × Holds l p
-first_held l h = (point_on l.way l.at l.lo, record { along = l.lo; from = omega (arith, ints); to = h; here = refl })

@@ -75,9 +75,10 @@ fn put_meeting(arena: &mut LineArena, id: LineId, line: &Line, other: &Line, nea
     requires room { 0 < arena.old.spare_crossings }
     ensures { IsCrossed arena.old arena.new id line.now.way (other.now ∷ []) }
 {
-    let Some((other, place)) = arena.line_near(*other, near) else {
+    let Some(found) = arena.line_near(*other, near) else {
         unreachable!()
     };
+    let (other, place) = found;
     match line.way {
         Way::Vertical => arena.put_crossing(id, other),
         Way::Horizontal => arena.put_crossing(other, id),
