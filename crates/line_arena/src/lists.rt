@@ -111,7 +111,7 @@ impl Lists {
         };
         let (stop, _) = self.crossings.get(stop.place());
         if is_further(dir, *stop, point) {
-            // (so that what is put last on its line reads no more of it)
+            // What goes last on its line, as all does while a graph is built, reads no more of it.
             return false;
         }
         let (start, _) = self.crossings.get(start.place());
