@@ -1,5 +1,5 @@
 -- Entries under ids.
-use Rattle.std.specs.Prelude.{◌≡◌, ℕ, ◌≤◌, Option, refl}
+use Rattle.std.specs.Prelude.{ℕ, ◌≤◌, Option, refl}
 use Rattle.std.specs.Coded.{Coded, code_by, coded×, coded_ℕ}
 use Rattle.slab.specs.Slab.{Slab, get, slab_len, slab_code}
 

@@ -52,6 +52,7 @@ impl<K: Copy, V: Copy> Entries<K, V> {
         ensures ok { OnOk result (slab_len self.old.slab + more ≤ self.new.room) }
     {
         make_places(&mut self.slab, more)?;
+        // The capacity fits a `usize`, and so does the sum, which is no more.
         let _ = self.slab.capacity();
         self.room = self.room.max(self.slab.len() + more);
         Ok(())
@@ -68,6 +69,7 @@ impl<K: Copy, V: Copy> Entries<K, V> {
         ensures within { result < usize.MAX }
     {
         let id = self.slab.insert_reserved((key, value));
+        // The capacity fits a `usize`, and the id is below it.
         let _ = self.slab.capacity();
         id
     }
