@@ -22,7 +22,7 @@ use Rattle.line_arena.proofs.Seen.{get-seen, seen_insert, seen_remove, seen_same
 use Rattle.line_arena.proofs.Put.{apart_of_sound, held, some_of}
 use Rattle.line_arena.proofs.Nearest.{int_apart}
 use Rattle.line_arena.proofs.Linked.{same_spot}
-use Rattle.line_arena.specs.Keyed.{entry_at}
+use Rattle.line_arena.specs.Entries.{entry_at}
 use Rattle.line_arena.specs.Node.{next_of, start_of}
 use Rattle.line_arena.specs.declared.node.Ends.{Ends}
 use Rattle.line_arena.specs.declared.node.Node.{Node}
@@ -400,14 +400,3 @@ none_spot s e = cc
 
 pub none_line : (m : Line) → None ≡ Some m → ⊥
 none_line m e = cc
-
--- the entry of a line
-pub entry_line : (a : Lists) (l : ℕ) (line : Line) → line_at a l ≡ Some line → (e : Line × Ends) × (entry_at a.lines l ≡ Some e) × (e.0 ≡ line)
-entry_line a l line is = by (entry_at a.lines l) refl
-  where
-    some_line : (x y : Line) → Some x ≡ Some y → x ≡ y
-    some_line x y e = cc
-
-    by : (o : Option (Line × Ends)) → entry_at a.lines l ≡ o → (e : Line × Ends) × (entry_at a.lines l ≡ Some e) × (e.0 ≡ line)
-    by None e = absurd (none_line line (sym (ap (option_map (λ x. x.0)) e) ∙ is))
-    by (Some x) e = (x, e, some_line x.0 line (sym (ap (option_map (λ x. x.0)) e) ∙ is))

@@ -11,7 +11,7 @@ use Rattle.plane_geom.specs.declared.floor.Line.{Line}
 use Rattle.plane_geom.specs.Point.{opposite}
 use Rattle.line_arena.specs.declared.lists.Lists.{Lists}
 use Rattle.line_arena.specs.declared.node.Node.{Node}
-use Rattle.line_arena.specs.Keyed.{entry_at}
+use Rattle.line_arena.specs.Entries.{entry_at}
 use Rattle.line_arena.specs.Node.{line_of, next_of}
 use Rattle.plane_geom.specs.Along.{reach, way_of}
 use Rattle.line_arena.specs.Lists.{AreApart, AreLinked, IsNext, IsPast, KnowsNeighbours, Relinks, RunsAlong, Spot, Stands, line_along, line_at, link, spot_at, spot_of, without}

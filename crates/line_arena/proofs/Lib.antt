@@ -1,6 +1,5 @@
 -- The lemmas on crossings in two lists, callees first.
 pub mod Nearest
-pub mod Refill
 pub mod Linked
 pub mod Joined
 pub mod Relinked

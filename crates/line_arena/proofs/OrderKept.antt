@@ -1,6 +1,7 @@
 -- The lines of an arena in order, as lines come and go.
 use Rattle.std.proofs.Common.{◌≡◌, ◌≢◌, ◌⊎◌, inl, inr, ℕ, ◌+◌, ◌≤◌, ℤ, ◌≤ℤ◌, List, Option, Some, None, get_or, refl, sym, ap, subst, ◌∙◌, arith}
 use Rattle.std.specs.Prelude.{Contains, ◌↔◌, IfSome, IsNone, count_by, is_some}
+use Rattle.std.specs.FinMap.{get}
 use Rattle.std.specs.Option.{option_map}
 use Rattle.std.proofs.lemmas.Bool.{cases_eq}
 use Rattle.std.proofs.lemmas.Int.{ints}
@@ -14,7 +15,7 @@ use Rattle.line_arena.specs.Arena.{Arena, StandsAt}
 use Rattle.line_arena.specs.View.{arena_of}
 use Rattle.line_arena.specs.Lists.{AreLists, IsApart, Spot, UpdatesAt, line_at, spot_at}
 use Rattle.line_arena.specs.Order.{AreApart, AreInOrder, HasPlace, IsOrderedArena}
-use Rattle.line_arena.proofs.ArenaLemmas.{spot_standing, stands_at}
+use Rattle.line_arena.proofs.ArenaLemmas.{line_in, spot_standing, stands_at}
 use Rattle.plane_geom.proofs.Order.{either_before}
 
 pub none_there : {X : Type 0} (x : X) → ◌≡◌ {A = Option X} None (Some x) → ⊥
@@ -22,6 +23,10 @@ none_there x e = cc
 
 one_there : {X : Type 0} (x y : X) → ◌≡◌ {A = Option X} (Some x) (Some y) → x ≡ y
 one_there x y e = cc
+
+pub none_found : {X : Type 0} {P : X → Type 0} (answer : Option X) → IfSome answer P → ((x : X) → P x → ⊥) → IsNone answer
+none_found None found none = refl
+none_found (Some x) found none = absurd (none x found)
 
 -- slabs of the same slots have the same lines, and as many
 pub same_lines : (a b : Lists) → b.lines.slab.slots ≡ a.lines.slab.slots → (l : ℕ) → line_at b l ≡ line_at a l
@@ -59,6 +64,14 @@ module _ (a : Lists) (lines : List (Line × ℕ)) (held capacity : ℕ) (kept : 
         let line = one_there d.0 e.0 (sym is ∙ ap (line_at a) id ∙ too) in
         λ i. (line i, id i);
   }
+
+  -- what is found in the order is a line of the arena
+  module _ (w : ℕ) (v : Arena) (view : arena_of a w ≡ v) (line : Line) where
+    pub line_listed : (id : ℕ) → Contains lines (line, id) → get v.lines id ≡ Some line
+    line_listed id there = line_in a w v view kept.lists id ∙ (kept.listed line id).0 there
+
+    pub none_listed : ((id : ℕ) → Contains lines (line, id) → ⊥) → (id : ℕ) → get v.lines id ≡ Some line → ⊥
+    none_listed none id is = none id ((kept.listed line id).1 (sym (line_in a w v view kept.lists id) ∙ is))
 
   pub kept_same : (b : Lists) (to : List (Line × ℕ)) (holds more : ℕ) → AreLists b → ((l : ℕ) → line_at b l ≡ line_at a l) → slab_len b.lines.slab ≡ slab_len a.lines.slab
       → to ≡ lines → holds ≡ held → b.lines.room ≤ more → IsOrderedArena b to holds more

@@ -14,7 +14,7 @@ use Rattle.plane_geom.specs.declared.floor.Line.{Line}
 use Rattle.plane_geom.specs.Floor.{Holds, point_on}
 use Rattle.line_arena.specs.declared.lists.Lists.{Lists}
 use Rattle.line_arena.specs.declared.node.Node.{Node}
-use Rattle.line_arena.specs.Keyed.{entry_at}
+use Rattle.line_arena.specs.Entries.{entry_at}
 use Rattle.line_arena.specs.Node.{next_of, start_of}
 use Rattle.plane_geom.specs.Along.{reach, way_of}
 use Rattle.line_arena.specs.Lists.{AreApart, AreLinked, AreLists, AreMet, IsApart, IsNext, IsSound, IsSpot, KnowsNeighbours, SamePlaces, Spot, Stands, UpdatesAt, line_along, line_at, link, spot_at, spot_of, without}
@@ -401,7 +401,3 @@ lists_without_line a b id lists empty updates crossings = record {
 
     still : (l : ℕ) (m : Line) → l ≢ id → line_at a l ≡ Some m → line_at b l ≡ Some m
     still l m ne is = ap (option_map (λ x. x.0)) (updates.others l ne) ∙ is
-
--- a line holds its first point
-pub first_held : (l : Line) → l.lo ≤ℤ l.hi → (p : Point) × Holds l p
-first_held l h = (point_on l.way l.at l.lo, record { along = l.lo; from = omega (arith, ints); to = h; here = refl })

@@ -12,7 +12,7 @@ use Rattle.line_arena.specs.declared.lists.Lists.{Lists}
 use Rattle.line_arena.specs.declared.node.Ends.{Ends}
 use Rattle.line_arena.specs.declared.node.Node.{Node}
 use Rattle.plane_geom.specs.Along.{way_of}
-use Rattle.line_arena.specs.Keyed.{Keyed, entry_at}
+use Rattle.line_arena.specs.Entries.{Entered, entry_at}
 use Rattle.line_arena.specs.Node.{next_of, start_of, with_next, with_start}
 use Rattle.line_arena.specs.Lists.{Relinks, RunsAlong, line_at, link, spot_of}
 
@@ -75,7 +75,7 @@ same_line : (s t : Line) (o : Option Line) → o ≡ Some s → o ≡ Some t →
 same_line s t o e f = cc
 
 -- a list begins with another crossing
-pub relinks_start : (a : Lists) (lines : Keyed Line Ends) (l : ℕ) (d : Dir) (to : Option ℕ) (e : Line × Ends) → RunsAlong a l d
+pub relinks_start : (a : Lists) (lines : Entered Line Ends) (l : ℕ) (d : Dir) (to : Option ℕ) (e : Line × Ends) → RunsAlong a l d
     → entry_at a.lines l ≡ Some e → Updates a.lines.slab lines.slab l (Some (e.0, with_start d to e.1))
     → slab_len lines.slab ≡ slab_len a.lines.slab → lines.room ≡ a.lines.room
     → Relinks a (record { lines = lines; crossings = a.crossings }) l None d to
@@ -116,7 +116,7 @@ relinks_start a lines l d to e runs is updates len room = record {
 }
 
 -- a crossing is followed by another one
-pub relinks_next : (a : Lists) (crossings : Keyed Point Node) (l c : ℕ) (d : Dir) (to : Option ℕ) (e : Point × Node)
+pub relinks_next : (a : Lists) (crossings : Entered Point Node) (l c : ℕ) (d : Dir) (to : Option ℕ) (e : Point × Node)
     → entry_at a.crossings c ≡ Some e → Updates a.crossings.slab crossings.slab c (Some (e.0, with_next d to e.1))
     → slab_len crossings.slab ≡ slab_len a.crossings.slab → crossings.room ≡ a.crossings.room → crossings.slab.capacity ≡ a.crossings.slab.capacity
     → Relinks a (record { lines = a.lines; crossings = crossings }) l (Some c) d to

@@ -12,7 +12,7 @@ use Rattle.plane_geom.specs.Point.{opposite}
 use Rattle.line_arena.specs.declared.lists.Lists.{Lists}
 use Rattle.line_arena.specs.declared.node.Node.{Node}
 use Rattle.plane_geom.specs.Along.{IsFurther, reach, way_of}
-use Rattle.line_arena.specs.Keyed.{entry_at}
+use Rattle.line_arena.specs.Entries.{entry_at}
 use Rattle.line_arena.specs.Node.{next_of}
 use Rattle.line_arena.specs.Lists.{AreLists, IsFirstFrom, IsNext, IsPast, RunsAlong, Spot, Stands, line_along, line_at, link, spot_at, spot_of}
 use Rattle.line_arena.proofs.Nearest.{int_apart, next_from_previous, not_below, past_further}

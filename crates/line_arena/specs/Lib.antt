@@ -1,5 +1,6 @@
 -- What an arena is seen as, beside the lists and maps that it is.
-pub mod Keyed
+pub mod Link
+pub mod Entries
 pub mod Node
 pub mod Lists
 pub mod Order

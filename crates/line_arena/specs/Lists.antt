@@ -11,7 +11,7 @@ use Rattle.plane_geom.specs.Floor.{AreOnOneWholeLine, Holds}
 use Rattle.line_arena.specs.declared.lists.Lists.{Lists}
 use Rattle.line_arena.specs.declared.node.Node.{Node}
 use Rattle.plane_geom.specs.Along.{reach, way_of}
-use Rattle.line_arena.specs.Keyed.{entry_at}
+use Rattle.line_arena.specs.Entries.{entry_at}
 use Rattle.line_arena.specs.Node.{next_of, start_of}
 
 -- where a crossing stands

@@ -7,7 +7,7 @@ use Rattle.plane_geom.specs.declared.point.Point.{Point}
 use Rattle.line_arena.specs.declared.lists.Lists.{Lists}
 use Rattle.line_arena.specs.declared.node.Node.{Node}
 use Rattle.line_arena.specs.Arena.{Arena, Pair}
-use Rattle.line_arena.specs.Keyed.{Keyed}
+use Rattle.line_arena.specs.Entries.{Entered}
 
 -- the slab as a map from its keys to what is seen of the values
 unfoldable pub seen : {T X : Type 0} → (T → X) → Slab T → FinMap nat_cmp X
@@ -17,7 +17,7 @@ abbrev pub pair_of : Point × Node → Pair
 pair_of e = record { vertical = e.1.vertical; horizontal = e.1.horizontal }
 
 -- how many more entries fit
-abbrev pub spare_of : {K V : Type 0} → Keyed K V → ℕ
+abbrev pub spare_of : {K V : Type 0} → Entered K V → ℕ
 spare_of k = k.room - slab_len k.slab
 
 abbrev pub arena_of : Lists → ℕ → Arena

@@ -3,11 +3,10 @@ ghost use Rattle.std.specs.Prelude.{◌≡◌, ◌+◌, ◌-◌, ◌<◌, ◌≤
 ghost use Rattle.std.specs.FinMap as map;
 ghost use Rattle.line_arena.specs.Arena.{IsApart, IsArena, IsFirst, IsNearest, IsOn, LiesFurther, Meet, StandsAt, counted};
 
-use crate::crossings::Crossings;
+use crate::entries::Entries;
 use crate::id::{CrossId, LineId};
-use crate::keyed::KeyedSlab;
 use crate::lists::Lists;
-use crate::order::{column_through, put_in_order, take_out};
+use crate::order::{column_through, find, find_near, put_in_order, take_out};
 use plane_geom::{Dir, Line, Point};
 use std::alloc::{AllocError, Global};
 use std::marker::Model;
@@ -15,7 +14,8 @@ use std::marker::Model;
 /// Vertical and horizontal lines and their crossings, each under an id of its own.
 ///
 /// A crossing is a node of two doubly linked lists at once, that of its vertical and that of its horizontal line,
-/// by rising coordinate. Lines are also found by what they are, in constant time on average, and crossings by where they stand.
+/// by rising coordinate. All lines also stand in order, so a line is found by what it is, and a crossing by where it
+/// stands.
 #[derive(Drop)]
 pub struct LineArena {
     lists: Lists,
@@ -53,8 +53,8 @@ impl LineArena {
     {
         LineArena {
             lists: Lists {
-                lines: KeyedSlab::new(alloc),
-                crossings: Crossings::new(alloc),
+                lines: Entries::new(alloc),
+                crossings: Entries::new(alloc),
             },
             order: Vec::new(alloc),
             written: 0,
@@ -155,14 +155,28 @@ impl LineArena {
         take_out(&mut self.order, &value);
     }
 
-    /// The id of the line, in constant time on average. `None` where the line is not there.
+    /// The id of the line, in logarithmic time. `None` where the line is not there.
     pub fn line_at(&self, line: Line) -> Option<LineId>
         ensures found { IfSome result (λ l. map.get self.now.lines l ≡ Some line) }
         ensures absent { IsNone result ↔ ((l : ℕ) → map.get self.now.lines l ≡ Some line → ⊥) }
         ensures arena { IsArena self.now }
     {
-        let place = self.lists.lines.find(line)?;
-        Some(LineId::new(place))
+        let (id, _) = find(self.order.as_slice(), &line)?;
+        Some(id)
+    }
+
+    /// The id of the line, and its place among all lines in the order of `Line::stands_before`. `None` where the
+    /// line is not there.
+    ///
+    /// Looks at the given place first, and finds the line in constant time there, in logarithmic time elsewhere.
+    /// Places change as lines come and go, and are for speed alone: which one is given changes nothing else, and no
+    /// clause says which one is answered.
+    pub fn line_near(&self, line: Line, place: usize) -> Option<(LineId, usize)>
+        ensures found { IfSome result (λ found. map.get self.now.lines found.0 ≡ Some line) }
+        ensures absent { IsNone result ↔ ((l : ℕ) → map.get self.now.lines l ≡ Some line → ⊥) }
+        ensures arena { IsArena self.now }
+    {
+        find_near(self.order.as_slice(), &line, place)
     }
 
     /// The crossing with the smallest coordinate on the line, which is there. `None` where it has no crossing.
@@ -172,7 +186,7 @@ impl LineArena {
         ensures absent { IsNone result ↔ ((c : ℕ) → IsOn self.now line c → ⊥) }
         ensures arena { IsArena self.now }
     {
-        self.lists.lines.get(line.place()).1.first
+        self.lists.lines.get(line.place()).1.first.crossing()
     }
 
     /// The crossing at the point. `None` where no crossing stands there.
@@ -212,7 +226,12 @@ impl LineArena {
         ensures absent { IsNone result ↔ ((c : ℕ) → LiesFurther self.now dir crossing c → ⊥) }
         ensures arena { IsArena self.now }
     {
-        self.lists.crossings.get(crossing.place()).1.next(dir)
+        self.lists
+            .crossings
+            .get(crossing.place())
+            .1
+            .next(dir)
+            .crossing()
     }
 
     /// Where the crossing, which is there, stands. In thousandths.

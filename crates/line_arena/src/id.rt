@@ -1,5 +1,5 @@
-//! Ids of lines and of crossings.
-ghost use Rattle.std.specs.Prelude.{◌≡◌, ℕ};
+//! Ids of lines and of crossings, and links to crossings.
+ghost use Rattle.std.specs.Prelude.{◌≡◌, ◌<◌, ℕ, None, Some};
 
 use std::marker::Model;
 
@@ -10,6 +10,10 @@ pub struct LineId(usize);
 /// Names a crossing of an arena, from its put to its removal.
 #[derive(Clone, Copy, Debug, PartialEq, Eq, PartialOrd, Ord, Hash)]
 pub struct CrossId(usize);
+
+/// Leads to a crossing, or to none, in one word: one more than the number in the crossing's id, and 0 for none.
+#[derive(Clone, Copy, Debug)]
+pub struct Link(usize);
 
 impl Model for LineId {
     ghost use Rattle.std.specs.Prelude.{ℕ};
@@ -22,13 +26,30 @@ impl Model for LineId {
 }
 
 impl Model for CrossId {
-    ghost use Rattle.std.specs.Prelude.{ℕ};
+    ghost use Rattle.std.specs.Prelude.{◌<◌, ℕ};
+    ghost use Rattle.std.below.core.specs.declared.int.usize.TheConstants.{MAX};
 
     ghost Value = { ℕ };
 
     ghost view = { λ a. a.0 };
 
     ghost inverse = { λ n. record { 0 = n } };
+
+    // So that a link has a number for it.
+    ghost invariant = { λ a. a.0 < MAX };
+}
+
+impl Model for Link {
+    ghost use Rattle.std.specs.Prelude.{ℕ, Option};
+    ghost use Rattle.line_arena.specs.Link.{linked, number_of, number_again};
+
+    ghost Value = { Option ℕ };
+
+    ghost view = { λ a. linked a.0 };
+
+    ghost inverse = { λ o. record { 0 = number_of o } };
+
+    ghost inverse_ok = { λ a h. λ i. record { 0 = number_again a.0 i } };
 }
 
 impl LineId {
@@ -47,6 +68,7 @@ impl LineId {
 
 impl CrossId {
     pub(crate) fn new(place: usize) -> CrossId
+        requires { place < usize.MAX }
         ensures { result ≡ place }
     {
         CrossId(place)
@@ -56,5 +78,32 @@ impl CrossId {
         ensures { result ≡ self }
     {
         self.0
+    }
+}
+
+impl Link {
+    /// Leads to no crossing.
+    pub(crate) fn none() -> Link
+        ensures { result ≡ None }
+    {
+        Link(0)
+    }
+
+    /// Leads to the crossing.
+    pub(crate) fn to(crossing: CrossId) -> Link
+        ensures { result ≡ Some crossing }
+    {
+        Link(crossing.0 + 1)
+    }
+
+    /// The crossing to which it leads.
+    pub(crate) fn crossing(self) -> Option<CrossId>
+        ensures { result ≡ self }
+    {
+        if self.0 == 0 {
+            None
+        } else {
+            Some(CrossId(self.0 - 1))
+        }
     }
 }

@@ -4,10 +4,8 @@
 #![tactic(auto)]
 
 mod arena;
-mod crossings;
+mod entries;
 mod id;
-mod key;
-mod keyed;
 mod laws;
 mod lists;
 mod node;

@@ -6,18 +6,17 @@ ghost use Rattle.plane_geom.specs.Point.{opposite};
 ghost use Rattle.plane_geom.specs.declared.point.Dir.{Dir};
 ghost use Rattle.plane_geom.specs.declared.point.Dir.TheVariants.{South};
 ghost use Rattle.plane_geom.specs.Along.{IsFurther, reach};
-ghost use Rattle.line_arena.specs.Keyed.{entry_at};
+ghost use Rattle.line_arena.specs.Entries.{entry_at};
 
-use crate::crossings::Crossings;
-use crate::id::{CrossId, LineId};
-use crate::keyed::KeyedSlab;
+use crate::entries::Entries;
+use crate::id::{CrossId, LineId, Link};
 use crate::node::{Ends, Node};
 use plane_geom::{Dir, Line, Point};
 
 #[derive(Drop)]
 pub struct Lists {
-    pub lines: KeyedSlab<Line, Ends>,
-    pub crossings: Crossings,
+    pub lines: Entries<Line, Ends>,
+    pub crossings: Entries<Point, Node>,
 }
 
 /// Whether the second point lies further in the direction.
@@ -51,24 +50,24 @@ impl Lists {
     ghost use Rattle.line_arena.specs.Lists.{AreLinked, AreLists, IsFirstFrom, IsNext, KnowsNeighbours, AreMet, IsApart, IsPut, IsSpot, Relinks, RunsAlong, SameDirection, SameLinks, SamePlaces, Spot, Stands, UpdatesAt, line_along, line_at, link, spot_at, without};
 
     /// The crossing that follows in the line's list in the direction; after none it is where the list begins.
-    fn next(&self, line: LineId, from: &Option<CrossId>, dir: Dir) -> Option<CrossId>
+    fn next(&self, line: LineId, from: Link, dir: Dir) -> Link
         requires line { entry_at self.now.lines line ≢ None }
-        requires from { ForSome from.now (λ c. entry_at self.now.crossings c ≢ None) }
-        ensures { result ≡ link self.now line from.now dir }
+        requires from { ForSome from (λ c. entry_at self.now.crossings c ≢ None) }
+        ensures { result ≡ link self.now line from dir }
     {
-        match from {
+        match from.crossing() {
             None => self.lines.get(line.place()).1.start(dir),
             Some(crossing) => self.crossings.get(crossing.place()).1.next(dir),
         }
     }
 
     /// Lets the crossing follow in the line's list in the direction.
-    fn set_next(&mut self, line: LineId, from: Option<CrossId>, dir: Dir, to: Option<CrossId>)
+    fn set_next(&mut self, line: LineId, from: Link, dir: Dir, to: Link)
         requires runs { RunsAlong self.old line dir }
         requires from { ForSome from (λ c. entry_at self.old.crossings c ≢ None) }
         ensures { Relinks self.old self.new line from dir to }
     {
-        match from {
+        match from.crossing() {
             None => {
                 let (_, ends) = *self.lines.get(line.place());
                 self.lines.set(line.place(), ends.with_start(dir, to));
@@ -84,20 +83,20 @@ impl Lists {
     /// The first crossing of the line in the direction that the point does not lie beyond.
     ///
     /// Walks from where the list begins.
-    fn first_from(&self, line: LineId, dir: Dir, point: Point) -> Option<CrossId>
+    fn first_from(&self, line: LineId, dir: Dir, point: Point) -> Link
         requires lists { AreLists self.now }
         requires runs { RunsAlong self.now line dir }
         ensures { IsFirstFrom (Stands (spot_at self.now) line dir) (reach dir point) result }
     {
-        let mut next = self.next(line, &None, dir);
-        while let Some(crossing) = next {
+        let mut next = self.next(line, Link::none(), dir);
+        while let Some(crossing) = next.crossing() {
             let (at, node) = self.crossings.get(crossing.place());
             if !is_further(dir, *at, point) {
                 return next;
             }
             next = node.next(dir);
         }
-        None
+        Link::none()
     }
 
     /// Whether the line's list in the direction begins nearer to the point than it ends.
@@ -105,16 +104,18 @@ impl Lists {
         requires lists { AreLists self.now }
         requires runs { RunsAlong self.now line dir }
     {
-        let start = self.next(line, &None, dir);
-        let stop = self.next(line, &None, dir.opposite());
-        match (start, stop) {
-            (Some(start), Some(stop)) => {
-                let (start, _) = self.crossings.get(start.place());
-                let (stop, _) = self.crossings.get(stop.place());
-                distance_along(dir, *start, point) < distance_along(dir, *stop, point)
-            }
-            _ => true,
+        let start = self.next(line, Link::none(), dir).crossing();
+        let stop = self.next(line, Link::none(), dir.opposite()).crossing();
+        let (Some(start), Some(stop)) = (start, stop) else {
+            return true;
+        };
+        let (stop, _) = self.crossings.get(stop.place());
+        if is_further(dir, *stop, point) {
+            // What goes last on its line, as all does while a graph is built, reads no more of it.
+            return false;
         }
+        let (start, _) = self.crossings.get(start.place());
+        distance_along(dir, *start, point) < distance_along(dir, *stop, point)
     }
 
     /// The direction, or the one against it, in which the line's list begins nearer to the point than it ends.
@@ -131,7 +132,7 @@ impl Lists {
     }
 
     /// The crossings of the line between which the point stands: the nearest one back, and the nearest one on in the direction.
-    fn neighbours(&self, line: LineId, dir: Dir, point: Point) -> (Option<CrossId>, Option<CrossId>)
+    fn neighbours(&self, line: LineId, dir: Dir, point: Point) -> (Link, Link)
         requires lists { AreLists self.now }
         requires runs { RunsAlong self.now line dir }
         requires free { (c : ℕ) → Stands (spot_at self.now) line dir c (reach dir point) → ⊥ }
@@ -140,11 +141,11 @@ impl Lists {
     {
         if self.starts_nearer(line, dir, point) {
             let on = self.first_from(line, dir, point);
-            let back = self.next(line, &on, dir.opposite());
+            let back = self.next(line, on, dir.opposite());
             (back, on)
         } else {
             let back = self.first_from(line, dir.opposite(), point);
-            let on = self.next(line, &back, dir);
+            let on = self.next(line, back, dir);
             (back, on)
         }
     }
@@ -159,7 +160,7 @@ impl Lists {
         ensures only { (c : ℕ) (s : Spot) → spot_at self.now c ≡ Some s → s.vertical ≡ line → s.point ≡ point → result ≡ Some c }
     {
         let dir = self.nearer_start(line, Dir::South, point);
-        let crossing = self.first_from(line, dir, point)?;
+        let crossing = self.first_from(line, dir, point).crossing()?;
         let (at, _) = *self.crossings.get(crossing.place());
         if is_same(at, point) {
             Some(crossing)
@@ -179,7 +180,7 @@ impl Lists {
     {
         let (_, node) = *self.crossings.get(crossing.place());
         let before = node.next(dir.opposite());
-        self.set_next(node.line(dir), before, dir, Some(crossing));
+        self.set_next(node.line(dir), before, dir, Link::to(crossing));
     }
 
     /// Takes the crossing out of the list of its line in the direction, and joins its neighbours.
@@ -236,8 +237,8 @@ impl Lists {
         ensures room { self.new.lines.room ≡ self.old.lines.room }
     {
         let ends = Ends {
-            first: None,
-            last: None,
+            first: Link::none(),
+            last: Link::none(),
         };
         LineId::new(self.lines.insert(line, ends))
     }

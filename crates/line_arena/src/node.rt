@@ -2,14 +2,14 @@
 ghost use Rattle.std.specs.Prelude.{◌≡◌};
 ghost use Rattle.line_arena.specs.Node.{line_of, next_of, start_of, with_next, with_start};
 
-use crate::id::{CrossId, LineId};
+use crate::id::{LineId, Link};
 use plane_geom::Dir;
 
 /// The ends of a line's list.
 #[derive(Clone, Copy, Debug)]
 pub struct Ends {
-    pub first: Option<CrossId>,
-    pub last: Option<CrossId>,
+    pub first: Link,
+    pub last: Link,
 }
 
 /// A crossing in the lists of its two lines: its nearest neighbours to all four sides.
@@ -17,15 +17,15 @@ pub struct Ends {
 pub struct Node {
     pub vertical: LineId,
     pub horizontal: LineId,
-    pub east: Option<CrossId>,
-    pub south: Option<CrossId>,
-    pub west: Option<CrossId>,
-    pub north: Option<CrossId>,
+    pub east: Link,
+    pub south: Link,
+    pub west: Link,
+    pub north: Link,
 }
 
 impl Ends {
     /// Where one begins who walks along the line in the direction.
-    pub fn start(&self, dir: Dir) -> Option<CrossId>
+    pub fn start(&self, dir: Dir) -> Link
         ensures { result ≡ start_of dir self.now }
     {
         match dir {
@@ -35,7 +35,7 @@ impl Ends {
     }
 
     /// The same ends with another such begin.
-    pub fn with_start(mut self, dir: Dir, to: Option<CrossId>) -> Ends
+    pub fn with_start(mut self, dir: Dir, to: Link) -> Ends
         ensures { result ≡ with_start dir to self }
     {
         match dir {
@@ -58,7 +58,7 @@ impl Node {
     }
 
     /// The neighbour in the direction.
-    pub fn next(&self, dir: Dir) -> Option<CrossId>
+    pub fn next(&self, dir: Dir) -> Link
         ensures { result ≡ next_of dir self.now }
     {
         match dir {
@@ -70,7 +70,7 @@ impl Node {
     }
 
     /// The same node with another neighbour in the direction.
-    pub fn with_next(mut self, dir: Dir, to: Option<CrossId>) -> Node
+    pub fn with_next(mut self, dir: Dir, to: Link) -> Node
         ensures { result ≡ with_next dir to self }
     {
         match dir {

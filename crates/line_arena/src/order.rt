@@ -1,5 +1,5 @@
 //! Lines with their ids, in order.
-ghost use Rattle.std.specs.Prelude.{◌≡◌, ◌+◌, ◌<◌, ◌≤◌, ◌⊎◌, ◌↔◌, ◌≢◌, ◌≤ℤ◌, ℕ, true, false, Some, Contains, IfSome, IsTrue, length, vec_len, vec_capacity};
+ghost use Rattle.std.specs.Prelude.{◌≡◌, ◌+◌, ◌<◌, ◌≤◌, ◌⊎◌, ◌↔◌, ◌≢◌, ◌≤ℤ◌, ℕ, true, false, Some, Contains, IfSome, IsNone, IsTrue, length, vec_len, vec_capacity};
 ghost use Rattle.std.specs.List.Sorted.{IsPartitionPoint};
 ghost use Rattle.plane_geom.specs.declared.floor.Line.{Line};
 ghost use Rattle.plane_geom.specs.declared.point.Way.TheVariants.{Vertical};
@@ -44,6 +44,51 @@ pub fn take_out(lines: &mut Vec<(Line, LineId)>, line: &Line)
 {
     let place = count_upto(lines.as_slice(), line);
     lines.remove(place - 1);
+}
+
+/// The id of the line and its place, in logarithmic time.
+pub fn find(lines: &[(Line, LineId)], line: &Line) -> Option<(LineId, usize)>
+    requires { AreInOrder lines.now }
+    ensures found { IfSome result (λ found. Contains lines.now (line.now, found.0)) }
+    ensures absent { IsNone result → (id : ℕ) → Contains lines.now (line.now, id) → ⊥ }
+{
+    let place = count_upto(lines, line);
+    if place == 0 {
+        return None;
+    }
+    at_place(lines, line, place - 1)
+}
+
+/// The id of the line and its place, in constant time where it stands near: at the given place.
+pub fn find_near(lines: &[(Line, LineId)], line: &Line, near: usize) -> Option<(LineId, usize)>
+    requires { AreInOrder lines.now }
+    ensures found { IfSome result (λ found. Contains lines.now (line.now, found.0)) }
+    ensures absent { IsNone result → (id : ℕ) → Contains lines.now (line.now, id) → ⊥ }
+{
+    match at_place(lines, line, near) {
+        None => find(lines, line),
+        found => found,
+    }
+}
+
+/// The id of the line and the place, if the line stands there.
+fn at_place(lines: &[(Line, LineId)], line: &Line, place: usize) -> Option<(LineId, usize)>
+    ensures found { IfSome result (λ found. Contains lines.now (line.now, found.0)) }
+    ensures absent { IsNone result → (id : ℕ) (there : Contains lines.now (line.now, id)) → there.0 ≢ place }
+{
+    let (other, id) = lines.get(place)?;
+    if is_same(other, line) {
+        Some((*id, place))
+    } else {
+        None
+    }
+}
+
+/// Whether the lines are one.
+fn is_same(other: &Line, line: &Line) -> bool
+    ensures { IsTrue result ↔ (other.now ≡ line.now) }
+{
+    other == line
 }
 
 /// The id of the vertical line through the point, in logarithmic time.

@@ -224,6 +224,11 @@ fn fills_just_the_room_taken(rt: HostRuntime) -> Result<(), Fail> {
     assert_eq!(rt; found(&arena, 5, 7), None);
     assert_eq!(rt; arena.line_at(dot), None);
     assert_eq!(rt; arena.line_at(row), Some(across));
+    // The row stands behind the line under the point that went.
+    for place in [0, 1, 2] {
+        assert_eq!(rt; arena.line_near(dot, place), None);
+        assert_eq!(rt; arena.line_near(row, place), Some((across, 1)));
+    }
     assert_eq!(rt; arena.written(), 4);
     Ok(())
 }

@@ -53,15 +53,21 @@ fn cross(arena: &mut LineArena, id: LineId, line: &Line, others: &[Line])
     requires room { count_by (meets line.now) others.now ≤ arena.old.spare_crossings }
     ensures { IsCrossed arena.old arena.new id line.now.way (filter (meets line.now) others.now) }
 {
-    for other in beside(line, others) {
+    // Where all lines of the arena are the others, each stands at its own place among them; where they are not,
+    // mostly behind the one before it.
+    let (mut place, here) = beside(line, others);
+    for other in here {
         if do_meet(line, other) {
-            put_meeting(arena, id, line, other);
+            place = put_meeting(arena, id, line, other, place);
         }
+        place = place.saturating_add(1);
     }
 }
 
-/// Puts the crossing of the line, which stands under the id, with one that it meets.
-fn put_meeting(arena: &mut LineArena, id: LineId, line: &Line, other: &Line)
+/// Puts the crossing of the line, which stands under the id, with one that it meets, and tells the place of that one.
+///
+/// Takes constant time to find it where it stands near: at the given place among the lines of the arena.
+fn put_meeting(arena: &mut LineArena, id: LineId, line: &Line, other: &Line, near: usize) -> usize
     requires there { map.get arena.old.lines id ≡ Some line.now }
     requires other_there { HasLine arena.old other.now }
     requires meets { meets line.now other.now ≡ true }
@@ -69,11 +75,13 @@ fn put_meeting(arena: &mut LineArena, id: LineId, line: &Line, other: &Line)
     requires room { 0 < arena.old.spare_crossings }
     ensures { IsCrossed arena.old arena.new id line.now.way (other.now ∷ []) }
 {
-    let Some(other) = arena.line_at(*other) else {
+    let Some(found) = arena.line_near(*other, near) else {
         unreachable!()
     };
+    let (other, place) = found;
     match line.way {
         Way::Vertical => arena.put_crossing(id, other),
         Way::Horizontal => arena.put_crossing(other, id),
     };
+    place
 }

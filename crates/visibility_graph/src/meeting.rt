@@ -38,10 +38,8 @@ fn count_met(line: &Line, others: &[Line]) -> usize
     requires { AreOrdered others.now }
     ensures { result ≡ count_by (meets line.now) others.now }
 {
-    beside(line, others)
-        .iter()
-        .filter(|other| do_meet(line, other))
-        .count()
+    let (_, here) = beside(line, others);
+    here.iter().filter(|other| do_meet(line, other)).count()
 }
 
 /// Whether the lines run different ways and have a point in common.
@@ -61,17 +59,18 @@ fn reaches(line: &Line, at: i64) -> bool
     line.lo <= at && at <= line.hi
 }
 
-/// Those of the others that run across the line's whole line between its ends.
+/// Those of the others that run across the line's whole line between its ends, and how many stand before them.
 ///
 /// The line meets no more of the others than of these.
-pub(crate) fn beside<'a>(line: &Line, others: &'a [Line]) -> &'a [Line]
+pub(crate) fn beside<'a>(line: &Line, others: &'a [Line]) -> (usize, &'a [Line])
     requires { AreOrdered others.now }
-    ensures met { filter (meets line.now) result.now ≡ filter (meets line.now) others.now }
-    ensures ordered { AreOrdered result.now }
+    ensures met { filter (meets line.now) result.1.now ≡ filter (meets line.now) others.now }
+    ensures ordered { AreOrdered result.1.now }
 {
     let (front, _) = others.split_at(count_upto_end(line, others));
-    let (_, here) = front.split_at(count_before(line, front));
-    here
+    let before = count_before(line, front);
+    let (_, here) = front.split_at(before);
+    (before, here)
 }
 
 /// How many of the others stand before all those that the line may meet.

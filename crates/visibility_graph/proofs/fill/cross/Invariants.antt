@@ -6,4 +6,4 @@ use Rattle.visibility_graph.specs.Fill.{IsCrossed}
 use Rattle.visibility_graph.proofs.fill.cross.Given as goal
 
 abbrev pub invariant-loop-other : goal.invariant-loop-other
-invariant-loop-other l = IsCrossed l.initial.arena l.arena l.id l.line.way (filter (meets l.line) (take l.other-index l.other-items))
+invariant-loop-other l = IsCrossed l.initial.arena l.arena l.id l.line.way (filter (meets l.line) (take l.other-index l.here))

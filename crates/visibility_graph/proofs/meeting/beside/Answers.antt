@@ -10,6 +10,6 @@ returns-clause-met c =
     let test = meets c.args.line.now in
     let front = c.split_at.result.0.now in
     ap (filter test) c.split_at-2.ensures.back
-    ∙ filter_behind test front c.count_before.result c.count_before.ensures.front
+    ∙ filter_behind test front c.count_before-before.result c.count_before-before.ensures.front
     ∙ ap (filter test) c.split_at.ensures.front
     ∙ filter_before test c.args.others.now c.count_upto_end.result c.count_upto_end.ensures.back

@@ -8,6 +8,6 @@ use Rattle.visibility_graph.proofs.meeting.count_met.Goals as goal
 pub returns : goal.returns
 returns c =
     let test = meets c.args.line.now in
-    let near = c.beside.result.now in
+    let near = c.beside.result.1.now in
     let counted : c.count.result ≡ count_by test near = search rules in
     counted ∙ sym (length-filter test near) ∙ ap length c.beside.ensures.met ∙ length-filter test c.args.others.now

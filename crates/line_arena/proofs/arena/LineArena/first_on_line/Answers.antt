@@ -2,7 +2,7 @@ use Rattle.std.proofs.Common.{◌≡◌, ◌≢◌, ◌∙◌, None, Some, ap, s
 use Rattle.std.specs.Prelude.{option_and_then}
 use Rattle.std.specs.Option.{option_map}
 use Rattle.plane_geom.specs.Along.{rising}
-use Rattle.line_arena.specs.Keyed.{entry_at}
+use Rattle.line_arena.specs.Entries.{entry_at}
 use Rattle.line_arena.specs.Node.{start_of}
 use Rattle.line_arena.specs.Lists.{IsNext, Stands, spot_at}
 use Rattle.line_arena.proofs.ArenaLemmas.{first_seen, is_arena, live_line, no_first_seen, rising_way, start_rising}
@@ -21,22 +21,24 @@ returns-clause-first c =
     let a = c.self.inside.lists in
     let e = c.get.result.now in
     let d = rising e.0.way in
-    let is = subst (λ i. entry_at a.lines i ≡ Some e) c.place.ensures c.get.ensures.value in
+    let is = subst (λ i. entry_at a.lines i ≡ Some e) c.place.ensures c.get.ensures in
     let line = ap (option_map (λ x. x.0)) is in
     let read = sym (ap (option_and_then (λ x. start_of d x.1)) is ∙ start_rising e.0.way e.1) in
     let next = subst (IsNext (Stands (spot_at a) c.args.line d) None) (sym read) ((c.self.invariant.lists.linked d).starts c.args.line e.0 line (sym (rising_way e.0.way))) in
-    first_seen a c.self.inside.written c.args.self.now c.self.view_is c.self.invariant.lists c.args.line e.0 line e.1.first next
+    rw c.crossing.ensures
+    (first_seen a c.self.inside.written c.args.self.now c.self.view_is c.self.invariant.lists c.args.line e.0 line e.1.first next)
 
 pub returns-clause-absent : goal.returns-clause-absent
 returns-clause-absent c =
     let a = c.self.inside.lists in
     let e = c.get.result.now in
     let d = rising e.0.way in
-    let is = subst (λ i. entry_at a.lines i ≡ Some e) c.place.ensures c.get.ensures.value in
+    let is = subst (λ i. entry_at a.lines i ≡ Some e) c.place.ensures c.get.ensures in
     let line = ap (option_map (λ x. x.0)) is in
     let read = sym (ap (option_and_then (λ x. start_of d x.1)) is ∙ start_rising e.0.way e.1) in
     let next = subst (IsNext (Stands (spot_at a) c.args.line d) None) (sym read) ((c.self.invariant.lists.linked d).starts c.args.line e.0 line (sym (rising_way e.0.way))) in
-    no_first_seen a c.self.inside.written c.args.self.now c.self.view_is c.self.invariant.lists c.args.line e.0 line e.1.first next
+    rw c.crossing.ensures
+    (no_first_seen a c.self.inside.written c.args.self.now c.self.view_is c.self.invariant.lists c.args.line e.0 line e.1.first next)
 
 pub returns-clause-arena : goal.returns-clause-arena
 returns-clause-arena c = is_arena c.self.inside.lists c.self.inside.written c.args.self.now c.self.view_is c.self.invariant.lists

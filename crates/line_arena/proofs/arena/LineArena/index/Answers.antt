@@ -1,5 +1,5 @@
 use Rattle.std.proofs.Common.{◌≢◌, None, sym, subst}
-use Rattle.line_arena.specs.Keyed.{entry_at}
+use Rattle.line_arena.specs.Entries.{entry_at}
 use Rattle.line_arena.proofs.ArenaLemmas.{live_entry}
 use Rattle.line_arena.proofs.arena.LineArena.index.Goals as goal
 

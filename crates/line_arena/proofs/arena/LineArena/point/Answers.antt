@@ -1,6 +1,6 @@
 use Rattle.std.proofs.Common.{◌≡◌, ◌≢◌, None, Some, ap, sym, subst}
 use Rattle.std.specs.Option.{option_map}
-use Rattle.line_arena.specs.Keyed.{entry_at}
+use Rattle.line_arena.specs.Entries.{entry_at}
 use Rattle.line_arena.specs.Lists.{spot_of}
 use Rattle.line_arena.proofs.ArenaLemmas.{live_entry, stands_at}
 use Rattle.line_arena.proofs.arena.LineArena.point.Goals as goal
@@ -13,5 +13,5 @@ get-requires c =
 pub returns : goal.returns
 returns c =
     let a = c.self.inside.lists in
-    let is = subst (λ i. entry_at a.crossings i ≡ Some c.get.result.now) c.place.ensures c.get.ensures.value in
+    let is = subst (λ i. entry_at a.crossings i ≡ Some c.get.result.now) c.place.ensures c.get.ensures in
     stands_at a c.self.inside.written c.args.self.now c.self.view_is c.self.invariant.lists c.args.crossing (spot_of c.get.result.now) (ap (option_map spot_of) is)

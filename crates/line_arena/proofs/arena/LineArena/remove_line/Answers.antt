@@ -1,7 +1,7 @@
 use Rattle.std.proofs.Common.{◌≡◌, ◌∙◌, ◌+◌, None, Some, ap, inl, inr, sym, subst}
 use Rattle.std.specs.Option.{option_map}
 use Rattle.std.specs.FinMap.{remove}
-use Rattle.line_arena.specs.Keyed.{entry_at}
+use Rattle.line_arena.specs.Entries.{entry_at}
 use Rattle.line_arena.specs.Lists.{line_at}
 use Rattle.line_arena.specs.View.{arena_of}
 use Rattle.line_arena.proofs.ArenaLemmas.{after_remove_line, live_line, none_line, pair_at, pair_with}
@@ -28,14 +28,14 @@ get-requires c = λ none.
 
 pub take_out-requires-clause-there : goal.take_out-requires-clause-there
 take_out-requires-clause-there c =
-    let value : line_at c.self.inside.lists c.args.line ≡ Some c.get.result.now.0 = ap (option_map (λ e. e.0)) (subst (λ i. entry_at c.self.inside.lists.lines i ≡ Some c.get.result.now) c.place.ensures c.get.ensures.value) in
+    let value : line_at c.self.inside.lists c.args.line ≡ Some c.get.result.now.0 = ap (option_map (λ e. e.0)) (subst (λ i. entry_at c.self.inside.lists.lines i ≡ Some c.get.result.now) c.place.ensures c.get.ensures) in
     (c.args.line, (c.self.invariant.listed c.get.result.now.0 c.args.line).1 value)
 
 pub invariant_of-self : goal.invariant_of-self
 invariant_of-self c =
     let e = c.remove_line.ensures in
     let o = c.take_out.ensures in
-    let value : line_at c.self.inside.lists c.args.line ≡ Some c.get.result.now.0 = ap (option_map (λ e. e.0)) (subst (λ i. entry_at c.self.inside.lists.lines i ≡ Some c.get.result.now) c.place.ensures c.get.ensures.value) in
+    let value : line_at c.self.inside.lists c.args.line ≡ Some c.get.result.now.0 = ap (option_map (λ e. e.0)) (subst (λ i. entry_at c.self.inside.lists.lines i ≡ Some c.get.result.now) c.place.ensures c.get.ensures) in
     kept_removed c.self.inside.lists c.self.inside.order.items _ _ c.self.invariant c.remove_line.new.self c.take_out.new.lines.items _ _ c.args.line c.get.result.now.0 e.lists value e.removed e.count e.room o.ordered o.left o.len o.room
 
 pub returns : goal.returns

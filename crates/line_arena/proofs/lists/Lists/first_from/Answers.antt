@@ -1,39 +1,41 @@
-use Rattle.std.proofs.Common.{◌≡◌, ◌<◌, Some, subst, sym}
-use Rattle.plane_geom.specs.Along.{IsFurther}
-use Rattle.line_arena.specs.Keyed.{entry_at}
+use Rattle.std.proofs.Common.{◌≡◌, ◌<◌, ◌∙◌, Some, ap, subst, sym}
+use Rattle.plane_geom.specs.Along.{IsFurther, reach}
+use Rattle.line_arena.specs.Entries.{entry_at}
+use Rattle.line_arena.specs.Lists.{IsFirstFrom, Stands, link, spot_at}
 use Rattle.line_arena.proofs.Walk.{IsComing, coming_first, coming_more, coming_next, found, found_none, left_at, left_falls, read_next}
 use Rattle.line_arena.proofs.lists.Lists.first_from.Goals as goal
 
-pub loop-next-init : goal.loop-next-init
-loop-next-init c = coming_first c.args.self.now c.args.line c.args.dir c.args.point c.requires.lists c.requires.runs c.next-next.result c.next-next.ensures
+pub loop-crossing-init : goal.loop-crossing-init
+loop-crossing-init c = coming_first c.args.self.now c.args.line c.args.dir c.args.point c.requires.lists c.requires.runs c.next-next.result (c.next-next.ensures ∙ ap (λ f. link c.args.self.now c.args.line f c.args.dir) c.none.ensures)
 
 pub returns-then-not-is_further : goal.returns-then-not-is_further
 returns-then-not-is_further c =
     let a = c.args.self.now in
     let e = c.get.result.now in
-    let is = subst (λ i. entry_at a.crossings i ≡ Some e) c.place.ensures c.get.ensures.value in
-    let coming = subst (IsComing a c.args.line c.args.dir c.args.point) c.in-Some.is c.loop-next.invariant in
+    let is = subst (λ i. entry_at a.crossings i ≡ Some e) c.place.ensures c.get.ensures in
+    let coming = subst (IsComing a c.args.line c.args.dir c.args.point) (sym c.crossing.ensures ∙ c.in-Some.is) c.loop-crossing.invariant in
     let not : IsFurther c.args.dir e.0 c.args.point → ⊥ = λ h. absurd (cc (c.is_further.ensures.1 h, c.if-not-is_further.true)) in
-    found a c.args.line c.args.dir c.args.point c.requires.lists c.requires.runs c.in-Some.crossing e is coming not
+    subst (IsFirstFrom (Stands (spot_at a) c.args.line c.args.dir) (reach c.args.dir c.args.point)) (sym c.in-Some.is ∙ c.crossing.ensures)
+    (found a c.args.line c.args.dir c.args.point c.requires.lists c.requires.runs c.in-Some.crossing e is coming not)
 
-pub loop-next-smaller : goal.loop-next-smaller
-loop-next-smaller c =
+pub loop-crossing-smaller : goal.loop-crossing-smaller
+loop-crossing-smaller c =
     let a = c.args.self.now in
     let e = c.get.result.now in
-    let is = subst (λ i. entry_at a.crossings i ≡ Some e) c.place.ensures c.get.ensures.value in
-    let coming = subst (IsComing a c.args.line c.args.dir c.args.point) c.in-Some.is c.loop-next.invariant in
+    let is = subst (λ i. entry_at a.crossings i ≡ Some e) c.place.ensures c.get.ensures in
+    let coming = subst (IsComing a c.args.line c.args.dir c.args.point) (sym c.crossing.ensures ∙ c.in-Some.is) c.loop-crossing.invariant in
     let before : IsFurther c.args.dir e.0 c.args.point = c.is_further.ensures.0 c.if-not-is_further.false in
     let read = read_next a c.args.line c.in-Some.crossing c.args.dir e is c.next-next-in-Some.result c.next-next-in-Some.ensures in
     let next = coming_next a c.args.line c.args.dir c.args.point c.requires.lists c.requires.runs c.in-Some.crossing e is coming c.next-next-in-Some.result read in
-    subst (λ o. left_at a c.args.dir c.args.point c.next-next-in-Some.result < left_at a c.args.dir c.args.point o) (sym c.in-Some.is)
+    subst (λ o. left_at a c.args.dir c.args.point c.next-next-in-Some.result < left_at a c.args.dir c.args.point o) (sym c.in-Some.is ∙ c.crossing.ensures)
     (left_falls a c.args.line c.args.dir c.args.point c.in-Some.crossing e is before c.next-next-in-Some.result next)
 
-pub loop-next-preserved : goal.loop-next-preserved
-loop-next-preserved c =
+pub loop-crossing-preserved : goal.loop-crossing-preserved
+loop-crossing-preserved c =
     let a = c.args.self.now in
     let e = c.get.result.now in
-    let is = subst (λ i. entry_at a.crossings i ≡ Some e) c.place.ensures c.get.ensures.value in
-    let coming = subst (IsComing a c.args.line c.args.dir c.args.point) c.in-Some.is c.loop-next.invariant in
+    let is = subst (λ i. entry_at a.crossings i ≡ Some e) c.place.ensures c.get.ensures in
+    let coming = subst (IsComing a c.args.line c.args.dir c.args.point) (sym c.crossing.ensures ∙ c.in-Some.is) c.loop-crossing.invariant in
     let before : IsFurther c.args.dir e.0 c.args.point = c.is_further.ensures.0 c.if-not-is_further.false in
     let read = read_next a c.args.line c.in-Some.crossing c.args.dir e is c.next-next-in-Some.result c.next-next-in-Some.ensures in
     coming_more a c.args.line c.args.dir c.args.point c.requires.lists c.requires.runs c.in-Some.crossing e is coming before c.next-next-in-Some.result read
@@ -41,5 +43,6 @@ loop-next-preserved c =
 pub returns : goal.returns
 returns c =
     let a = c.args.self.now in
-    found_none a c.args.line c.args.dir c.args.point c.requires.lists c.requires.runs
-    (subst (IsComing a c.args.line c.args.dir c.args.point) c.in_default.is c.loop-next.invariant)
+    rw c.none-2.ensures
+    (found_none a c.args.line c.args.dir c.args.point c.requires.lists c.requires.runs
+    (subst (IsComing a c.args.line c.args.dir c.args.point) (sym c.crossing.ensures ∙ c.in_default.is) c.loop-crossing.invariant))

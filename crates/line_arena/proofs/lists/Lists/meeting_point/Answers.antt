@@ -13,6 +13,6 @@ returns c =
     let h = c.get-2.result.now.0 in
     let v_fits : FitsSigned w64 v.at = search rules in
     let h_fits : FitsSigned w64 h.at = search rules in
-    let is_v = subst (λ i. line_at a i ≡ Some v) c.place.ensures (ap (option_map (λ e. e.0)) c.get.ensures.value) in
-    let is_h = subst (λ i. line_at a i ≡ Some h) c.place-2.ensures (ap (option_map (λ e. e.0)) c.get-2.ensures.value) in
+    let is_v = subst (λ i. line_at a i ≡ Some v) c.place.ensures (ap (option_map (λ e. e.0)) c.get.ensures) in
+    let is_h = subst (λ i. line_at a i ≡ Some h) c.place-2.ensures (ap (option_map (λ e. e.0)) c.get-2.ensures) in
     simp to_z-of_z (met_at (line_at a) c.args.vertical c.args.horizontal c.requires.meet v h is_v is_h)

@@ -1,48 +1,46 @@
-//! Crossings under ids.
-ghost use Rattle.std.specs.Prelude.{◌≡◌, ◌≢◌, ◌+◌, ◌<◌, ◌≤◌, Some, None, [], OnOk};
+//! Pairs of values under ids.
+ghost use Rattle.std.specs.Prelude.{◌≡◌, ◌≢◌, ◌+◌, ◌<◌, ◌≤◌, Some, None, [], OnOk, max};
 ghost use Rattle.slab.specs.Slab.{Updates, slab_len};
-ghost use Rattle.plane_geom.specs.declared.point.Point.{Point};
-ghost use Rattle.line_arena.specs.declared.node.Node.{Node};
-ghost use Rattle.line_arena.specs.Keyed.{entry_at};
+ghost use Rattle.line_arena.specs.Entries.{entry_at};
 
-use crate::node::Node;
 use crate::room::make_places;
-use plane_geom::Point;
 use slab::Slab;
 use std::alloc::{AllocError, Global};
 use std::marker::Model;
 
-/// Crossings under their ids: where each stands, and what it knows of its lists. As many fit as have a place.
+/// Entries under their ids: of each what stays as it is, and what may change.
 #[derive(Drop)]
-pub struct Crossings {
-    slab: Slab<(Point, Node)>,
+pub struct Entries<K: Copy, V: Copy> {
+    slab: Slab<(K, V)>,
+    // How many fit in all: those for which room was asked.
+    room: usize,
 }
 
-impl Model for Crossings {
-    ghost use Rattle.std.specs.Coded.{codes};
-    ghost use Rattle.plane_geom.specs.declared.point.Point.{Point};
-    ghost use Rattle.line_arena.specs.declared.node.Node.{Node};
-    ghost use Rattle.line_arena.specs.Keyed.{Keyed, keyed_code};
+impl<K: Copy, V: Copy> Model for Entries<K, V> {
+    ghost use Rattle.line_arena.specs.Entries.{Entered, entered_code, HasRoom};
 
-    ghost Value = { Keyed Point Node };
+    ghost Value = { Entered K V };
 
-    ghost coded = { Prim.hlevel (codes, keyed_code) };
+    ghost coded = { entered_code K.code V.code };
 
-    ghost view = { λ a. record { slab = a.slab; room = a.slab.capacity } };
+    ghost view = { λ a. record { slab = a.slab; room = a.room } };
+
+    ghost invariant = { λ a. HasRoom a.slab a.room };
 }
 
-impl Crossings {
-    pub fn new(alloc: Global) -> Crossings
+impl<K: Copy, V: Copy> Entries<K, V> {
+    pub fn new(alloc: Global) -> Entries<K, V>
         ensures slots { result.slab.slots ≡ [] }
         ensures capacity { result.slab.capacity ≡ 0 }
         ensures room { result.room ≡ 0 }
     {
-        Crossings {
+        Entries {
             slab: Slab::new(alloc),
+            room: 0,
         }
     }
 
-    /// Makes room for so many more.
+    /// Makes room for so many more entries.
     pub fn reserve(&mut self, more: usize) -> Result<(), AllocError>
         ensures slots { self.new.slab.slots ≡ self.old.slab.slots }
         ensures capacity { self.old.slab.capacity ≤ self.new.slab.capacity }
@@ -50,24 +48,33 @@ impl Crossings {
             self.new.slab.capacity ≡ self.old.slab.capacity }
         ensures within { slab_len self.old.slab ≤ self.old.room }
         ensures room { self.old.room ≤ self.new.room }
+        ensures no_more { self.new.room ≤ max self.old.room (slab_len self.old.slab + more) }
         ensures ok { OnOk result (slab_len self.old.slab + more ≤ self.new.room) }
     {
-        make_places(&mut self.slab, more)
+        make_places(&mut self.slab, more)?;
+        // The capacity fits a `usize`, and so does the sum, which is no more.
+        let _ = self.slab.capacity();
+        self.room = self.room.max(self.slab.len() + more);
+        Ok(())
     }
 
-    /// Puts in a crossing, and takes no memory.
-    pub fn insert(&mut self, point: Point, node: Node) -> usize
-        requires room { slab_len self.old.slab < self.old.room }
+    /// Puts in an entry, and takes no memory.
+    pub fn insert(&mut self, key: K, value: V) -> usize
+        requires { slab_len self.old.slab < self.old.room }
         ensures new_id { entry_at self.old result ≡ None }
-        ensures updates { Updates self.old.slab self.new.slab result (Some (point, node)) }
+        ensures updates { Updates self.old.slab self.new.slab result (Some (key, value)) }
         ensures len { slab_len self.new.slab ≡ slab_len self.old.slab + 1 }
         ensures room { self.new.room ≡ self.old.room }
         ensures capacity { self.new.slab.capacity ≡ self.old.slab.capacity }
+        ensures within { result < usize.MAX }
     {
-        self.slab.insert_reserved((point, node))
+        let id = self.slab.insert_reserved((key, value));
+        // The capacity fits a `usize`, and the id is below it.
+        let _ = self.slab.capacity();
+        id
     }
 
-    /// Takes out a crossing.
+    /// Takes out an entry.
     pub fn remove(&mut self, id: usize)
         requires { entry_at self.old id ≢ None }
         ensures updates { Updates self.old.slab self.new.slab id None }
@@ -79,27 +86,27 @@ impl Crossings {
         self.slab.remove(id);
     }
 
-    /// Where the crossing under an id stands, and what it knows.
-    pub fn get(&self, id: usize) -> &(Point, Node)
+    /// The entry under an id.
+    pub fn get(&self, id: usize) -> &(K, V)
         requires { entry_at self.now id ≢ None }
-        ensures value { entry_at self.now id ≡ Some result.now }
+        ensures { entry_at self.now id ≡ Some result.now }
     {
         &self.slab[id]
     }
 
-    /// Lets the crossing under an id know something else.
-    pub fn set(&mut self, id: usize, node: Node)
+    /// Changes what may change of the entry under an id.
+    pub fn set(&mut self, id: usize, value: V)
         requires { entry_at self.old id ≢ None }
-        ensures updates { (e : Point × Node) → entry_at self.old id ≡ Some e →
-            Updates self.old.slab self.new.slab id (Some (e.0, node)) }
+        ensures updates { (e : K × V) → entry_at self.old id ≡ Some e →
+            Updates self.old.slab self.new.slab id (Some (e.0, value)) }
         ensures len { slab_len self.new.slab ≡ slab_len self.old.slab }
         ensures room { self.new.room ≡ self.old.room }
         ensures capacity { self.new.slab.capacity ≡ self.old.slab.capacity }
     {
-        self.slab[id].1 = node;
+        self.slab[id].1 = value;
     }
 
-    /// The id of a crossing that is there, below `places`. Reads no crossing.
+    /// The id of an entry that is there, below `places`. Reads no entry.
     pub fn index(&self, id: usize) -> usize
         requires { entry_at self.now id ≢ None }
         ensures same { result ≡ id }
