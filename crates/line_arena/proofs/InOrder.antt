@@ -18,7 +18,7 @@ use Rattle.plane_geom.specs.declared.point.Way.TheVariants.{Vertical, Horizontal
 use Rattle.plane_geom.specs.declared.floor.Line.{Line}
 use Rattle.plane_geom.specs.Floor.{Holds, point_on}
 use Rattle.line_arena.specs.Order.{AreApart, AreInOrder, HasPlace, at_point}
-use Rattle.plane_geom.specs.Order.{stands_before}
+use Rattle.plane_geom.specs.Order.{stands_before, way_before}
 use Rattle.plane_geom.proofs.Order.{before_apart, not_before_itself, stands_through}
 use Rattle.line_arena.proofs.Put.{held}
 

@@ -1,12 +1,12 @@
--- Lines with their ids, in order. No public clause cites this module.
-use Rattle.std.specs.Prelude.{◌≡◌, ◌≤◌, ◌↔◌, ℕ, Bool, true, false, ◌&&◌, ◌||◌, int_lt, ◌≤ℤ◌, List, Some, AllPairs, Contains}
-use Rattle.std.specs.Ordering.{int_eq}
+-- Lines with their ids, in order.
+use Rattle.std.specs.Prelude.{◌≡◌, ◌≤◌, ◌↔◌, ℕ, true, false, ◌≤ℤ◌, List, Some, AllPairs, Contains}
 use Rattle.slab.specs.Slab.{slab_len}
 use Rattle.plane_geom.specs.declared.point.Point.{Point}
 use Rattle.plane_geom.specs.declared.point.Way.{Way}
-use Rattle.plane_geom.specs.declared.point.Way.TheVariants.{Vertical, Horizontal}
+use Rattle.plane_geom.specs.declared.point.Way.TheVariants.{Vertical}
 use Rattle.plane_geom.specs.declared.floor.Line.{Line}
 use Rattle.plane_geom.specs.Floor.{AreOnOneWholeLine, Holds}
+use Rattle.plane_geom.specs.Order.{stands_before}
 use Rattle.line_arena.specs.declared.lists.Lists.{Lists}
 use Rattle.line_arena.specs.Lists.{AreLists, line_at}
 
