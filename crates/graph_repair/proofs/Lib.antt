@@ -3,5 +3,6 @@ pub mod Counted
 pub mod Taken
 pub mod Pairs
 pub mod Listing
+pub mod Compared
 pub mod Exchanged
 pub mod OneCount

@@ -1,14 +1,11 @@
--- Whether a line stands in a list, and lists that part the kept lines of two floors.
-use Rattle.std.proofs.Common.{◌≡◌, ◌≢◌, ◌⊎◌, inl, inr, ℕ, ◌<◌, ◌≤◌, ℤ, Bool, true, false, not, ◌&&◌, List, ◌++◌, length, get_or, refl, sym, ap, subst, ◌∙◌, arith, rules}
-use Rattle.std.specs.Prelude.{Contains, filter, int_lt, ◌||◌, ◌↔◌, IsTrue}
-use Rattle.std.specs.List.{AllWithin}
-use Rattle.std.specs.List.Sorted.{IsPartitionedBy}
+-- Whether a line stands in a list, lists that part the kept lines of two floors, and the list of an arena.
+use Rattle.std.proofs.Common.{◌≡◌, ◌≢◌, ◌⊎◌, inl, inr, ℕ, ℤ, Bool, true, false, not, ◌&&◌, List, ◌++◌, refl, sym, ap, subst, ◌∙◌}
+use Rattle.std.specs.Prelude.{Contains, filter, Some, ◌↔◌}
+use Rattle.std.specs.FinMap.{get}
 use Rattle.std.specs.Ordering.{int_eq}
-use Rattle.std.proofs.lemmas.Bool.{cases_Bool, cases_lt}
+use Rattle.std.proofs.lemmas.Bool.{cases_Bool}
 use Rattle.std.proofs.lemmas.Bool.Decides.{Decides-int_eq}
-use Rattle.std.proofs.lemmas.Int.{ints}
-use Rattle.std.proofs.lemmas.List.{get_or_default}
-use Rattle.std.proofs.lemmas.List.Elements.{Contains-get_or}
+use Rattle.std.proofs.lemmas.List.Elements.{All-from_recursion}
 use Rattle.std.proofs.lemmas.List.Folds.{Any-from_list_any, list_any-from_Any}
 use Rattle.std.proofs.lemmas.List.Kept.{AllPairs-filter}
 use Rattle.plane_geom.specs.declared.point.Way.{Way}
@@ -16,14 +13,16 @@ use Rattle.plane_geom.specs.declared.point.Way.TheVariants.{Vertical, Horizontal
 use Rattle.plane_geom.specs.declared.floor.Line.{Line}
 use Rattle.plane_geom.specs.declared.floor.Floor.{Floor}
 use Rattle.plane_geom.specs.Floor.{IsKept}
+use Rattle.line_arena.specs.Arena.{Arena}
+use Rattle.line_arena.specs.Order.{AreInOrder}
+use Rattle.line_arena.specs.Stands.{StandsFor}
 use Rattle.sweep_lines.specs.Kept.{AreAllKept, AreOrdered}
 use Rattle.plane_geom.specs.Order.{stands_before}
-use Rattle.sweep_lines.proofs.Members.{Among, among_filter, among_filtered, among_of_any, among_of_contains, any_of_among, contains_of_among, rising_joined, rising_of_pairs}
-use Rattle.plane_geom.proofs.Order.{before_apart, never_both, stands_through}
+use Rattle.sweep_lines.proofs.Members.{Among, among_all, among_filter, among_filtered, among_map, among_mapped, among_of_any, among_of_contains, any_of_among, contains_of_among, pairs_of_rising, rising_joined, rising_map, rising_of_pairs}
+use Rattle.plane_geom.proofs.Order.{before_apart}
 use Rattle.visibility_graph.specs.Meeting.{same_way}
 use Rattle.visibility_graph.proofs.KeptList.{is_kept}
-use Rattle.visibility_graph.proofs.Counts.{no_line}
-use Rattle.graph_repair.specs.Listed.{is_listed, same_line}
+use Rattle.graph_repair.specs.Listed.{is_listed, lines_of, same_line}
 use Rattle.graph_repair.specs.Change.{AreAlone, AreShared}
 use Rattle.graph_repair.proofs.Counted.{AreDistinct}
 use Rattle.graph_repair.proofs.Pairs.{rising_more}
@@ -74,6 +73,10 @@ same_itself l = all_true (same_way l.way l.way) (int_eq l.at l.at) (int_eq l.lo 
 
 -- ---- lines that are listed
 
+pub not_true : (b : Bool) → (b ≡ true → ⊥) → b ≡ false
+not_true true f = absurd (f refl)
+not_true false f = refl
+
 pub among_of_listed : (ls : List Line) (l : Line) → is_listed ls l ≡ true → Among l ls
 among_of_listed ls l e =
     let a = Any-from_list_any (same_line l) ls e in
@@ -91,6 +94,9 @@ is_there ls l = elim (cases_Bool (is_listed ls l)) as (λ _. Contains ls l ⊎ (
 
 -- ---- the kept lines of two floors
 
+pub ordered_filter : (p : Line → Bool) (ls : List Line) → AreOrdered ls → AreOrdered (filter p ls)
+ordered_filter p ls ordered = AllPairs-filter (λ l m. stands_before l m ≡ true) p ls ordered
+
 module _ (a b : Floor) (ls ms : List Line) (of_a : AreAllKept a ls) (of_b : AreAllKept b ms) where
   pub shared_lines : AreShared a b (filter (is_listed ms) ls)
   shared_lines = record {
@@ -104,7 +110,7 @@ module _ (a b : Floor) (ls ms : List Line) (of_a : AreAllKept a ls) (of_b : AreA
           contains_of_among (filter (is_listed ms) ls) l
           (among_filter (is_listed ms) ls l (among_of_contains ls l (of_a.all l k.0 tt)) (listed_of_among ms l (among_of_contains ms l (of_b.all l k.1 tt)))),
     );
-    ordered = AllPairs-filter (λ l m. stands_before l m ≡ true) (is_listed ms) ls of_a.ordered;
+    ordered = ordered_filter (is_listed ms) ls of_a.ordered;
   }
 
   not_listed : (l : Line) → not (is_listed ms l) ≡ true → IsKept b l → ⊥
@@ -131,17 +137,8 @@ module _ (a b : Floor) (ls ms : List Line) (of_a : AreAllKept a ls) (of_b : AreA
           contains_of_among (filter (λ l. not (is_listed ms l)) ls) l
           (among_filter (λ l. not (is_listed ms l)) ls l (among_of_contains ls l (of_a.all l k.0 tt)) (strange_listed l k.1)),
     );
-    ordered = AllPairs-filter (λ l m. stands_before l m ≡ true) (λ l. not (is_listed ms l)) ls of_a.ordered;
+    ordered = ordered_filter (λ l. not (is_listed ms l)) ls of_a.ordered;
   }
-
--- the same of lists that are read as slices
-pub shared_at : (a b : Floor) (ls ms lines others xs : List Line) → AreAllKept a ls → AreAllKept b ms → lines ≡ ls → others ≡ ms → xs ≡ filter (is_listed others) lines → AreShared a b xs
-shared_at a b ls ms lines others xs of_a of_b e f g =
-    subst (AreShared a b) (sym (g ∙ ap (λ (o : List Line). filter (is_listed o) lines) f ∙ ap (filter (is_listed ms)) e)) (shared_lines a b ls ms of_a of_b)
-
-pub alone_at : (a b : Floor) (ls ms lines others xs : List Line) → AreAllKept a ls → AreAllKept b ms → lines ≡ ls → others ≡ ms → xs ≡ filter (λ l. not (is_listed others l)) lines → AreAlone a b xs
-alone_at a b ls ms lines others xs of_a of_b e f g =
-    subst (AreAlone a b) (sym (g ∙ ap (λ (o : List Line). filter (λ l. not (is_listed o l)) lines) f ∙ ap (filter (λ l. not (is_listed ms l))) e)) (lines_alone a b ls ms of_a of_b)
 
 -- ---- the two parts of the kept lines of a floor
 
@@ -169,54 +166,22 @@ module _ (a b : Floor) (stay here : List Line) (shared : AreShared a b stay) (al
 pub distinct_shared : (a b : Floor) (stay : List Line) → AreShared a b stay → AreDistinct stay
 distinct_shared a b stay shared = distinct_ordered stay shared.ordered
 
--- ---- where a line stands in a list in order
+-- ---- the lines of an arena, in order
 
-pub parted_at : (line : Line) (ls : List Line) → AreOrdered ls → IsPartitionedBy (λ m. stands_before m line) ls
-parted_at line ls ordered = λ i j d h l e. elim (cases_lt i j) [
-  | inl k ↦ stands_through (get_or ls i d) (get_or ls j d) line (ordered i j d k l) e
-  | inr k ↦ (let same : i ≡ j = omega arith in subst (λ (n : ℕ). stands_before (get_or ls n d) line ≡ true) (sym same) e)
-]
+pub ordered_lines : (pairs : List (Line × ℕ)) → AreInOrder pairs → AreOrdered (lines_of pairs)
+ordered_lines pairs ordered =
+    pairs_of_rising (λ l m. stands_before l m ≡ true) (lines_of pairs)
+    (rising_map (λ l m. stands_before l m ≡ true) (λ e. e.0) pairs (rising_of_pairs (λ d e. stands_before d.0 e.0 ≡ true) pairs ordered))
 
--- a line that is listed stands where those before it end
-pub listed_place : (line : Line) (ls : List Line) (p : ℕ) → AreOrdered ls → AllWithin (λ m. stands_before m line ≡ true) ls 0 p → AllWithin (λ m. stands_before m line ≡ false) ls p (length ls)
-    → Contains ls line → (p < length ls) × (get_or ls p line ≡ line)
-listed_place line ls p ordered front back c =
-    by_lt c.0 p
-    (λ low. absurd (let r : stands_before line line ≡ true = subst (λ (m : Line). stands_before m line ≡ true) c.2 (front c.0 line (omega arith) low) in never_both line line r r))
-    (λ high. by_lt p c.0
-    (λ less. absurd (
-    let r : stands_before (get_or ls p line) line ≡ true = subst (λ (m : Line). stands_before (get_or ls p line) m ≡ true) c.2 (ordered p c.0 line less c.1) in
-    let s = back p line (omega arith) (omega (arith, c.1)) in
-    let both : true ≡ false = sym r ∙ s in cc))
-    (λ more. let same : c.0 ≡ p = omega arith in subst (λ (n : ℕ). (n < length ls) × (get_or ls n line ≡ line)) same (c.1, c.2)))
-  where
-    by_lt : {A : Type 0} (m n : ℕ) → (m < n → A) → (n ≤ m → A) → A
-    by_lt {A} m n f g = elim (cases_lt m n) as (λ _. A) [ inl h ↦ f h | inr h ↦ g h ]
-
-not_true : (b : Bool) → (b ≡ true → ⊥) → b ≡ false
-not_true true f = absurd (f refl)
-not_true false f = refl
-
-pub not_listed_there : (line : Line) (ls : List Line) → (Contains ls line → ⊥) → is_listed ls line ≡ false
-not_listed_there line ls none = not_true (is_listed ls line) (λ e. none (contains_of_among ls line (among_of_listed ls line e)))
-
--- the answer of a look-up at the place where those before the line end
-pub listed_answer : (line : Line) (ls : List Line) (p : ℕ) (b : Bool) → AreOrdered ls → AllWithin (λ m. stands_before m line ≡ true) ls 0 p → AllWithin (λ m. stands_before m line ≡ false) ls p (length ls)
-    → p < length ls → (IsTrue b ↔ (get_or ls p no_line ≡ line)) → b ≡ is_listed ls line
-listed_answer line ls p true ordered front back inside answer =
-    let same : get_or ls p no_line ≡ line = answer.0 (search rules) in
-    sym (listed_of_among ls line (among_of_contains ls line (subst (Contains ls) same (Contains-get_or ls p no_line inside))))
-listed_answer line ls p false ordered front back inside answer =
-    sym (not_listed_there line ls (λ c.
-    let at = listed_place line ls p ordered front back c in
-    let same : get_or ls p no_line ≡ line = get_or_default ls p no_line line inside ∙ at.1 in
-    let wrong = answer.1 same in
-    absurd (not_so wrong)))
-  where
-    not_so : IsTrue false → ⊥
-    not_so h = search rules
-
-pub past_answer : (line : Line) (ls : List Line) (p : ℕ) → AreOrdered ls → AllWithin (λ m. stands_before m line ≡ true) ls 0 p → AllWithin (λ m. stands_before m line ≡ false) ls p (length ls)
-    → length ls ≤ p → false ≡ is_listed ls line
-past_answer line ls p ordered front back outside =
-    sym (not_listed_there line ls (λ c. let at = listed_place line ls p ordered front back c in omega (arith, at.0)))
+-- they are the kept lines of the floor for which it stands
+pub kept_of_arena : (floor : Floor) (arena : Arena) (pairs : List (Line × ℕ)) → StandsFor floor arena → AreInOrder pairs → ((line : Line) (id : ℕ) → Contains pairs (line, id) ↔ (get arena.lines id ≡ Some line)) → AreAllKept floor (lines_of pairs)
+kept_of_arena floor arena pairs stands ordered listed = record {
+  kept = All-from_recursion (λ l. IsKept floor l × Unit {0}) (lines_of pairs) (among_all (λ l. IsKept floor l × Unit {0}) (lines_of pairs) (λ l a.
+      let e = among_mapped (λ (e : Line × ℕ). e.0) pairs l a in
+      let is = (listed e.0.0 e.0.1).0 (contains_of_among pairs e.0 e.1) in
+      ((stands.lines l).0 (e.0.1, is ∙ ap Some (sym e.2)), tt)));
+  all = λ l k _.
+      let has = (stands.lines l).1 k in
+      contains_of_among (lines_of pairs) l (among_map (λ (e : Line × ℕ). e.0) pairs (l, has.0) (among_of_contains pairs (l, has.0) ((listed l has.0).1 has.1)));
+  ordered = ordered_lines pairs ordered;
+}

@@ -1,11 +1,11 @@
 //! What changes from one floor to another, and the room for it.
-ghost use Rattle.std.specs.Prelude.{◌≡◌, ◌↔◌, ◌-◌, ◌≤◌, false, not, IsTrue, Contains, filter, length, IfOk, OnOk};
+ghost use Rattle.std.specs.Prelude.{◌≡◌, ◌-◌, ◌≤◌, false, length, IfOk, OnOk};
 ghost use Rattle.plane_geom.specs.Floor.{IsFloor};
 ghost use Rattle.sweep_lines.specs.Kept.{AreOrdered};
 ghost use Rattle.visibility_graph.specs.Meeting.{coming};
 ghost use Rattle.graph_repair.specs.Change.{LeadsFrom};
-ghost use Rattle.graph_repair.specs.Listed.{is_listed};
 
+use crate::compare::{Difference, compare};
 use crate::exchange::take;
 use crate::repair::Repair;
 use plane_geom::{Floor, Line};
@@ -29,11 +29,9 @@ pub fn plan(alloc: Global, graph: &mut Graph, new: &Floor) -> Result<Repair, All
     ensures new_floor { IfOk result (λ r. r.floor ≡ new.now) }
 {
     let floor = new.copy(alloc)?;
-    let old_lines = all_lines(alloc, graph.floor())?;
     let new_lines = all_lines(alloc, &floor)?;
-    let stay = shared(alloc, old_lines.as_slice(), new_lines.as_slice())?;
-    let here = alone(alloc, old_lines.as_slice(), new_lines.as_slice())?;
-    let there = alone(alloc, new_lines.as_slice(), old_lines.as_slice())?;
+    let old_lines = graph.arena().lines_in_order();
+    let Difference { stay, here, there } = compare(alloc, old_lines, new_lines.as_slice())?;
     graph.arena().laws();
     make_room(
         alloc,
@@ -50,49 +48,6 @@ pub fn plan(alloc: Global, graph: &mut Graph, new: &Floor) -> Result<Repair, All
         there,
         applied: false,
     })
-}
-
-/// The lines that stand among the others.
-fn shared(alloc: Global, lines: &[Line], others: &[Line]) -> Result<Vec<Line>, AllocError>
-    requires { AreOrdered others.now }
-    ensures { IfOk result (λ v. v.items ≡ filter (is_listed others.now) lines.now) }
-{
-    lines
-        .iter()
-        .copied()
-        .filter(|line| is_among(line, others))
-        .collect(alloc)
-}
-
-/// The lines that do not stand among the others.
-fn alone(alloc: Global, lines: &[Line], others: &[Line]) -> Result<Vec<Line>, AllocError>
-    requires { AreOrdered others.now }
-    ensures { IfOk result (λ v. v.items ≡ filter (λ l. not (is_listed others.now l)) lines.now) }
-{
-    lines
-        .iter()
-        .copied()
-        .filter(|line| !is_among(line, others))
-        .collect(alloc)
-}
-
-/// Whether the line is one of the others.
-fn is_among(line: &Line, others: &[Line]) -> bool
-    requires { AreOrdered others.now }
-    ensures { result ≡ is_listed others.now line.now }
-{
-    let place = others.partition_point(|other| other.stands_before(line));
-    if place == others.len() {
-        return false;
-    }
-    is_same(&others[place], line)
-}
-
-/// Whether the lines are one.
-fn is_same(line: &Line, other: &Line) -> bool
-    ensures { IsTrue result ↔ (line.now ≡ other.now) }
-{
-    line == other
 }
 
 /// Makes room for the lines and crossings that come, less those that go.

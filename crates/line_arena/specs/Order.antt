@@ -1,4 +1,4 @@
--- Lines with their ids, in order. No public clause cites this module.
+-- Lines with their ids, in order.
 use Rattle.std.specs.Prelude.{◌≡◌, ◌≤◌, ◌↔◌, ℕ, true, false, ◌≤ℤ◌, List, Some, AllPairs, Contains}
 use Rattle.slab.specs.Slab.{slab_len}
 use Rattle.plane_geom.specs.declared.point.Point.{Point}

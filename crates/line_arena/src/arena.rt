@@ -1,7 +1,9 @@
 //! The arena: lines and crossings under ids, linked along their lines.
-ghost use Rattle.std.specs.Prelude.{◌≡◌, ◌+◌, ◌-◌, ◌<◌, ◌≤◌, ◌↔◌, ◌≤ℤ◌, ℕ, None, Some, IsNone, IsSome, IfSome, OnOk};
+ghost use Rattle.std.specs.Prelude.{◌≡◌, ◌+◌, ◌-◌, ◌<◌, ◌≤◌, ◌↔◌, ◌≤ℤ◌, ℕ, None, Some, Contains, IsNone, IsSome, IfSome, OnOk};
 ghost use Rattle.std.specs.FinMap as map;
+ghost use Rattle.plane_geom.specs.declared.floor.Line.{Line};
 ghost use Rattle.line_arena.specs.Arena.{IsApart, IsArena, IsFirst, IsNearest, IsOn, LiesFurther, Meet, StandsAt, counted};
+ghost use Rattle.line_arena.specs.Order.{AreInOrder};
 
 use crate::entries::Entries;
 use crate::id::{CrossId, LineId};
@@ -153,6 +155,14 @@ impl LineArena {
         let (value, _) = *self.lists.lines.get(line.place());
         self.lists.remove_line(line);
         take_out(&mut self.order, &value);
+    }
+
+    /// All lines with their ids, by way, `at` and `lo`. Takes constant time.
+    pub fn lines_in_order(&self) -> &[(Line, LineId)]
+        ensures ordered { AreInOrder result.now }
+        ensures listed { (line : Line) (id : ℕ) → Contains result.now (line, id) ↔ (map.get self.now.lines id ≡ Some line) }
+    {
+        self.order.as_slice()
     }
 
     /// The id of the line, in logarithmic time. `None` where the line is not there.
