@@ -1,6 +1,5 @@
 //! A grid of lines, filled and emptied, and each public call once.
-ghost use Rattle.std.specs.Prelude.{◌≡◌, ◌<◌, pos, IfOk, ℕ, ◌<ℤ◌, Some};
-ghost use Rattle.std.specs.Option.{ForSome};
+ghost use Rattle.std.specs.Prelude.{◌≡◌, ◌<◌, Some};
 ghost use Rattle.line_arena.specs.Fixtures.{grid_line_of, grid_point_of};
 
 use crate::{CrossId, LineArena};

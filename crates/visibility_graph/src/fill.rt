@@ -1,5 +1,5 @@
 //! Lines put into an arena with all their crossings.
-ghost use Rattle.std.specs.Prelude.{◌≡◌, ◌+◌, ◌++◌, ◌≤◌, ◌<◌, ◌≤ℤ◌, ℕ, [], ◌∷◌, true, Some, Contains, filter, count_by, length};
+ghost use Rattle.std.specs.Prelude.{◌≡◌, ◌+◌, ◌++◌, ◌≤◌, ◌<◌, ◌≤ℤ◌, [], ◌∷◌, true, Some, Contains, filter, count_by};
 ghost use Rattle.std.specs.FinMap as map;
 ghost use Rattle.line_arena.specs.Arena.{IsApart};
 ghost use Rattle.line_arena.specs.Stands.{HasLine, IsComplete};

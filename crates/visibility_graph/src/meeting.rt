@@ -1,5 +1,5 @@
 //! Which lines meet, and how many.
-ghost use Rattle.std.specs.Prelude.{◌≡◌, ◌+◌, ◌≤◌, not, int_lt, true, false, filter, count_by, length, IfOk, OnOk};
+ghost use Rattle.std.specs.Prelude.{◌≡◌, ◌+◌, ◌≤◌, true, false, filter, count_by, length, IfOk, OnOk};
 ghost use Rattle.std.specs.List.{AllWithin};
 ghost use Rattle.plane_geom.specs.declared.point.Way.{Way};
 ghost use Rattle.sweep_lines.specs.Kept.{AreOrdered};
