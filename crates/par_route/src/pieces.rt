@@ -1,5 +1,5 @@
 //! Pieces of the tasks, each of which is searched in one go.
-ghost use Rattle.std.specs.Prelude.{◌≡◌, ◌<◌, ◌≤◌, All, IfOk, OnOk, IsOk, length, min};
+ghost use Rattle.std.specs.Prelude.{◌≡◌, ◌<◌, ◌≤◌, All, IfOk, OnErr, OnOk, IsOk, length, min};
 ghost use Rattle.std.specs.List.{flat_map, sum_by};
 ghost use Rattle.route_search.specs.Finds.{counted_by};
 ghost use Rattle.par_route.specs.Pieces.{AreCut, IsSearched, answers_in, piece_length, searches_in};
@@ -98,6 +98,7 @@ pub(crate) fn join(
     ensures memory { OnOk result (All (λ p. IsOk p) pieces.items) }
     ensures answers { IfOk result (λ answers. answers.items ≡ flat_map answers_in pieces.items) }
     ensures tally { OnOk result (tally.new ≡ counted_by (counted_by (sum_by searches_in pieces.items) 0) tally.old) }
+    ensures err_tally { OnErr result (tally.new ≡ tally.old) }
 {
     let mut all = Vec::new(alloc);
     let mut searches = tally.split();

@@ -1,5 +1,5 @@
 //! The answers of many tasks, by searches side by side.
-ghost use Rattle.std.specs.Prelude.{◌≡◌, ◌≤◌, All, IfOk, OnOk, length};
+ghost use Rattle.std.specs.Prelude.{◌≡◌, ◌≤◌, All, IfOk, OnErr, OnOk, length};
 ghost use Rattle.route_search.specs.Finds.{counted_by};
 ghost use Rattle.par_route.specs.Pieces.{IsSearched};
 ghost use Rattle.par_route.specs.Routes.{AreAnswers, HaveOneList, MayBeSearched};
@@ -15,6 +15,8 @@ use std::thread::Threads;
 use walk_model::{Route, Task};
 
 /// The right answers of the tasks, in order, by at most `workers` searches side by side.
+///
+/// The tally rises by the number of tasks. The only error is want of memory, where it stays.
 pub fn route_all<R: Threads + Sync, G: Gate>(
     rt: &R,
     alloc: Global,
@@ -30,6 +32,7 @@ pub fn route_all<R: Threads + Sync, G: Gate>(
     requires tasks { All (MayBeSearched arena.now solids.now) tasks.now }
     ensures answers { IfOk result (λ answers. AreAnswers solids.now tasks.now answers.items) }
     ensures tally { OnOk result (tally.new ≡ counted_by (length tasks.now) tally.old) }
+    ensures err_tally { OnErr result (tally.new ≡ tally.old) }
 {
     let pieces = cut(alloc, tasks, workers, tally)?;
     let searched = thread::map_vec(

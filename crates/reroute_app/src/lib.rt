@@ -1,7 +1,7 @@
 //! The program's runs, from the words to the bytes that are written.
 #![tactic(auto)]
 
-ghost use Rattle.std.specs.Prelude.{◌≡◌, ◌≢◌, ◌↔◌, ℕ, List, Option, None, map, string_bytes, IsSome};
+ghost use Rattle.std.specs.Prelude.{◌≡◌, ◌≢◌, ◌≤◌, ◌↔◌, ℕ, List, Option, None, map, string_bytes, IsSome};
 ghost use Rattle.host_edge.specs.Count.{NeverFalls, Rose};
 ghost use Rattle.host_edge.specs.Folder.{ToldFiles};
 ghost use Rattle.host_edge.specs.Note.{Note};
@@ -82,7 +82,10 @@ pub fn run_gated<R: Threads + Sync, F: Folder, O: Sink, G: Gate>(
     // The searches that were made, and no others, are counted.
     ensures tally { IsSome (F.files folder.old) → result ≢ Status.NoMemory → Tallies (map string_bytes words.now)
         (F.files folder.old) (F.notes folder.old) (F.notes folder.new) tally.old tally.new }
+    ensures tally_never_falls { tally.old ≤ tally.new }
 {
+    // That the count is within its limit is known from here.
+    let _count = tally.count();
     let Ok(outcome) = outcome_of(rt, alloc, words, folder, gate) else {
         return Status::NoMemory;
     };
@@ -142,6 +145,7 @@ pub fn run<R: Threads + Sync, F: Folder, O: Sink>(
     // The searches that were made, and no others, are counted.
     ensures tally { IsSome (F.files folder.old) → result ≢ Status.NoMemory → Tallies (map string_bytes words.now)
         (F.files folder.old) (F.notes folder.old) (F.notes folder.new) tally.old tally.new }
+    ensures tally_never_falls { tally.old ≤ tally.new }
 {
     run_gated(rt, alloc, words, folder, out, &OpenGate, tally)
 }

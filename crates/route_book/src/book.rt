@@ -77,6 +77,7 @@ impl Book {
         requires graph { graph.now.floor ≡ floor_of scene.now }
         ensures right { IfOk result (AreAnswers scene.now) }
         ensures tally { OnOk result (tally.new ≡ counted_by (length (connectors scene.now)) tally.old) }
+        ensures never_falls { tally.old ≤ tally.new }
     {
         let numbers = connector_numbers(alloc, scene)?;
         let searches = Searches {
@@ -121,6 +122,7 @@ impl Book {
         ensures here { IfOk result (λ c. c.here ≡ self.old) }
         ensures there { IfOk result (λ c. AreAnswers new.now c.there) }
         ensures tally { OnOk result ((numbers : List ℕ) × AreStale old.now self.old new.now numbers × (tally.new ≡ counted_by (length numbers) tally.old)) }
+        ensures never_falls { tally.old ≤ tally.new }
     {
         let _settings = old.settings();
         let connectors = connector_numbers(self.alloc, new)?;

@@ -73,7 +73,10 @@ impl<'a> Searches<'a> {
         requires connectors { All (IsConnector self.now.scene.now) numbers.now }
         ensures answers { IfOk result (AllZip (IsAnswerWith self.now.scene.now) numbers.now) }
         ensures tally { OnOk result (tally.new ≡ counted_by (length numbers.now) tally.old) }
+        ensures never_falls { tally.old ≤ tally.new }
     {
+        // That the count is within its limit is known from here.
+        let _count = tally.count();
         let tasks = self.tasks(numbers)?;
         let solids = self.graph.floor().solids.as_slice();
         let routes = route_all(

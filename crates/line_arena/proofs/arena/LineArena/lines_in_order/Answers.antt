@@ -1,5 +1,5 @@
 -- The order that is kept lists exactly the lines of the lists.
-use Rattle.std.proofs.Common.{◌≡◌, ◌∙◌, Some, sym, subst}
+use Rattle.std.proofs.Common.{◌∙◌, sym, subst}
 use Rattle.std.specs.Prelude.{Contains}
 use Rattle.line_arena.specs.Order.{AreInOrder}
 use Rattle.line_arena.proofs.ArenaLemmas.{line_in}
