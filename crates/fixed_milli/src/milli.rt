@@ -46,7 +46,7 @@ pub fn read_milli(lexeme: &[u8]) -> Result<i64, MilliFault>
 }
 
 /// Appends so many thousandths as a number of units: the whole units without leading zeros, a point
-/// and three digits. It takes any number of 64 bits, as a sum of costs may be.
+/// and three digits. It takes any number of 64 bits, more than a coordinate can be.
 ///
 /// Where memory is wanting, nothing is promised of the text.
 pub fn push_milli(text: &mut String, size: u64) -> Result<(), AllocError>

@@ -35,7 +35,7 @@ pub fn compare(
     'both: while i < old.len() && j < new.len() {
         let (line, _) = old[i];
         let other = new[j];
-        if is_same(&line, &other) {
+        if line.is_same(&other) {
             stay.push(line)?;
             i += 1;
             j += 1;
@@ -50,13 +50,6 @@ pub fn compare(
     push_lines(&mut here, &old[i..])?;
     there.extend_from_slice(&new[j..])?;
     Ok(Difference { stay, here, there })
-}
-
-/// Whether the lines are one.
-fn is_same(line: &Line, other: &Line) -> bool
-    ensures { IsTrue result ↔ (line.now ≡ other.now) }
-{
-    line == other
 }
 
 /// Appends the lines of the pairs.

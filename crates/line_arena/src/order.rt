@@ -77,18 +77,11 @@ fn at_place(lines: &[(Line, LineId)], line: &Line, place: usize) -> Option<(Line
     ensures absent { IsNone result → (id : ℕ) (there : Contains lines.now (line.now, id)) → there.0 ≢ place }
 {
     let (other, id) = lines.get(place)?;
-    if is_same(other, line) {
+    if other.is_same(line) {
         Some((*id, place))
     } else {
         None
     }
-}
-
-/// Whether the lines are one.
-fn is_same(other: &Line, line: &Line) -> bool
-    ensures { IsTrue result ↔ (other.now ≡ line.now) }
-{
-    other == line
 }
 
 /// The id of the vertical line through the point, in logarithmic time.

@@ -1,5 +1,5 @@
 //! Lines, and the floor on which the lines of a visibility graph are drawn.
-ghost use Rattle.std.specs.Prelude.{◌≡◌, ◌≤ℤ◌};
+ghost use Rattle.std.specs.Prelude.{◌≡◌, ◌↔◌, ◌≤ℤ◌, IsTrue};
 ghost use Rattle.plane_geom.specs.Floor.{Holds, IsFreePiece, IsKept, IsLongestFreePiece, AreOnOneWholeLine};
 ghost use Rattle.plane_geom.specs.Order.{stands_before};
 ghost use Rattle.plane_geom.specs.declared.floor.Floor.{Floor};
@@ -31,6 +31,13 @@ impl Line {
             (Way::Horizontal, Way::Vertical) => false,
             _ => self.at < other.at || (self.at == other.at && self.lo < other.lo),
         }
+    }
+
+    /// Whether the lines are one.
+    pub fn is_same(&self, other: &Line) -> bool
+        ensures { IsTrue result ↔ (self.now ≡ other.now) }
+    {
+        self == other
     }
 }
 
@@ -91,6 +98,7 @@ mod tests {
         for (place, first) in in_order.iter().enumerate() {
             for (other_place, second) in in_order.iter().enumerate() {
                 assert_eq!(rt; first.stands_before(second), place < other_place);
+                assert_eq!(rt; first.is_same(second), place == other_place);
             }
         }
         Ok(())
