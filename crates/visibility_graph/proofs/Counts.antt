@@ -1,6 +1,6 @@
 -- Filters of a part of a list, and counts of pairs.
 use Rattle.std.proofs.Common.{◌≡◌, pos, ℕ, zero, suc, ◌+◌, ◌<◌, ◌≤◌, Bool, true, false, not, ◌&&◌, cond, List, [], ◌∷◌, ◌++◌, length, get_or, take, drop, refl, sym, ap, subst, ◌∙◌, arith}
-use Rattle.std.specs.Prelude.{filter, sum_by, count_by}
+use Rattle.std.specs.Prelude.{All, filter, sum_by, count_by}
 use Rattle.std.specs.List.{AllWithin}
 use Rattle.std.proofs.lemmas.List.{take_more, take-append-drop}
 use Rattle.std.proofs.lemmas.List.Sums.{length-filter, sum_by-append}
@@ -11,7 +11,7 @@ use Rattle.visibility_graph.specs.Meeting.{coming, meets, pairs_by, reaches, sam
 
 module _ {X : Type 0} (p : X → Bool) where
   -- nothing passes
-  nothing : (xs : List X) → ((k : ℕ) (d : X) → k < length xs → p (get_or xs k d) ≡ false) → filter p xs ≡ []
+  pub nothing : (xs : List X) → ((k : ℕ) (d : X) → k < length xs → p (get_or xs k d) ≡ false) → filter p xs ≡ []
   nothing [] h = refl
   nothing (x ∷ xs) h =
       ap (λ b. cond b (x ∷ filter p xs) (filter p xs)) (h zero x (omega arith)) ∙ nothing xs (λ k d l. h (suc k) d (omega arith))
@@ -46,9 +46,12 @@ count_append p (x ∷ xs) ys =
     let g = count_cons p x (xs ++ ys) in
     omega arith
 
-pub count_agree : {X : Type 0} (p q : X → Bool) → ((x : X) → p x ≡ q x) → (xs : List X) → count_by p xs ≡ count_by q xs
-count_agree p q h [] = refl
-count_agree p q h (x ∷ xs) = count_cons p x xs ∙ ap (λ b. cond b 1 0 + count_by p xs) (h x) ∙ ap (λ n. cond (q x) 1 0 + n) (count_agree p q h xs) ∙ sym (count_cons q x xs)
+-- two tests that agree on each element pass as many
+pub count_agree : {X : Type 0} (p q : X → Bool) (xs : List X) → All (λ x. p x ≡ q x) xs → count_by p xs ≡ count_by q xs
+count_agree p q [] h = refl
+count_agree p q (x ∷ xs) h =
+    count_cons p x xs ∙ ap (λ b. cond b 1 0 + count_by p xs) (h zero x (omega arith))
+    ∙ ap (λ n. cond (q x) 1 0 + n) (count_agree p q xs (λ k d l. h (suc k) d (omega arith))) ∙ sym (count_cons q x xs)
 
 -- the pairs of a list with one more element behind it
 pub pairs_push : {X : Type 0} (t : X → X → Bool) (xs : List X) (y : X) → pairs_by t (xs ++ y ∷ []) ≡ pairs_by t xs + count_by (λ x. t x y) xs
@@ -88,7 +91,7 @@ meets_back l m = back_by l.way m.way l m
 pub coming_push : (xs stay : List Line) (y : Line) → coming (xs ++ y ∷ []) stay ≡ coming xs stay + (count_by (meets y) stay + count_by (meets y) xs)
 coming_push xs stay y =
     let e = pairs_push meets xs y in
-    let f = count_agree (λ x. meets x y) (meets y) (λ x. meets_back x y) xs in
+    let f = count_agree (λ x. meets x y) (meets y) xs (λ k d l. meets_back (get_or xs k d) y) in
     let g = sum_by-append (λ l. count_by (meets l) stay) xs (y ∷ []) in
     let h : sum_by (λ l. count_by (meets l) stay) (y ∷ []) ≡ count_by (meets y) stay = omega arith in
     omega arith

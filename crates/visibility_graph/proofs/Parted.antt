@@ -1,5 +1,5 @@
 -- Which lines of a list in order cannot meet a line.
-use Rattle.std.proofs.Common.{◌≡◌, ℕ, ℤ, ◌≤ℤ◌, Bool, true, false, not, ◌&&◌, inl, inr, List, get_or, refl, sym, ap, subst, arith}
+use Rattle.std.proofs.Common.{◌≡◌, ℕ, ◌<◌, ◌≤◌, ℤ, ◌≤ℤ◌, Bool, true, false, not, ◌&&◌, inl, inr, List, length, get_or, refl, sym, ap, subst, ◌∙◌, arith}
 use Rattle.std.specs.Prelude.{int_lt, ◌||◌}
 use Rattle.std.specs.Ordering.{int_eq}
 use Rattle.std.specs.List.Sorted.{IsPartitionedBy}
@@ -39,6 +39,36 @@ behind_by Horizontal Horizontal l m e = refl
 -- nor does what stands behind them
 pub not_met_behind : (l m : Line) → sorted_out l.way m.way (not (int_lt l.hi m.at)) ≡ false → meets l m ≡ false
 not_met_behind l m e = behind_by l.way m.way l m e
+
+between : (l m : Line) → int_lt m.at l.lo ≡ false → not (int_lt l.hi m.at) ≡ true → (reaches l m.at && reaches m l.at) ≡ reaches m l.at
+between l m e f = ap (λ b. (not b && not (int_lt l.hi m.at)) && reaches m l.at) e ∙ ap (λ b. b && reaches m l.at) f
+
+across_by : (v w : Way) (l m : Line) → sorted_out v w (int_lt m.at l.lo) ≡ false → sorted_out v w (not (int_lt l.hi m.at)) ≡ true → (not (same_way v w) && (reaches l m.at && reaches m l.at)) ≡ reaches m l.at
+across_by Vertical Vertical l m e f = absurd (cc)
+across_by Vertical Horizontal l m e f = between l m e f
+across_by Horizontal Vertical l m e f = between l m e f
+across_by Horizontal Horizontal l m e f = absurd (cc)
+
+-- what stands between these meets the line exactly where it reaches the line's whole line
+pub met_across : (l m : Line) → sorted_out l.way m.way (int_lt m.at l.lo) ≡ false → sorted_out l.way m.way (not (int_lt l.hi m.at)) ≡ true → meets l m ≡ reaches m l.at
+met_across l m e f = across_by l.way m.way l m e f
+
+vertical_by : (v w : Way) (rest : Bool) → way_before v w rest ≡ true → w ≡ Vertical → v ≡ Vertical
+vertical_by Vertical w rest e f = refl
+vertical_by Horizontal Vertical rest e f = absurd (cc)
+vertical_by Horizontal Horizontal rest e f = absurd (cc)
+
+-- all that stands up to a vertical line is vertical
+pub vertical_upto : (ls : List Line) (i j : ℕ) (d : Line) → AreOrdered ls → i ≤ j → j < length ls → (get_or ls j d).way ≡ Vertical → (get_or ls i d).way ≡ Vertical
+vertical_upto ls i j d ordered h l e = elim (cases_lt i j) [
+  | inl k ↦ (let x = get_or ls i d in let y = get_or ls j d in vertical_by x.way y.way (int_lt x.at y.at || (int_eq x.at y.at && int_lt x.lo y.lo)) (ordered i j d k l) e)
+  | inr k ↦ (let same : i ≡ j = omega arith in subst (λ (n : ℕ). (get_or ls n d).way ≡ Vertical) (sym same) e)
+]
+
+-- lines of one way do not meet
+pub not_met_alongside : (l m : Line) → l.way ≡ Vertical → m.way ≡ Vertical → meets l m ≡ false
+not_met_alongside l m e f =
+    ap (λ w. not (same_way w m.way) && (reaches l m.at && reaches m l.at)) e ∙ ap (λ w. not (same_way Vertical w) && (reaches l m.at && reaches m l.at)) f
 
 no_fall : (a b c d : ℤ) → (int_lt a b || (int_eq a b && int_lt c d)) ≡ true → a ≤ℤ b
 no_fall a b c d e = grind (arith, ints, Decides-int_eq a b)

@@ -8,7 +8,7 @@ ghost use Rattle.sweep_lines.specs.Kept.{AreOrdered};
 ghost use Rattle.visibility_graph.specs.Meeting.{coming, meets};
 ghost use Rattle.visibility_graph.specs.Fill.{AreLines, ArePut, AreStrange, CanPut, IsCrossed, IsUncrossed};
 
-use crate::meeting::{beside, do_meet};
+use crate::meeting::{beside, is_reached};
 use line_arena::{LineArena, LineId};
 use plane_geom::{Line, Way};
 
@@ -57,7 +57,7 @@ fn cross(arena: &mut LineArena, id: LineId, line: &Line, others: &[Line])
     // mostly behind the one before it.
     let (mut place, here) = beside(line, others);
     for other in here {
-        if do_meet(line, other) {
+        if is_reached(line, other) {
             place = put_meeting(arena, id, line, other, place);
         }
         place = place.saturating_add(1);

@@ -1,5 +1,5 @@
 //! Which lines meet, and how many.
-ghost use Rattle.std.specs.Prelude.{◌≡◌, ◌+◌, ◌≤◌, true, false, filter, count_by, length, IfOk, OnOk};
+ghost use Rattle.std.specs.Prelude.{◌≡◌, ◌+◌, ◌≤◌, true, false, not, int_lt, filter, count_by, length, All, IsTrue, IfOk, OnOk};
 ghost use Rattle.std.specs.List.{AllWithin};
 ghost use Rattle.plane_geom.specs.declared.point.Way.{Way};
 ghost use Rattle.sweep_lines.specs.Kept.{AreOrdered};
@@ -39,38 +39,43 @@ fn count_met(line: &Line, others: &[Line]) -> usize
     ensures { result ≡ count_by (meets line.now) others.now }
 {
     let (_, here) = beside(line, others);
-    here.iter().filter(|other| do_meet(line, other)).count()
+    here.iter().filter(|other| is_reached(line, other)).count()
 }
 
-/// Whether the lines run different ways and have a point in common.
-pub(crate) fn do_meet(line: &Line, other: &Line) -> bool
-    ensures { result ≡ meets line.now other.now }
+/// Whether the other runs past the line's coordinate, or ends there.
+pub(crate) fn is_reached(line: &Line, other: &Line) -> bool
+    ensures { result ≡ reaches other.now line.now.at }
 {
-    match (line.way, other.way) {
-        (Way::Vertical, Way::Vertical) | (Way::Horizontal, Way::Horizontal) => false,
-        _ => reaches(line, other.at) && reaches(other, line.at),
-    }
-}
-
-/// Whether the line runs past the coordinate along it, or ends there.
-fn reaches(line: &Line, at: i64) -> bool
-    ensures { result ≡ reaches line.now at }
-{
-    line.lo <= at && at <= line.hi
+    other.lo <= line.at && line.at <= other.hi
 }
 
 /// Those of the others that run across the line's whole line between its ends, and how many stand before them.
 ///
-/// The line meets no more of the others than of these.
+/// The line meets no more of the others than of these, and of these exactly those that reach its whole line.
 pub(crate) fn beside<'a>(line: &Line, others: &'a [Line]) -> (usize, &'a [Line])
     requires { AreOrdered others.now }
     ensures met { filter (meets line.now) result.1.now ≡ filter (meets line.now) others.now }
+    ensures across { All (λ m. meets line.now m ≡ reaches m line.now.at) result.1.now }
     ensures ordered { AreOrdered result.1.now }
 {
+    if are_alongside(line, others) {
+        return (others.len(), &[]);
+    }
     let (front, _) = others.split_at(count_upto_end(line, others));
     let before = count_before(line, front);
     let (_, here) = front.split_at(before);
     (before, here)
+}
+
+/// Whether the line and all others are vertical, which the last of them tells.
+fn are_alongside(line: &Line, others: &[Line]) -> bool
+    requires { AreOrdered others.now }
+    ensures { IsTrue result → All (λ m. meets line.now m ≡ false) others.now }
+{
+    match (line.way, others.last()) {
+        (Way::Vertical, Some(last)) => last.way == Way::Vertical,
+        _ => false,
+    }
 }
 
 /// How many of the others stand before all those that the line may meet.
@@ -78,6 +83,7 @@ fn count_before(line: &Line, others: &[Line]) -> usize
     requires { AreOrdered others.now }
     ensures bound { result ≤ length others.now }
     ensures front { AllWithin (λ m. meets line.now m ≡ false) others.now 0 result }
+    ensures rest { AllWithin (λ m. sorted_out line.now.way m.way (int_lt m.at line.now.lo) ≡ false) others.now result (length others.now) }
 {
     let (way, lo) = (line.way, line.lo);
     others.partition_point(|other| sorts_out(way, other.way, other.at < lo))
@@ -87,6 +93,7 @@ fn count_before(line: &Line, others: &[Line]) -> usize
 fn count_upto_end(line: &Line, others: &[Line]) -> usize
     requires { AreOrdered others.now }
     ensures bound { result ≤ length others.now }
+    ensures front { AllWithin (λ m. sorted_out line.now.way m.way (not (int_lt line.now.hi m.at)) ≡ true) others.now 0 result }
     ensures back { AllWithin (λ m. meets line.now m ≡ false) others.now result (length others.now) }
 {
     let (way, hi) = (line.way, line.hi);

@@ -12,3 +12,10 @@ returns-clause-front c = λ k d low high.
     let point = IsPartitionPoint-from_clause (λ m. sorted_out line.way m.way (int_lt m.at line.lo)) c.args.others.now c.partition_point.result c.partition_point.ensures.partitioned
     (parted (λ z. int_lt z line.lo) (falls_below line.lo) line.way c.args.others.now c.requires) (λ a r g h. search rules) in
     not_met_before line (get_or c.args.others.now k d) (point.0 k d low high)
+
+pub returns-clause-rest : goal.returns-clause-rest
+returns-clause-rest c =
+    let line = c.args.line.now in
+    let point = IsPartitionPoint-from_clause (λ m. sorted_out line.way m.way (int_lt m.at line.lo)) c.args.others.now c.partition_point.result c.partition_point.ensures.partitioned
+    (parted (λ z. int_lt z line.lo) (falls_below line.lo) line.way c.args.others.now c.requires) (λ a r g h. search rules) in
+    point.1
