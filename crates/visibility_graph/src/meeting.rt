@@ -1,6 +1,6 @@
 //! Which lines meet, and how many.
 ghost use Rattle.std.specs.Prelude.{◌≡◌, ◌+◌, ◌≤◌, true, false, not, int_lt, filter, count_by, length, All, IsTrue, IfOk, OnOk};
-ghost use Rattle.std.specs.List.{AllWithin};
+ghost use Rattle.std.specs.List.Sorted.{IsPartitionPoint};
 ghost use Rattle.plane_geom.specs.declared.point.Way.{Way};
 ghost use Rattle.sweep_lines.specs.Kept.{AreOrdered};
 ghost use Rattle.visibility_graph.specs.Meeting.{coming, meets, reaches, sorted_out};
@@ -82,8 +82,7 @@ fn are_alongside(line: &Line, others: &[Line]) -> bool
 fn count_before(line: &Line, others: &[Line]) -> usize
     requires { AreOrdered others.now }
     ensures bound { result ≤ length others.now }
-    ensures front { AllWithin (λ m. meets line.now m ≡ false) others.now 0 result }
-    ensures rest { AllWithin (λ m. sorted_out line.now.way m.way (int_lt m.at line.now.lo) ≡ false) others.now result (length others.now) }
+    ensures point { IsPartitionPoint (λ m. sorted_out line.now.way m.way (int_lt m.at line.now.lo) ≡ true) (λ m. sorted_out line.now.way m.way (int_lt m.at line.now.lo) ≡ false) others.now result }
 {
     let (way, lo) = (line.way, line.lo);
     others.partition_point(|other| sorts_out(way, other.way, other.at < lo))
@@ -93,8 +92,7 @@ fn count_before(line: &Line, others: &[Line]) -> usize
 fn count_upto_end(line: &Line, others: &[Line]) -> usize
     requires { AreOrdered others.now }
     ensures bound { result ≤ length others.now }
-    ensures front { AllWithin (λ m. sorted_out line.now.way m.way (not (int_lt line.now.hi m.at)) ≡ true) others.now 0 result }
-    ensures back { AllWithin (λ m. meets line.now m ≡ false) others.now result (length others.now) }
+    ensures point { IsPartitionPoint (λ m. sorted_out line.now.way m.way (not (int_lt line.now.hi m.at)) ≡ true) (λ m. sorted_out line.now.way m.way (not (int_lt line.now.hi m.at)) ≡ false) others.now result }
 {
     let (way, hi) = (line.way, line.hi);
     others.partition_point(|other| sorts_out(way, other.way, other.at <= hi))

@@ -1,112 +1,17 @@
 //! Counts of lines and crossings on small floors and a large one, and each public call once.
-ghost use Rattle.std.specs.Prelude.{◌≤◌, All, IfOk, IfSome, OnOk, length};
-ghost use Rattle.plane_geom.specs.Point.{IsCoordinate, PointIsOnSheet};
-ghost use Rattle.plane_geom.specs.Floor.{IsFloor, IsSolid};
-
 use crate::{Graph, GraphParts};
-use plane_geom::{Floor, Line, Point, Points, Rect, SHEET_END, SHEET_START, Solid, Solids, Way};
+use plane_geom::{Line, Point, SHEET_END, SHEET_START, Way};
+use small_floor::{Sides, floor_of};
 use std::alloc::{AllocError, Global};
 use std::test::Fail;
 
-/// Left, top, right and bottom.
-type Sides = (i16, i16, i16, i16);
-
-/// The number as a coordinate of the sheet.
-fn coordinate(z: i16) -> i64
-    ensures { IsCoordinate result }
-{
-    i64::from(z)
-}
-
-/// The solid, where it has an inside.
-fn solid(sides: Sides) -> Option<Solid>
-    ensures { IfSome result IsSolid }
-{
-    let (left, top) = (coordinate(sides.0), coordinate(sides.1));
-    let (right, bottom) = (coordinate(sides.2), coordinate(sides.3));
-    let rect = Rect {
-        left,
-        top,
-        right,
-        bottom,
-    };
-    if left < right && top < bottom {
-        Some(Solid { node: 0, rect })
-    } else {
-        None
-    }
-}
-
-fn add_solid(solids: &mut Vec<Solid>, sides: Sides) -> Result<(), AllocError>
-    requires few { length solids.old.items ≤ 256 }
-    requires sound { All IsSolid solids.old.items }
-    ensures few { OnOk result (length solids.new.items ≤ 256) }
-    ensures sound { OnOk result (All IsSolid solids.new.items) }
-{
-    if solids.len() == 256 {
-        return Ok(());
-    }
-    if let Some(solid) = solid(sides) {
-        solids.push(solid)?;
-    }
-    Ok(())
-}
-
-fn add_point(points: &mut Vec<Point>, place: (i16, i16)) -> Result<(), AllocError>
-    requires few { length points.old.items ≤ 256 }
-    requires within { All PointIsOnSheet points.old.items }
-    ensures few { OnOk result (length points.new.items ≤ 256) }
-    ensures within { OnOk result (All PointIsOnSheet points.new.items) }
-{
-    if points.len() == 256 {
-        return Ok(());
-    }
-    let (x, y) = (coordinate(place.0), coordinate(place.1));
-    points.push(Point { x, y })?;
-    Ok(())
-}
-
-fn solids(alloc: Global, all: &[Sides]) -> Result<Vec<Solid>, AllocError>
-    ensures few { IfOk result (λ v. length v.items ≤ 256) }
-    ensures sound { IfOk result (λ v. All IsSolid v.items) }
-{
-    let mut solids = Vec::new(alloc);
-    for sides in all {
-        add_solid(&mut solids, *sides)?;
-    }
-    Ok(solids)
-}
-
-fn points(alloc: Global, all: &[(i16, i16)]) -> Result<Vec<Point>, AllocError>
-    ensures few { IfOk result (λ v. length v.items ≤ 256) }
-    ensures within { IfOk result (λ v. All PointIsOnSheet v.items) }
-{
-    let mut points = Vec::new(alloc);
-    for place in all {
-        add_point(&mut points, *place)?;
-    }
-    Ok(points)
-}
-
-/// The first 256 of the solids and of the anchors.
-fn floor(alloc: Global, rects: &[Sides], anchors: &[(i16, i16)]) -> Result<Floor, AllocError>
-    ensures { IfOk result IsFloor }
-{
-    let solids = solids(alloc, rects)?;
-    let anchors = points(alloc, anchors)?;
-    Ok(Floor {
-        solids: Solids(solids),
-        anchors: Points(anchors),
-    })
-}
-
-fn graph(alloc: Global, rects: &[Sides], anchors: &[(i16, i16)]) -> Result<Graph, AllocError> {
-    let floor = floor(alloc, rects, anchors)?;
+fn graph(alloc: Global, rects: &[Sides], anchors: &[(i64, i64)]) -> Result<Graph, AllocError> {
+    let floor = floor_of(alloc, rects, anchors)?;
     Graph::build(alloc, &floor)
 }
 
 /// How many lines and crossings the graph has.
-fn size(alloc: Global, rects: &[Sides], anchors: &[(i16, i16)]) -> Result<u64, AllocError> {
+fn size(alloc: Global, rects: &[Sides], anchors: &[(i64, i64)]) -> Result<u64, AllocError> {
     Ok(graph(alloc, rects, anchors)?.arena().written())
 }
 
@@ -141,8 +46,8 @@ fn counts_lines_and_crossings(rt: HostRuntime) -> Result<(), Fail> {
 
 /// One of many solids in rows of sixteen, of different sizes.
 fn tile(number: u8) -> Sides {
-    let (left, top) = (i16::from(number % 16) * 40, i16::from(number / 16) * 30);
-    let (width, height) = (20 + i16::from(number % 7), 15 + i16::from(number % 5));
+    let (left, top) = (i64::from(number % 16) * 40, i64::from(number / 16) * 30);
+    let (width, height) = (20 + i64::from(number % 7), 15 + i64::from(number % 5));
     (left, top, left + width, top + height)
 }
 
@@ -152,7 +57,7 @@ fn holds_a_large_floor(rt: HostRuntime) -> Result<(), Fail> {
     let (mut rects, mut anchors) = (Vec::new(alloc), Vec::new(alloc));
     for number in 0..=255u8 {
         rects.push(tile(number))?;
-        let place = i16::from(number);
+        let place = i64::from(number);
         anchors.push((place * 100, place * 70))?;
     }
     assert_eq!(rt; size(alloc, rects.as_slice(), &[])?, 489 + 5447);

@@ -1,21 +1,13 @@
 -- Lines in order are parted at the first that the line may meet.
-use Rattle.std.proofs.Common.{get_or, rules}
+use Rattle.std.proofs.Common.{rules}
 use Rattle.std.specs.Prelude.{int_lt}
 use Rattle.std.proofs.lemmas.List.Sorted.{IsPartitionPoint-from_clause}
 use Rattle.visibility_graph.specs.Meeting.{sorted_out}
-use Rattle.visibility_graph.proofs.Parted.{falls_below, not_met_before, parted}
+use Rattle.visibility_graph.proofs.Parted.{falls_below, parted}
 use Rattle.visibility_graph.proofs.meeting.count_before.Goals as goal
 
-pub returns-clause-front : goal.returns-clause-front
-returns-clause-front c = λ k d low high.
+pub returns-clause-point : goal.returns-clause-point
+returns-clause-point c =
     let line = c.args.line.now in
-    let point = IsPartitionPoint-from_clause (λ m. sorted_out line.way m.way (int_lt m.at line.lo)) c.args.others.now c.partition_point.result c.partition_point.ensures.partitioned
-    (parted (λ z. int_lt z line.lo) (falls_below line.lo) line.way c.args.others.now c.requires) (λ a r g h. search rules) in
-    not_met_before line (get_or c.args.others.now k d) (point.0 k d low high)
-
-pub returns-clause-rest : goal.returns-clause-rest
-returns-clause-rest c =
-    let line = c.args.line.now in
-    let point = IsPartitionPoint-from_clause (λ m. sorted_out line.way m.way (int_lt m.at line.lo)) c.args.others.now c.partition_point.result c.partition_point.ensures.partitioned
-    (parted (λ z. int_lt z line.lo) (falls_below line.lo) line.way c.args.others.now c.requires) (λ a r g h. search rules) in
-    point.1
+    IsPartitionPoint-from_clause (λ m. sorted_out line.way m.way (int_lt m.at line.lo)) c.args.others.now c.partition_point.result c.partition_point.ensures.partitioned
+    (parted (λ z. int_lt z line.lo) (falls_below line.lo) line.way c.args.others.now c.requires) (λ a r g h. search rules)

@@ -1,0 +1,2 @@
+-- That the floor is one which calls accept.
+pub mod Sound

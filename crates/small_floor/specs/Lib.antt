@@ -1,0 +1,2 @@
+-- A floor made of plain numbers.
+pub mod Small

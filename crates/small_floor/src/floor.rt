@@ -1,0 +1,141 @@
+//! The floor of a few rectangles and anchors.
+ghost use Rattle.std.specs.Prelude.{◌≡◌, ◌≤◌, IfOk, filter_map, length, map, take};
+ghost use Rattle.plane_geom.specs.Floor.{IsFloor};
+ghost use Rattle.small_floor.specs.Small.{floor_of, on_sheet, point_of, solid_of};
+
+use plane_geom::{Floor, Point, Points, Rect, SHEET_END, SHEET_START, Solid, Solids};
+use std::alloc::{AllocError, Global};
+
+/// Left, top, right and bottom, in thousandths.
+pub type Sides = (i64, i64, i64, i64);
+
+// So many rectangles and anchors are read.
+const MOST: usize = 256;
+
+/// The floor of the rectangles that have an inside, in their order, and of the anchors, each by its x and y.
+///
+/// Of each the first 256 are read. A number beyond the sheet stands for the end of the sheet that is nearest to it.
+/// Each solid is of node 0. The only error is want of memory.
+pub fn floor_of(alloc: Global, rects: &[Sides], anchors: &[(i64, i64)]) -> Result<Floor, AllocError>
+    ensures floor { IfOk result (λ f. f ≡ floor_of rects.now anchors.now) }
+    ensures sound { IfOk result IsFloor }
+{
+    let solids = solids_of(alloc, first(rects))?;
+    let anchors = points_of(alloc, first(anchors))?;
+    Ok(Floor {
+        solids: Solids(solids),
+        anchors: Points(anchors),
+    })
+}
+
+/// The first so many.
+fn first<T>(all: &[T]) -> &[T]
+    ensures { result.now ≡ take 256 all.now }
+{
+    let (first, _) = all.split_at(MOST.min(all.len()));
+    first
+}
+
+fn solids_of(alloc: Global, rects: &[Sides]) -> Result<Vec<Solid>, AllocError>
+    ensures { IfOk result (λ v. v.items ≡ filter_map solid_of rects.now) }
+{
+    let mut solids = Vec::new(alloc);
+    for sides in rects {
+        if let Some(solid) = solid(*sides) {
+            solids.push(solid)?;
+        }
+    }
+    Ok(solids)
+}
+
+/// The solid, where it has an inside.
+fn solid(sides: Sides) -> Option<Solid>
+    ensures { result ≡ solid_of sides }
+{
+    let (left, top) = (on_sheet(sides.0), on_sheet(sides.1));
+    let (right, bottom) = (on_sheet(sides.2), on_sheet(sides.3));
+    let rect = Rect {
+        left,
+        top,
+        right,
+        bottom,
+    };
+    if left < right && top < bottom {
+        Some(Solid { node: 0, rect })
+    } else {
+        None
+    }
+}
+
+fn points_of(alloc: Global, places: &[(i64, i64)]) -> Result<Vec<Point>, AllocError>
+    ensures { IfOk result (λ v. v.items ≡ map point_of places.now) }
+{
+    places.iter().map(|place| point(*place)).collect(alloc)
+}
+
+fn point(place: (i64, i64)) -> Point
+    ensures { result ≡ point_of place }
+{
+    Point {
+        x: on_sheet(place.0),
+        y: on_sheet(place.1),
+    }
+}
+
+/// The number, or the end of the sheet that is nearest to it.
+fn on_sheet(z: i64) -> i64
+    ensures { result ≡ on_sheet z }
+{
+    z.max(SHEET_START).min(SHEET_END)
+}
+
+#[cfg(test)]
+mod tests {
+    use super::*;
+    use std::test::Fail;
+
+    fn solid_at(left: i64, top: i64, right: i64, bottom: i64) -> Solid {
+        let rect = Rect {
+            left,
+            top,
+            right,
+            bottom,
+        };
+        Solid { node: 0, rect }
+    }
+
+    #[test]
+    fn reads_what_has_an_inside(rt: HostRuntime) -> Result<(), Fail> {
+        let rects = [
+            (0, 1, 2, 3),
+            (5, 0, 5, 9),
+            (0, 7, 9, 6),
+            (i64::MIN, -1, i64::MAX, 1),
+        ];
+        let anchors = [(-4, 8), (i64::MAX, i64::MIN)];
+        let floor = floor_of(rt.alloc(), &rects, &anchors)?;
+        let solids = [
+            solid_at(0, 1, 2, 3),
+            solid_at(SHEET_START, -1, SHEET_END, 1),
+        ];
+        assert_eq!(rt; floor.solids.as_slice(), solids.as_slice());
+        let corner = Point {
+            x: SHEET_END,
+            y: SHEET_START,
+        };
+        let points = [Point { x: -4, y: 8 }, corner];
+        assert_eq!(rt; floor.anchors.as_slice(), points.as_slice());
+        Ok(())
+    }
+
+    #[test]
+    fn reads_the_first_256(rt: HostRuntime) -> Result<(), Fail> {
+        let alloc = rt.alloc();
+        let rects = vec![in alloc; (0, 0, 1, 1); 300]?;
+        let anchors = vec![in alloc; (0, 0); 70000]?;
+        let floor = floor_of(alloc, rects.as_slice(), anchors.as_slice())?;
+        assert_eq!(rt; floor.solids.as_slice().len(), 256);
+        assert_eq!(rt; floor.anchors.as_slice().len(), 256);
+        Ok(())
+    }
+}
