@@ -70,15 +70,15 @@ module _ (way : Way) (at : ℤ) (solids : List Solid) (ss : List Span) (long : (
 abbrev pub Reason : Floor → Line → Type 0
 Reason floor l = ((l.lo <ℤ l.hi) × Any (λ s. SharesSide l s.rect) floor.solids) ⊎ Any (Holds l) floor.anchors
 
-and_left : (a b : Bool) → (a && b) ≡ true → a ≡ true
+pub and_left : (a b : Bool) → (a && b) ≡ true → a ≡ true
 and_left true b e = refl
 and_left false b e = absurd (cc)
 
-and_right : (a b : Bool) → (a && b) ≡ true → b ≡ true
+pub and_right : (a b : Bool) → (a && b) ≡ true → b ≡ true
 and_right true b e = e
 and_right false b e = absurd (cc)
 
-and_both : (a b : Bool) → a ≡ true → b ≡ true → (a && b) ≡ true
+pub and_both : (a b : Bool) → a ≡ true → b ≡ true → (a && b) ≡ true
 and_both true b e f = f
 and_both false b e f = absurd (cc)
 
@@ -94,10 +94,10 @@ or_second : (a b : Bool) → b ≡ true → (a || b) ≡ true
 or_second true b e = refl
 or_second false b e = e
 
-not_lt : (a b : ℤ) → not (int_lt a b) ≡ true → b ≤ℤ a
+pub not_lt : (a b : ℤ) → not (int_lt a b) ≡ true → b ≤ℤ a
 not_lt a b e = grind (arith, ints)
 
-lt_not : (a b : ℤ) → b ≤ℤ a → not (int_lt a b) ≡ true
+pub lt_not : (a b : ℤ) → b ≤ℤ a → not (int_lt a b) ≡ true
 lt_not a b h = grind (arith, ints)
 
 lt_told : (a b : ℤ) → int_lt a b ≡ true → a <ℤ b

@@ -1,5 +1,5 @@
 -- The gaps that a mark keeps, on a whole line of which the marks and the spans are known, are its kept lines in order.
-use Rattle.std.proofs.Common.{◌≡◌, ◌⊎◌, inl, inr, ℕ, ℤ, ◌≤ℤ◌, ◌<ℤ◌, Bool, true, Some, List, [], ◌∷◌, ◌++◌, get_or, refl, sym, ap, subst, ◌∙◌, arith, All, Contains}
+use Rattle.std.proofs.Common.{◌≡◌, ◌⊎◌, inl, inr, ℕ, ℤ, ◌≤ℤ◌, ◌<ℤ◌, Bool, true, not, Some, List, [], ◌∷◌, ◌++◌, get_or, refl, sym, ap, subst, arith, All, Contains}
 use Rattle.std.specs.Prelude.{filter, slice_get, int_lt, ◌||◌, ◌&&◌}
 use Rattle.std.specs.Ordering.{int_eq}
 use Rattle.std.specs.List.{AllByRecursion, list_any}
@@ -8,11 +8,12 @@ use Rattle.std.proofs.lemmas.Bool.Decides.{Decides-int_eq}
 use Rattle.std.proofs.lemmas.List.Elements.{All-from_recursion, All-contains, All-append, All-weaker, Contains-get_or, Contains-append_left, Contains-append_right}
 use Rattle.plane_geom.specs.declared.point.Way.{Way}
 use Rattle.plane_geom.specs.declared.point.Way.TheVariants.{Vertical, Horizontal}
+use Rattle.plane_geom.specs.declared.rect.Rect.{Rect}
 use Rattle.plane_geom.specs.declared.rect.Solid.{Solid}
 use Rattle.plane_geom.specs.declared.floor.Line.{Line}
 use Rattle.plane_geom.specs.declared.floor.Floor.{Floor}
-use Rattle.plane_geom.specs.Point.{IsCoordinate, sheet_start}
-use Rattle.plane_geom.specs.Floor.{IsKept, IsFloor, IsSolid}
+use Rattle.plane_geom.specs.Point.{IsCoordinate, sheet_start, sheet_end}
+use Rattle.plane_geom.specs.Floor.{IsKept, IsFloor, IsSolid, first_side, last_side}
 use Rattle.interval_index.specs.declared.span.Span.{Span}
 use Rattle.interval_index.specs.Index.{IsListed}
 use Rattle.sweep_lines.specs.declared.bar.Bar.{Bar}
@@ -21,12 +22,12 @@ use Rattle.sweep_lines.specs.Bars.{bar_of, bars_of}
 use Rattle.sweep_lines.specs.Gaps.{Piece, gaps}
 use Rattle.sweep_lines.specs.Marks.{marks_of, keeps, line_of, kept_gaps, AreAt}
 use Rattle.sweep_lines.specs.Open.{AreSpansOf, IsCrossed, AreOpen, HasLength}
-use Rattle.sweep_lines.specs.Kept.{AreKept, AreAllKept}
+use Rattle.sweep_lines.specs.Kept.{AreKept, AreAllKept, IsBetween, is_between, is_near}
 use Rattle.plane_geom.specs.Order.{stands_before, way_before}
 use Rattle.sweep_lines.proofs.Members.{Among, among_of_contains, contains_of_among, all_among, among_all, among_filter, among_filtered, among_map, among_mapped, Rising, rising_filter, rising_map, rising_joined, rising_of_pairs, pairs_of_rising, among_number, number_mapped}
 use Rattle.sweep_lines.proofs.Gaps.{Rise, IsGap, AreApart}
 use Rattle.sweep_lines.proofs.Longest.{are_gaps, apart, longest_of_gap, gap_of_longest}
-use Rattle.sweep_lines.proofs.KeptAt.{rise_of_listed, are_open, reason_of_keeps, keeps_of_reason}
+use Rattle.sweep_lines.proofs.KeptAt.{rise_of_listed, are_open, reason_of_keeps, keeps_of_reason, and_left, and_right, and_both, not_lt, lt_not}
 
 -- the bar lies on the sheet, and has a length both ways
 pub record IsSound (b : Bar) : Type 0 where
@@ -111,31 +112,42 @@ module _ (floor : Floor) (way : Way) (at : ℤ) (here : List Mark) (ss : List Sp
     ordered = pairs_of_rising (λ l m. stands_before l m ≡ true) (kept_gaps way at here ss) in_order;
   }
 
--- the marks that stand at a coordinate
-pub marks_at : (at : ℤ) (marks : List Mark) → AreAt at marks (filter (λ m. int_eq m.at at) marks)
-marks_at at marks = record {
-  each = λ m c. let f = among_filtered (λ (m : Mark). int_eq m.at at) marks m (among_of_contains _ m c) in (contains_of_among marks m f.0, (Decides-int_eq m.at at).0 f.1);
-  all = λ m c e. contains_of_among _ m (among_filter (λ (m : Mark). int_eq m.at at) marks m (among_of_contains marks m c) ((Decides-int_eq m.at at).1 e));
-}
-
 pub long_bars : (way : Way) (solids : List Solid) → All IsSolid solids → All (λ b. HasLength b.lo b.hi) (bars_of way solids)
 long_bars way solids all = λ k d l.
     let r = among_number (bars_of way solids) (get_or (bars_of way solids) k d) (among_of_contains _ _ (Contains-get_or (bars_of way solids) k d l)) in
     (sound_bars way solids all r.0 (get_or (bars_of way solids) k d) r.1).along
 
+-- where the same is asked of kept lines in other words, they are the same
+pub asked_alike : (floor : Floor) (Is Becomes : Line → Type 0) (ls : List Line) → ((l : Line) → IsKept floor l → Is l → Becomes l) → ((l : Line) → Becomes l → Is l) →
+    AreKept floor Is ls → AreKept floor Becomes ls
+asked_alike floor Is Becomes ls f g a = record {
+  kept = All-weaker (λ l. IsKept floor l × Is l) (λ l. IsKept floor l × Becomes l) (λ l h. (h.0, f l h.0 h.1)) ls a.kept;
+  all = λ l k h. a.all l k (g l h);
+  ordered = a.ordered;
+}
+
+-- whether a number is between others
+pub between_told : (first last z : ℤ) → is_between first last z ≡ true → (first ≤ℤ z) × (z ≤ℤ last)
+between_told first last z e =
+    let a = not (int_lt z first) in
+    let b = not (int_lt last z) in
+    (not_lt z first (and_left a b e), not_lt last z (and_right a b e))
+
+pub between_tells : (first last z : ℤ) → first ≤ℤ z → z ≤ℤ last → is_between first last z ≡ true
+between_tells first last z h k = and_both (not (int_lt z first)) (not (int_lt last z)) (lt_not z first h) (lt_not last z k)
+
+pub near_told : (near : Rect) (l : Line) → is_near near l ≡ true → IsBetween l.way (first_side l.way near) (last_side l.way near) l
+near_told near l e = let h = between_told (first_side l.way near) (last_side l.way near) l.at e in record { way_is = refl; from = h.0; to = h.1 }
+
+pub near_tells : (near : Rect) (way : Way) (l : Line) → IsBetween way (first_side way near) (last_side way near) l → is_near near l ≡ true
+near_tells near way l b =
+    subst (λ w. is_between (first_side w near) (last_side w near) l.at ≡ true) (sym b.way_is) (between_tells (first_side way near) (last_side way near) l.at b.from b.to)
+
 -- what `lines_at` has at its end
-pub line_is_kept : (floor : Floor) (way w : Way) (at z : ℤ) (bars : List Bar) (all here : List Mark) (ss : List Span) (lines : List Line) → IsFloor floor → IsCoordinate at → w ≡ way → z ≡ at →
-    bars ≡ bars_of way floor.solids → all ≡ marks_of way bars floor.anchors → here ≡ filter (λ m. int_eq m.at z) all → AreSpansOf bars (IsCrossed z) ss → IsListed ss →
-    lines ≡ kept_gaps w z here ss → AreKept floor (λ l. (l.way ≡ way) × (l.at ≡ at)) lines
-line_is_kept floor way w at z bars all here ss lines is on ew ez eb ea eh spans listed el =
-    let marks = marks_of way (bars_of way floor.solids) floor.anchors in
-    let same : all ≡ marks = ea ∙ ap (λ bs. marks_of way bs floor.anchors) eb in
-    let stay : here ≡ filter (λ m. int_eq m.at at) marks = eh ∙ ap (λ z. filter (λ (m : Mark). int_eq m.at z) all) ez ∙ ap (filter (λ (m : Mark). int_eq m.at at)) same in
-    let are : AreAt at marks here = subst (AreAt at marks) (sym stay) (marks_at at marks) in
-    let crossed_spans : AreSpansOf (bars_of way floor.solids) (IsCrossed at) ss =
-    subst (λ z. AreSpansOf (bars_of way floor.solids) (IsCrossed z) ss) ez (subst (λ bs. AreSpansOf bs (IsCrossed z) ss) eb spans) in
-    subst (AreKept floor (λ l. (l.way ≡ way) × (l.at ≡ at))) (sym (el ∙ ap (λ w. kept_gaps w z here ss) ew ∙ ap (λ z. kept_gaps way z here ss) ez))
-    (kept_lines floor way at here ss is on are crossed_spans listed)
+pub on_one_line : (floor : Floor) (way : Way) (at : ℤ) (ls : List Line) → AreKept floor (IsBetween way at at) ls → AreKept floor (λ l. (l.way ≡ way) × (l.at ≡ at)) ls
+on_one_line floor way at ls = asked_alike floor (IsBetween way at at) (λ l. (l.way ≡ way) × (l.at ≡ at)) ls
+    (λ l k b. (b.way_is, omega (arith, ints, b.from, b.to)))
+    (λ l h. let e = h.1 in record { way_is = h.0; from = omega (arith, ints); to = omega (arith, ints) })
 
 -- vertical lines, then horizontal ones
 way_told : (w : Way) → (w ≡ Vertical) ⊎ (w ≡ Horizontal)
@@ -147,16 +159,38 @@ upright_first Vertical Vertical rest e f = absurd (cc)
 upright_first Vertical Horizontal rest e f = refl
 upright_first Horizontal w rest e f = absurd (cc)
 
-pub both_ways : (floor : Floor) (ls ms : List Line) → AreKept floor (λ l. l.way ≡ Vertical) ls → AreKept floor (λ l. l.way ≡ Horizontal) ms → AreAllKept floor (ls ++ ms)
-both_ways floor ls ms a b =
+pub both_ways : (floor : Floor) (near : Rect) (ls ms : List Line) → AreKept floor (IsBetween Vertical near.left near.right) ls → AreKept floor (IsBetween Horizontal near.top near.bottom) ms →
+    AreKept floor (λ l. is_near near l ≡ true) (ls ++ ms)
+both_ways floor near ls ms a b =
     record {
-      kept = All-append (λ l. IsKept floor l × Unit {0}) ls ms
-          (All-weaker (λ l. IsKept floor l × (l.way ≡ Vertical)) (λ l. IsKept floor l × Unit {0}) (λ l h. (h.0, tt)) ls a.kept)
-          (All-weaker (λ l. IsKept floor l × (l.way ≡ Horizontal)) (λ l. IsKept floor l × Unit {0}) (λ l h. (h.0, tt)) ms b.kept);
-      all = λ l k w. elim (way_told l.way) [ inl e ↦ Contains-append_left ls ms l (a.all l k e) | inr e ↦ Contains-append_right ls ms l (b.all l k e) ];
+      kept = All-append (λ l. IsKept floor l × (is_near near l ≡ true)) ls ms
+          (All-weaker (λ l. IsKept floor l × IsBetween Vertical near.left near.right l) (λ l. IsKept floor l × (is_near near l ≡ true)) (λ l h. (h.0, near_tells near Vertical l h.1)) ls a.kept)
+          (All-weaker (λ l. IsKept floor l × IsBetween Horizontal near.top near.bottom l) (λ l. IsKept floor l × (is_near near l ≡ true)) (λ l h. (h.0, near_tells near Horizontal l h.1)) ms b.kept);
+      all = λ l k w.
+          let between = near_told near l w in
+          elim (way_told l.way) [
+            | inl e ↦ Contains-append_left ls ms l (a.all l k (subst (λ v. IsBetween v (first_side v near) (last_side v near) l) e between))
+            | inr e ↦ Contains-append_right ls ms l (b.all l k (subst (λ v. IsBetween v (first_side v near) (last_side v near) l) e between))
+          ];
       ordered = pairs_of_rising (λ l m. stands_before l m ≡ true) (ls ++ ms)
           (rising_joined (λ l m. stands_before l m ≡ true) ls ms (rising_of_pairs _ ls a.ordered) (rising_of_pairs _ ms b.ordered)
           (λ l m i j. upright_first l.way m.way _
-          (All-contains (λ l. IsKept floor l × (l.way ≡ Vertical)) ls l a.kept (contains_of_among ls l i)).1
-          (All-contains (λ l. IsKept floor l × (l.way ≡ Horizontal)) ms m b.kept (contains_of_among ms m j)).1));
+          (All-contains (λ l. IsKept floor l × IsBetween Vertical near.left near.right l) ls l a.kept (contains_of_among ls l i)).1.way_is
+          (All-contains (λ l. IsKept floor l × IsBetween Horizontal near.top near.bottom l) ms m b.kept (contains_of_among ms m j)).1.way_is));
     }
+
+-- the whole sheet
+abbrev pub sheet : Rect
+sheet = record { left = sheet_start; top = sheet_start; right = sheet_end; bottom = sheet_end }
+
+between_ends : (way : Way) (l : Line) → l.way ≡ way → IsCoordinate l.at → IsBetween way (first_side way sheet) (last_side way sheet) l
+between_ends Vertical l e on = record { way_is = e; from = on.low; to = on.high }
+between_ends Horizontal l e on = record { way_is = e; from = on.low; to = on.high }
+
+-- each kept line is near the whole sheet
+pub on_whole_sheet : (floor : Floor) (ls : List Line) → AreKept floor (λ l. is_near sheet l ≡ true) ls → AreAllKept floor ls
+on_whole_sheet floor ls a = record {
+  kept = All-weaker (λ l. IsKept floor l × (is_near sheet l ≡ true)) (λ l. IsKept floor l × Unit {0}) (λ l h. (h.0, tt)) ls a.kept;
+  all = λ l k _. a.all l k (near_tells sheet l.way l (between_ends l.way l refl k.longest.piece.at));
+  ordered = a.ordered;
+}

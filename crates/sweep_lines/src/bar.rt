@@ -1,7 +1,7 @@
 //! Solids as lines of one way see them.
 ghost use Rattle.std.specs.Prelude.{◌≡◌, ◌≤◌, All, IfOk, length};
 ghost use Rattle.sweep_lines.specs.Bars.{bar_of, bars_of};
-ghost use Rattle.sweep_lines.specs.Open.{AreSpansOf, HasLength, IsCrossed};
+ghost use Rattle.sweep_lines.specs.Open.{AreSpansOf, HasBegun, HasLength};
 
 use interval_index::{IntervalIndex, Span};
 use plane_geom::{Axis, Floor, Point, Rect};
@@ -20,11 +20,11 @@ impl Bar {
     ghost use Rattle.std.specs.Prelude.{IsTrue, ◌↔◌};
     ghost use Rattle.sweep_lines.specs.Open.{span_of};
 
-    /// Whether the whole line at the coordinate runs through the inside.
-    fn is_crossed(&self, at: i64) -> bool
-        ensures { IsTrue result ↔ IsCrossed at self.now }
+    /// Whether it has begun before the coordinate, and ends there or later.
+    fn has_begun(&self, at: i64) -> bool
+        ensures { IsTrue result ↔ HasBegun at self.now }
     {
-        self.begin < at && at < self.end
+        self.begin < at && at <= self.end
     }
 
     /// Where the bar lies along, under a number.
@@ -69,15 +69,15 @@ fn bar_along<A: Axis>(rect: &Rect) -> Bar
     }
 }
 
-/// The spans of the bars that the whole line at the coordinate crosses, each under the bar's number.
-pub fn crossed(alloc: Global, bars: &[Bar], at: i64) -> Result<IntervalIndex, AllocError>
+/// The spans of the bars that are open when a sweep comes to the coordinate, each under the bar's number.
+pub fn open_before(alloc: Global, bars: &[Bar], at: i64) -> Result<IntervalIndex, AllocError>
     requires few { length bars.now ≤ 256 }
     requires lengths { All (λ b. HasLength b.lo b.hi) bars.now }
-    ensures { IfOk result (AreSpansOf bars.now (IsCrossed at)) }
+    ensures { IfOk result (AreSpansOf bars.now (HasBegun at)) }
 {
     let mut index = IntervalIndex::new(alloc);
     for (number, bar) in bars.iter().enumerate() {
-        if bar.is_crossed(at) {
+        if bar.has_begun(at) {
             index.insert(bar.span(number as u32))?;
         }
     }

@@ -7,7 +7,7 @@ mod bar;
 mod mark;
 mod sweep;
 
-pub use sweep::{all_lines, lines_at, one_list_of_kept_lines};
+pub use sweep::{all_lines, lines_at, lines_near, one_list_of_kept_lines};
 
 #[cfg(test)]
 mod tests;

@@ -27,7 +27,7 @@ pub struct Mark {
 }
 
 impl Mark {
-    ghost use Rattle.std.specs.Ordering.{int_eq};
+    ghost use Rattle.sweep_lines.specs.Kept.{is_between};
     ghost use Rattle.sweep_lines.specs.Marks.{begin_mark, begun_span, end_mark};
 
     /// The side with which the bar of this number begins.
@@ -80,11 +80,11 @@ impl Mark {
         }
     }
 
-    /// Whether it stands at the coordinate.
-    pub fn stands_at(&self, at: i64) -> bool
-        ensures { result ≡ int_eq self.now.at at }
+    /// Whether it stands from one coordinate to another.
+    pub fn stands_between(&self, from: i64, to: i64) -> bool
+        ensures { result ≡ is_between from to self.now.at }
     {
-        self.at == at
+        from <= self.at && self.at <= to
     }
 
     /// Whether the free piece of its whole line is kept for its sake.

@@ -1,6 +1,5 @@
 //! The two sweeps: marks by rising coordinate, with the spans of the solids that are open across it.
-ghost use Rattle.std.specs.Prelude.{◌≡◌, ◌≤◌, ◌++◌, false, not, ◌&&◌, ℕ, List, [], length, filter, All, AllPairs, Any, Contains, Some, IfOk, OnOk, count_by, ◌≤ℤ◌, ◌<ℤ◌};
-ghost use Rattle.std.specs.Ordering.{int_eq};
+ghost use Rattle.std.specs.Prelude.{◌≡◌, ◌≤◌, ◌++◌, false, true, not, ◌&&◌, ℕ, List, [], length, filter, All, AllPairs, Any, Contains, Some, IfOk, OnOk, count_by, ◌≤ℤ◌, ◌<ℤ◌};
 ghost use Rattle.std.specs.List.{AllWithin, list_any};
 ghost use Rattle.interval_index.specs.declared.span.Span.{Span};
 ghost use Rattle.interval_index.specs.Index.{IsListed};
@@ -10,12 +9,12 @@ ghost use Rattle.plane_geom.specs.Point.{IsCoordinate};
 ghost use Rattle.plane_geom.specs.Floor.{IsFloor};
 ghost use Rattle.sweep_lines.specs.Marks.{begins, begun_span, ends, keeps, kept_gaps, kept_one};
 ghost use Rattle.sweep_lines.specs.Open.{AreOpened, AreSpansOf, HasLength, IsCrossed};
-ghost use Rattle.sweep_lines.specs.Kept.{AreAllKept, AreKept};
+ghost use Rattle.sweep_lines.specs.Kept.{AreAllKept, AreKept, IsBetween, is_between, is_near};
 
-use crate::bar::{Bar, bars, crossed};
+use crate::bar::{Bar, bars, open_before};
 use crate::mark::{Kind, Mark, marks, put_in_order};
 use interval_index::IntervalIndex;
-use plane_geom::{Axis, Floor, Line, SHEET_END, SHEET_START, Way, XAxis, YAxis};
+use plane_geom::{Axis, Floor, Line, Rect, SHEET_END, SHEET_START, Way, XAxis, YAxis};
 use std::alloc::{AllocError, Global};
 
 /// The kept lines on one whole line, by rising `lo`.
@@ -41,9 +40,27 @@ pub fn all_lines(alloc: Global, floor: &Floor) -> Result<Vec<Line>, AllocError>
     requires floor { IsFloor floor.now }
     ensures { IfOk result (λ ls. AreAllKept floor.now ls.items) }
 {
+    let sheet = Rect {
+        left: SHEET_START,
+        top: SHEET_START,
+        right: SHEET_END,
+        bottom: SHEET_END,
+    };
+    lines_near(alloc, floor, &sheet)
+}
+
+/// The kept lines whose coordinate is from the one to the other side of the rectangle across them, in the order of
+/// `all_lines`.
+///
+/// Sweeps only the sides and anchors that lie there, from the solids that are open where it begins. The rectangle, in
+/// thousandths, may reach past the sheet. The only error is want of memory.
+pub fn lines_near(alloc: Global, floor: &Floor, near: &Rect) -> Result<Vec<Line>, AllocError>
+    requires floor { IsFloor floor.now }
+    ensures { IfOk result (λ ls. AreKept floor.now (λ l. is_near near.now l ≡ true) ls.items) }
+{
     let mut lines = Vec::new(alloc);
-    sweep::<XAxis>(alloc, floor, &mut lines)?;
-    sweep::<YAxis>(alloc, floor, &mut lines)?;
+    sweep::<XAxis>(alloc, floor, near.left, near.right, &mut lines)?;
+    sweep::<YAxis>(alloc, floor, near.top, near.bottom, &mut lines)?;
     Ok(lines)
 }
 
@@ -54,44 +71,32 @@ pub fn one_list_of_kept_lines()
 
 /// The kept lines of the axis on one whole line.
 fn lines_on<A: Axis>(alloc: Global, floor: &Floor, at: i64) -> Result<Vec<Line>, AllocError>
-    requires floor { IsFloor floor.now }
-    requires within { IsCoordinate at }
+    requires { IsFloor floor.now }
     ensures { IfOk result (λ ls. AreKept floor.now (λ l. (l.way ≡ A.way_of) × (l.at ≡ at)) ls.items) }
 {
-    let bars = bars::<A>(alloc, floor)?;
-    let mut here = marks::<A>(alloc, bars.as_slice(), floor)?;
-    keep_at(&mut here, at);
-    let index = crossed(alloc, bars.as_slice(), at)?;
     let mut lines = Vec::new(alloc);
-    push_kept(
-        A::way(),
-        at,
-        bars.as_slice(),
-        &index,
-        here.as_slice(),
-        &mut lines,
-    )?;
+    sweep::<A>(alloc, floor, at, at, &mut lines)?;
     Ok(lines)
 }
 
-/// Keeps the marks that stand at the coordinate.
-fn keep_at(marks: &mut Vec<Mark>, at: i64)
-    ensures { marks.new.items ≡ filter (λ m. int_eq m.at at) marks.old.items }
-{
-    marks.retain(|mark| mark.stands_at(at));
-}
-
-/// Appends the kept lines of the axis.
+/// Appends the kept lines of the axis from one coordinate to another.
 ///
 /// The index holds the spans of the solids that are open across the sweep's coordinate.
-fn sweep<A: Axis>(alloc: Global, floor: &Floor, lines: &mut Vec<Line>) -> Result<(), AllocError>
+fn sweep<A: Axis>(
+    alloc: Global,
+    floor: &Floor,
+    from: i64,
+    to: i64,
+    lines: &mut Vec<Line>,
+) -> Result<(), AllocError>
     requires { IsFloor floor.now }
-    ensures { OnOk result ((ls : List Line) × AreKept floor.now (λ l. l.way ≡ A.way_of) ls × (lines.new.items ≡ lines.old.items ++ ls)) }
+    ensures { OnOk result ((ls : List Line) × AreKept floor.now (IsBetween A.way_of from to) ls × (lines.new.items ≡ lines.old.items ++ ls)) }
 {
     let bars = bars::<A>(alloc, floor)?;
     let mut marks = marks::<A>(alloc, bars.as_slice(), floor)?;
+    keep_between(&mut marks, from, to);
     put_in_order(&mut marks)?;
-    let mut index = IntervalIndex::new(alloc);
+    let mut index = open_before(alloc, bars.as_slice(), from)?;
     let mut rest = marks.as_slice();
     while let Some(first) = rest.first() {
         let at = first.at;
@@ -102,6 +107,13 @@ fn sweep<A: Axis>(alloc: Global, floor: &Floor, lines: &mut Vec<Line>) -> Result
         rest = later;
     }
     Ok(())
+}
+
+/// Keeps the marks that stand from one coordinate to another.
+fn keep_between(marks: &mut Vec<Mark>, from: i64, to: i64)
+    ensures { marks.new.items ≡ filter (λ m. is_between from to m.at) marks.old.items }
+{
+    marks.retain(|mark| mark.stands_between(from, to));
 }
 
 /// How many of the marks, which rise by coordinate, stand at the coordinate or before it.

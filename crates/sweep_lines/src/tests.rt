@@ -1,9 +1,9 @@
-//! The worked rows, one whole line against all, and a floor of many solids.
+//! The worked rows, one whole line and parts of the sheet against all, and a floor of many solids.
 ghost use Rattle.std.specs.Prelude.{◌≤◌, All, IfOk, IfSome, OnOk, length};
 ghost use Rattle.plane_geom.specs.Point.{IsCoordinate, PointIsOnSheet};
 ghost use Rattle.plane_geom.specs.Floor.{IsFloor, IsSolid};
 
-use crate::{all_lines, lines_at};
+use crate::{all_lines, lines_at, lines_near};
 use plane_geom::{Floor, Line, Point, Points, Rect, SHEET_END, SHEET_START, Solid, Solids, Way};
 use std::alloc::{AllocError, Global};
 use std::test::Fail;
@@ -202,14 +202,101 @@ fn finds_on_one_line_what_is_among_all(rt: HostRuntime) -> Result<(), Fail> {
     Ok(())
 }
 
-#[test]
-fn sweeps_many_solids(rt: HostRuntime) -> Result<(), Fail> {
-    let mut rects = Vec::new(rt.alloc());
+/// Solids of different sizes in rows of sixteen.
+fn tiles(alloc: Global) -> Result<Vec<Sides>, AllocError> {
+    let mut rects = Vec::new(alloc);
     for number in 0..256u16 {
         let (x, y) = (i64::from(number % 16) * 40, i64::from(number / 16) * 30);
         let (wide, high) = (i64::from(number % 7), i64::from(number % 5));
         rects.push((x, y, x + 20 + wide, y + 15 + high))?;
     }
+    Ok(rects)
+}
+
+/// Those of the lines whose coordinate lies between the sides of the rectangle across them.
+fn between_sides(alloc: Global, lines: &[Line], near: &Rect) -> Result<Vec<Line>, AllocError> {
+    let mut between = Vec::new(alloc);
+    for line in lines {
+        let (first, last) = match line.way {
+            Way::Vertical => (near.left, near.right),
+            Way::Horizontal => (near.top, near.bottom),
+        };
+        if first <= line.at && line.at <= last {
+            between.push(*line)?;
+        }
+    }
+    Ok(between)
+}
+
+/// The first of the rectangles near which other lines are found than there are among all.
+fn first_apart(alloc: Global, floor: &Floor, rects: &[Sides]) -> Result<Option<Sides>, AllocError>
+    requires { IsFloor floor.now }
+{
+    let all = all_lines(alloc, floor)?;
+    for sides in rects {
+        let (left, top, right, bottom) = *sides;
+        let near = Rect {
+            left,
+            top,
+            right,
+            bottom,
+        };
+        let found = lines_near(alloc, floor, &near)?;
+        if found.as_slice() != between_sides(alloc, all.as_slice(), &near)?.as_slice() {
+            return Ok(Some(*sides));
+        }
+    }
+    Ok(None)
+}
+
+#[test]
+fn finds_near_a_rectangle_what_is_among_all(rt: HostRuntime) -> Result<(), Fail> {
+    let alloc = rt.alloc();
+    let (start, end) = (SHEET_START, SHEET_END);
+    // The whole sheet and past it, a point, sides of solids, the midst of one, beyond all, and none.
+    let rects = [
+        (start, start, end, end),
+        (start * 2, start * 2, end * 2, end * 2),
+        (10, 10, 10, 10),
+        (5, 11, 5, 11),
+        (0, 10, 10, 20),
+        (40, 30, 120, 90),
+        (1, 11, 4, 19),
+        (90_000, 90_000, 90_001, 90_001),
+        (-9, 0, -6, 40),
+        (10, 20, 0, 0),
+    ];
+    let none = floor(alloc, &[], &[])?;
+    assert_eq!(rt; first_apart(alloc, &none, &rects)?, None);
+    let corridor = floor(alloc, &[(0, 0, 10, 10), (0, 10, 10, 20)], &[(5, 10)])?;
+    assert_eq!(rt; first_apart(alloc, &corridor, &rects)?, None);
+    let row = [(0, 0, 10, 10), (0, 20, 10, 30), (-5, 12, 20, 18)];
+    let row = floor(alloc, &row, &[(5, 11), (7, 40), (3, 15)])?;
+    assert_eq!(rt; first_apart(alloc, &row, &rects)?, None);
+    let many = floor(alloc, tiles(alloc)?.as_slice(), &[(90, 100)])?;
+    assert_eq!(rt; first_apart(alloc, &many, &rects)?, None);
+    let near = Rect {
+        left: 0,
+        top: 12,
+        right: 5,
+        bottom: 12,
+    };
+    assert_eq!(rt;
+        lines_near(alloc, &row, &near)?.as_slice(),
+        [
+            upright(0, start, 12),
+            upright(0, 18, end),
+            upright(5, 10, 12),
+            level(12, start, end),
+        ]
+        .as_slice()
+    );
+    Ok(())
+}
+
+#[test]
+fn sweeps_many_solids(rt: HostRuntime) -> Result<(), Fail> {
+    let rects = tiles(rt.alloc())?;
     assert_eq!(rt; kept(rt.alloc(), rects.as_slice(), &[])?.len(), 489);
     Ok(())
 }

@@ -1,13 +1,11 @@
--- Vertical lines stand before horizontal ones.
-use Rattle.std.proofs.Common.{◌∙◌, ◌++◌, sym, ap, subst}
-use Rattle.sweep_lines.specs.Kept.{AreAllKept}
-use Rattle.sweep_lines.proofs.KeptLines.{both_ways}
+-- Each kept line is near the whole sheet.
+use Rattle.std.proofs.Common.{◌≡◌, true}
+use Rattle.std.proofs.lemmas.Result.{IfOk-weaker}
+use Rattle.sweep_lines.specs.Kept.{AreAllKept, AreKept, is_near}
+use Rattle.sweep_lines.proofs.KeptLines.{on_whole_sheet, sheet}
 use Rattle.sweep_lines.proofs.sweep.all_lines.Goals as goal
 
 pub returns : goal.returns
 returns c =
-    let first = c.in_ok-sweep.ensures in
-    let second = c.in_ok-sweep-2.ensures in
-    subst (AreAllKept c.args.floor.now)
-    (sym (second.2 ∙ ap (λ ls. ls ++ second.0) (first.2 ∙ ap (λ ls. ls ++ first.0) c.new-lines.ensures.items)))
-    (both_ways c.args.floor.now first.0 second.0 first.1 second.1)
+    let floor = c.args.floor.now in
+    IfOk-weaker c.lines_near.result (λ ls. AreKept floor (λ l. is_near sheet l ≡ true) ls.items) (λ ls. AreAllKept floor ls.items) (λ ls. on_whole_sheet floor ls.items) c.lines_near.ensures

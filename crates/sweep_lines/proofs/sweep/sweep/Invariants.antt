@@ -7,7 +7,7 @@ use Rattle.sweep_lines.proofs.sweep.sweep.Given as goal
 abbrev pub invariant-loop-first : goal.invariant-loop-first
 invariant-loop-first g l = record {
   done : List Line;
-  swept : Swept l.floor g.A.Axis.way_of l.rest l.index done;
+  swept : Swept l.floor g.A.Axis.way_of l.from l.to l.rest l.index done;
   lines : l.lines.items ≡ l.initial.lines.items ++ done;
 }
 
