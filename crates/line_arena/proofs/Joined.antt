@@ -27,7 +27,7 @@ none_some q e = cc
 none_some_spot : (s : Spot) → None ≡ Some s → ⊥
 none_some_spot s e = cc
 
-line_of-spot : (d : Dir) (e : Point × Node) → line_of d e.1 ≡ line_along d (spot_of e)
+pub line_of-spot : (d : Dir) (e : Point × Node) → line_of d e.1 ≡ line_along d (spot_of e)
 line_of-spot East e = refl
 line_of-spot South e = refl
 line_of-spot West e = refl
@@ -307,6 +307,13 @@ module _ (a b : Lists) (k : ℕ) (d : Dir) (knows : KnowsNeighbours a k) where
           ];
     }
 
+  -- a change is one behind the neighbour before where it is one of the same line and link
+  pub relinks_before : (m : ℕ) (p t to : Option ℕ) → m ≡ l → p ≡ prev → t ≡ to → Relinks a b m p d t → Relinks a b l prev d to
+  relinks_before m p t to line read is h =
+      subst (λ x. Relinks a b l prev d x) is
+      (subst (λ x. Relinks a b l x d t) read
+      (subst (λ x. Relinks a b x p d t) line h))
+
   -- what the crossing's node tells
   module _ (i : ℕ) (e : Point × Node) (named : i ≡ k) (is : entry_at a.crossings i ≡ Some e) where
     node_is : entry_at a.crossings k ≡ Some e
@@ -325,10 +332,7 @@ module _ (a b : Lists) (k : ℕ) (d : Dir) (knows : KnowsNeighbours a k) where
     own_runs m read = subst (λ n. RunsAlong a n d) (sym (own_line_is m read)) (knows.runs d)
 
     pub own_relinks : (m : ℕ) (o : Dir) (p t to : Option ℕ) → m ≡ line_of d e.1 → o ≡ opposite d → p ≡ next_of o e.1 → t ≡ to → Relinks a b m p d t → Relinks a b l prev d to
-    own_relinks m o p t to line turned read is h =
-        subst (λ x. Relinks a b l prev d x) is
-        (subst (λ x. Relinks a b l x d t) (own_prev_is o p turned read)
-        (subst (λ x. Relinks a b x p d t) (own_line_is m line) h))
+    own_relinks m o p t to line turned read = relinks_before m p t to (own_line_is m line) (own_prev_is o p turned read)
 
   -- the neighbour before is there
   pub prev_live : (p : Option ℕ) → p ≡ prev → (q : ℕ) → p ≡ Some q → entry_at a.crossings q ≢ None

@@ -17,7 +17,7 @@ use Rattle.line_arena.specs.declared.node.Node.{Node}
 use Rattle.line_arena.specs.Entries.{entry_at}
 use Rattle.line_arena.specs.Node.{next_of, start_of}
 use Rattle.plane_geom.specs.Along.{reach, way_of}
-use Rattle.line_arena.specs.Lists.{AreApart, AreLinked, AreLists, AreMet, IsApart, IsNext, IsSound, IsSpot, KnowsNeighbours, SamePlaces, Spot, Stands, UpdatesAt, line_along, line_at, link, spot_at, spot_of, without}
+use Rattle.line_arena.specs.Lists.{AreApart, AreLinked, AreLists, AreMet, IsApart, IsNext, IsSound, IsSpot, KnowsNeighbours, RunsAlong, SamePlaces, Spot, Stands, UpdatesAt, line_along, line_at, link, spot_at, spot_of, without}
 use Rattle.line_arena.proofs.Nearest.{next_kept_at_removal}
 use Rattle.line_arena.proofs.Linked.{kept_in, kept_out, own_reach, same_spot, without_itself, without_other, without_some}
 use Rattle.line_arena.proofs.Joined.{spots_are}
@@ -60,6 +60,10 @@ spot_line lines s East h = record { line = h.horizontal; is = h.is_horizontal; w
 spot_line lines s South h = record { line = h.vertical; is = h.is_vertical; way = h.vertical_runs; on = h.on_vertical }
 spot_line lines s West h = record { line = h.horizontal; is = h.is_horizontal; way = h.horizontal_runs; on = h.on_horizontal }
 spot_line lines s North h = record { line = h.vertical; is = h.is_vertical; way = h.vertical_runs; on = h.on_vertical }
+
+-- one travels along the lines of a spot
+pub spot_runs : (a : Lists) (s : Spot) → IsSpot (line_at a) s → (d : Dir) → RunsAlong a (line_along d s) d
+spot_runs a s at d = let line = spot_line (line_at a) s d at in record { line = line.line; is = line.is; way = line.way }
 
 same_line : (s t : Line) (o : Option Line) → o ≡ Some s → o ≡ Some t → s ≡ t
 same_line s t o e f = cc
@@ -147,7 +151,7 @@ pub knows_linked : (a : Lists) (k : ℕ) (s : Spot) → AreLists a → spot_at a
 knows_linked a k s lists is = record {
   spot = s;
   is = is;
-  runs = λ d. let line = spot_line (line_at a) s d (lists.sound.on_lines k s is) in record { line = line.line; is = line.is; way = line.way };
+  runs = spot_runs a s (lists.sound.on_lines k s is);
   next = λ d.
       let h = (lists.linked d).nexts k s is in
       next_kept_at_removal (Stands (spot_at a) (line_along d s) d) (Stands (without k (spot_at a)) (line_along d s) d) k (reach d s.point)
@@ -261,6 +265,13 @@ module _ (a b : Lists) (k : ℕ) (e : Point × Node) (lists : AreLists a) (at : 
         (subst (IsNext (Stands (spot_at a) (line_along d (spot_of e)) d) (Some (reach d e.0))) (sym (ap (option_and_then (λ x. next_of d x.1)) updates.changed)) (next d));
     apart = apart_of_sound (line_at b) (spot_at b) sound_with;
   }
+
+-- a node of two lines stands where they meet
+pub node_spot : (lines : ℕ → Option Line) (p : Point) (vertical horizontal : ℕ) (n : Node) → n.vertical ≡ vertical → n.horizontal ≡ horizontal
+    → IsSpot lines (record { point = p; vertical = vertical; horizontal = horizontal }) → IsSpot lines (spot_of (p, n))
+node_spot lines p vertical horizontal n down across at =
+    let same : ◌≡◌ {A = Spot} (record { point = p; vertical = vertical; horizontal = horizontal }) (spot_of (p, n)) = λ i. record { point = p; vertical = sym down i; horizontal = sym across i } in
+    subst (IsSpot lines) same at
 
 -- the point of two lines is where each of them runs
 pub met_at : (lines : ℕ → Option Line) (vertical horizontal : ℕ) (met : AreMet lines vertical horizontal) (v h : Line) → lines vertical ≡ Some v → lines horizontal ≡ Some h

@@ -1,7 +1,7 @@
 -- A walk along a line, to the first crossing that a point does not lie beyond.
 use Rattle.std.proofs.Common.{◌≡◌, ◌≢◌, ℕ, ◌+◌, ◌<◌, ℤ, pos, negsuc, ◌<ℤ◌, ◌≤ℤ◌, ◌-ℤ◌, Option, Some, None, refl, sym, ap, subst, ◌∙◌, arith}
 use Rattle.std.specs.Prelude.{option_and_then}
-use Rattle.std.specs.Option.{option_map}
+use Rattle.std.specs.Option.{ForSome, option_map}
 use Rattle.std.proofs.lemmas.Int.{ints}
 use Rattle.plane_geom.specs.declared.point.Point.{Point}
 use Rattle.plane_geom.specs.declared.point.Dir.{Dir}
@@ -152,6 +152,38 @@ module _ (a : Lists) (l : ℕ) (d : Dir) (runs : RunsAlong a l d) where
     start_live answer read c e =
         next_live (Stands (spot_at a) l d) (λ k. entry_at a.crossings k ≢ None) (stands_live a l d) None answer
         (subst (IsNext (Stands (spot_at a) l d) None) (sym read) ((lists.linked d).starts l runs.line runs.is runs.way)) c e
+
+    -- where the point lies beyond the line's last crossing, that one is the nearest back, and none lies further on
+    module _ (p : Point) (last : Option ℕ) (read : last ≡ link a l None (opposite d)) (beyond : ForSome last (λ c. (s : Spot) → spot_at a c ≡ Some s → IsFurther d s.point p)) where
+      last_is : IsNext (Stands (spot_at a) l (opposite d)) None last
+      last_is = subst (IsNext (Stands (spot_at a) l (opposite d)) None) (sym read) ((lists.linked (opposite d)).starts l runs.line runs.is (runs.way ∙ sym (way_of-opposite d)))
+
+      back_at_last : (n : Option ℕ) → last ≡ n → IsNext (Stands (spot_at a) l (opposite d)) None n → IsNext (Stands (spot_at a) l (opposite d)) (Some (reach (opposite d) p)) n
+      back_at_last None is h = λ c z here past. h c z here tt
+      back_at_last (Some n) is h =
+          let spot = h.1.spot in
+          let before : reach d spot.point <ℤ reach d p = beyond n is spot h.1.is in
+          let along = h.1.along in
+          let turns = reach-opposite d spot.point in
+          let point_turns = reach-opposite d p in
+          (h.0, h.1, omega (arith, ints), λ c z here past. h.3 c z here tt)
+
+      on_at_last : (n : Option ℕ) → last ≡ n → IsNext (Stands (spot_at a) l (opposite d)) None n → IsNext (Stands (spot_at a) l d) (Some (reach d p)) None
+      on_at_last None is h = λ c z here past. h c (pos 0 -ℤ z) (turned (spot_at a) l d c z here) tt
+      on_at_last (Some n) is h = λ c z here past.
+          let spot = h.1.spot in
+          let before : reach d spot.point <ℤ reach d p = beyond n is spot h.1.is in
+          let along = h.1.along in
+          let turns = reach-opposite d spot.point in
+          let least : h.0 ≤ℤ (pos 0 -ℤ z) = h.3 c (pos 0 -ℤ z) (turned (spot_at a) l d c z here) tt in
+          let further : reach d p <ℤ z = past in
+          omega (arith, ints)
+
+      pub last_back : IsNext (Stands (spot_at a) l (opposite d)) (Some (reach (opposite d) p)) last
+      last_back = back_at_last last refl last_is
+
+      pub none_on : IsNext (Stands (spot_at a) l d) (Some (reach d p)) None
+      none_on = on_at_last last refl last_is
 
     module _ (p : Point) (free : (c : ℕ) → Stands (spot_at a) l d c (reach d p) → ⊥) where
       pub free_back : (c : ℕ) → Stands (spot_at a) l (opposite d) c (reach (opposite d) p) → ⊥

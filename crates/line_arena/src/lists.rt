@@ -7,6 +7,7 @@ ghost use Rattle.plane_geom.specs.declared.point.Dir.{Dir};
 ghost use Rattle.plane_geom.specs.declared.point.Dir.TheVariants.{South};
 ghost use Rattle.plane_geom.specs.Along.{IsFurther, reach};
 ghost use Rattle.line_arena.specs.Entries.{entry_at};
+ghost use Rattle.line_arena.specs.Node.{line_of, next_of};
 
 use crate::entries::Entries;
 use crate::id::{CrossId, LineId, Link};
@@ -47,7 +48,7 @@ fn distance_along(dir: Dir, a: Point, b: Point) -> u64 {
 }
 
 impl Lists {
-    ghost use Rattle.line_arena.specs.Lists.{AreLinked, AreLists, IsFirstFrom, IsNext, KnowsNeighbours, AreMet, IsApart, IsPut, IsSpot, Relinks, RunsAlong, SameDirection, SameLinks, SamePlaces, Spot, Stands, UpdatesAt, line_at, link, spot_at, without};
+    ghost use Rattle.line_arena.specs.Lists.{AreLinked, AreLists, IsFirstFrom, IsNext, KnowsNeighbours, AreMet, IsApart, IsPut, IsSpot, Relinks, RunsAlong, SameDirection, SameLinks, SamePlaces, Spot, Stands, UpdatesAt, line_along, line_at, link, spot_at, without};
 
     /// The crossing that follows in the line's list in the direction; after none it is where the list begins.
     fn next(&self, line: LineId, from: Link, dir: Dir) -> Link
@@ -77,6 +78,17 @@ impl Lists {
                 self.crossings
                     .set(crossing.place(), node.with_next(dir, to));
             }
+        }
+    }
+
+    /// Whether the point lies beyond the crossing in the direction. It lies beyond none.
+    fn is_beyond(&self, crossing: Link, dir: Dir, point: Point) -> bool
+        requires { ForSome crossing (λ c. entry_at self.now.crossings c ≢ None) }
+        ensures { IsTrue result → ForSome crossing (λ c. (s : Spot) → spot_at self.now c ≡ Some s → IsFurther dir s.point point) }
+    {
+        match crossing.crossing() {
+            None => true,
+            Some(crossing) => is_further(dir, self.crossings.get(crossing.place()).0, point),
         }
     }
 
@@ -110,10 +122,6 @@ impl Lists {
             return true;
         };
         let (stop, _) = self.crossings.get(stop.place());
-        if is_further(dir, *stop, point) {
-            // What goes last on its line, as all does while a graph is built, reads no more of it.
-            return false;
-        }
         let (start, _) = self.crossings.get(start.place());
         distance_along(dir, *start, point) < distance_along(dir, *stop, point)
     }
@@ -169,18 +177,18 @@ impl Lists {
         }
     }
 
-    /// Puts the crossing, which knows its neighbours, into the list of its line in the direction.
-    fn link_in(&mut self, crossing: CrossId, dir: Dir)
+    /// Puts the crossing, which knows its neighbours, into the list of its line in the direction, behind the one before.
+    fn link_in(&mut self, crossing: CrossId, dir: Dir, line: LineId, before: Link)
         requires knows { KnowsNeighbours self.old crossing }
         requires others { AreLinked self.old (without crossing (spot_at self.old)) dir }
+        requires line { (s : Spot) → spot_at self.old crossing ≡ Some s → line ≡ line_along dir s }
+        requires before { before ≡ link self.old line (Some crossing) (opposite dir) }
         ensures places { SamePlaces self.old self.new }
         ensures linked { AreLinked self.new (spot_at self.new) dir }
         ensures own { SameLinks self.old self.new crossing }
         ensures other_directions { (d : Dir) → d ≢ dir → SameDirection self.old self.new d }
     {
-        let (_, node) = *self.crossings.get(crossing.place());
-        let before = node.next(dir.opposite());
-        self.set_next(node.line(dir), before, dir, Link::to(crossing));
+        self.set_next(line, before, dir, Link::to(crossing));
     }
 
     /// Takes the crossing out of the list of its line in the direction, and joins its neighbours.
@@ -197,17 +205,18 @@ impl Lists {
         self.set_next(node.line(dir), before, dir, node.next(dir));
     }
 
-    /// Puts the crossing, which knows its neighbours, into the lists of its lines.
-    fn link_all(&mut self, crossing: CrossId)
+    /// Puts the crossing, which has the node and knows its neighbours, into the lists of its lines.
+    fn link_all(&mut self, crossing: CrossId, node: &Node)
+        requires node { (p : Point) × (entry_at self.old.crossings crossing ≡ Some (p, node.now)) }
         requires knows { KnowsNeighbours self.old crossing }
         requires others { (d : Dir) → AreLinked self.old (without crossing (spot_at self.old)) d }
         ensures places { SamePlaces self.old self.new }
         ensures linked { (d : Dir) → AreLinked self.new (spot_at self.new) d }
     {
-        self.link_in(crossing, Dir::East);
-        self.link_in(crossing, Dir::South);
-        self.link_in(crossing, Dir::West);
-        self.link_in(crossing, Dir::North);
+        self.link_in(crossing, Dir::East, node.horizontal, node.west);
+        self.link_in(crossing, Dir::South, node.vertical, node.north);
+        self.link_in(crossing, Dir::West, node.horizontal, node.east);
+        self.link_in(crossing, Dir::North, node.vertical, node.south);
     }
 
     /// Takes the crossing out of the lists of its lines.
@@ -269,9 +278,43 @@ impl Lists {
         }
     }
 
-    /// Puts in the crossing of the lines.
+    /// What a new crossing of the lines, which meet at the point, knows: its lines, and its neighbours on both.
     ///
-    /// On each line the walk to its place begins at the nearer end.
+    /// Where it does not go last on both, the walk to its place begins at the nearer end of each.
+    fn node_at(&self, vertical: LineId, horizontal: LineId, point: Point) -> Node
+        requires lists { AreLists self.now }
+        requires spot { IsSpot (line_at self.now) (record { point = point; vertical = vertical; horizontal = horizontal }) }
+        requires free { (d : Dir) (c : ℕ) → Stands (spot_at self.now) (line_along d (record { point = point; vertical = vertical; horizontal = horizontal })) d c (reach d point) → ⊥ }
+        ensures vertical { result.vertical ≡ vertical }
+        ensures horizontal { result.horizontal ≡ horizontal }
+        ensures next { (d : Dir) → IsNext (Stands (spot_at self.now) (line_of d result) d) (Some (reach d point)) (next_of d result) }
+    {
+        let north = self.next(vertical, Link::none(), Dir::North);
+        let west = self.next(horizontal, Link::none(), Dir::West);
+        if self.is_beyond(north, Dir::South, point) && self.is_beyond(west, Dir::East, point) {
+            // What goes last on both its lines, as all does while a graph is built, reads no more of them.
+            return Node {
+                vertical,
+                horizontal,
+                east: Link::none(),
+                south: Link::none(),
+                west,
+                north,
+            };
+        }
+        let (north, south) = self.neighbours(vertical, Dir::South, point);
+        let (west, east) = self.neighbours(horizontal, Dir::East, point);
+        Node {
+            vertical,
+            horizontal,
+            east,
+            south,
+            west,
+            north,
+        }
+    }
+
+    /// Puts in the crossing of the lines.
     pub fn put_crossing(&mut self, vertical: LineId, horizontal: LineId) -> CrossId
         requires lists { AreLists self.old }
         requires room { slab_len self.old.crossings.slab < self.old.crossings.room }
@@ -288,18 +331,9 @@ impl Lists {
         ensures places { self.new.crossings.slab.capacity ≡ self.old.crossings.slab.capacity }
     {
         let point = self.meeting_point(vertical, horizontal);
-        let (north, south) = self.neighbours(vertical, Dir::South, point);
-        let (west, east) = self.neighbours(horizontal, Dir::East, point);
-        let node = Node {
-            vertical,
-            horizontal,
-            east,
-            south,
-            west,
-            north,
-        };
+        let node = self.node_at(vertical, horizontal, point);
         let crossing = CrossId::new(self.crossings.insert(point, node));
-        self.link_all(crossing);
+        self.link_all(crossing, &node);
         crossing
     }
 

@@ -1,7 +1,28 @@
+use Rattle.std.proofs.Common.{◌∙◌, refl, sym}
 use Rattle.plane_geom.specs.declared.point.Dir.TheVariants.{East, South, West, North}
 use Rattle.line_arena.specs.Lists.{without}
 use Rattle.line_arena.proofs.Kept.{East≢South, East≢West, East≢North, South≢East, South≢West, South≢North, West≢East, West≢South, West≢North, North≢East, North≢South, North≢West, knows_kept, linked_kept}
+use Rattle.line_arena.proofs.Walk.{read_next}
 use Rattle.line_arena.proofs.lists.Lists.link_all.Goals as goal
+
+-- the node tells the neighbours
+pub link_in-requires-2-clause-before : goal.link_in-requires-2-clause-before
+link_in-requires-2-clause-before c =
+    let line = c.args.node.now.vertical in
+    read_next c.args.self.now line c.args.crossing North (c.requires.node.0, c.args.node.now) c.requires.node.1 c.args.node.now.north refl
+    ∙ sym (c.link_in.ensures.own line North)
+
+pub link_in-requires-3-clause-before : goal.link_in-requires-3-clause-before
+link_in-requires-3-clause-before c =
+    let line = c.args.node.now.horizontal in
+    read_next c.args.self.now line c.args.crossing East (c.requires.node.0, c.args.node.now) c.requires.node.1 c.args.node.now.east refl
+    ∙ sym (c.link_in-2.ensures.own line East ∙ c.link_in.ensures.own line East)
+
+pub link_in-requires-4-clause-before : goal.link_in-requires-4-clause-before
+link_in-requires-4-clause-before c =
+    let line = c.args.node.now.vertical in
+    read_next c.args.self.now line c.args.crossing South (c.requires.node.0, c.args.node.now) c.requires.node.1 c.args.node.now.south refl
+    ∙ sym (c.link_in-3.ensures.own line South ∙ c.link_in-2.ensures.own line South ∙ c.link_in.ensures.own line South)
 
 pub link_in-requires-2-clause-knows : goal.link_in-requires-2-clause-knows
 link_in-requires-2-clause-knows c = knows_kept c.args.self.now c.link_in.new.self c.link_in.ensures.places c.args.crossing c.link_in.ensures.own c.requires.knows
