@@ -10,4 +10,3 @@ pub mod KeptAt
 pub mod KeptLines
 pub mod Loops
 pub mod Swept
-pub mod TestFloor

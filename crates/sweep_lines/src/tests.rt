@@ -1,103 +1,11 @@
 //! The worked rows, one whole line and parts of the sheet against all, and a floor of many solids.
-ghost use Rattle.std.specs.Prelude.{◌≤◌, All, IfOk, IfSome, OnOk, length};
-ghost use Rattle.plane_geom.specs.Point.{IsCoordinate, PointIsOnSheet};
-ghost use Rattle.plane_geom.specs.Floor.{IsFloor, IsSolid};
+ghost use Rattle.plane_geom.specs.Floor.{IsFloor};
 
 use crate::{all_lines, lines_at, lines_near};
-use plane_geom::{Floor, Line, Point, Points, Rect, SHEET_END, SHEET_START, Solid, Solids, Way};
+use plane_geom::{Floor, Line, Rect, SHEET_END, SHEET_START, Way};
+use small_floor::{Sides, floor_of};
 use std::alloc::{AllocError, Global};
 use std::test::Fail;
-
-/// Left, top, right and bottom.
-type Sides = (i64, i64, i64, i64);
-
-/// The number, or the end of the sheet that is nearest to it.
-fn on_sheet(z: i64) -> i64
-    ensures { IsCoordinate result }
-{
-    z.max(SHEET_START).min(SHEET_END)
-}
-
-fn solid(sides: Sides) -> Option<Solid>
-    ensures { IfSome result IsSolid }
-{
-    let (left, top) = (on_sheet(sides.0), on_sheet(sides.1));
-    let (right, bottom) = (on_sheet(sides.2), on_sheet(sides.3));
-    let rect = Rect {
-        left,
-        top,
-        right,
-        bottom,
-    };
-    if left < right && top < bottom {
-        Some(Solid { node: 0, rect })
-    } else {
-        None
-    }
-}
-
-fn add_solid(solids: &mut Vec<Solid>, sides: Sides) -> Result<(), AllocError>
-    requires few { length solids.old.items ≤ 256 }
-    requires sound { All IsSolid solids.old.items }
-    ensures few { OnOk result (length solids.new.items ≤ 256) }
-    ensures sound { OnOk result (All IsSolid solids.new.items) }
-{
-    if solids.len() == 256 {
-        return Ok(());
-    }
-    if let Some(solid) = solid(sides) {
-        solids.push(solid)?;
-    }
-    Ok(())
-}
-
-fn add_point(points: &mut Vec<Point>, place: (i64, i64)) -> Result<(), AllocError>
-    requires few { length points.old.items ≤ 256 }
-    requires within { All PointIsOnSheet points.old.items }
-    ensures few { OnOk result (length points.new.items ≤ 256) }
-    ensures within { OnOk result (All PointIsOnSheet points.new.items) }
-{
-    if points.len() == 256 {
-        return Ok(());
-    }
-    let (x, y) = (on_sheet(place.0), on_sheet(place.1));
-    points.push(Point { x, y })?;
-    Ok(())
-}
-
-fn solids(alloc: Global, all: &[Sides]) -> Result<Vec<Solid>, AllocError>
-    ensures few { IfOk result (λ v. length v.items ≤ 256) }
-    ensures sound { IfOk result (λ v. All IsSolid v.items) }
-{
-    let mut solids = Vec::new(alloc);
-    for sides in all {
-        add_solid(&mut solids, *sides)?;
-    }
-    Ok(solids)
-}
-
-fn points(alloc: Global, all: &[(i64, i64)]) -> Result<Vec<Point>, AllocError>
-    ensures few { IfOk result (λ v. length v.items ≤ 256) }
-    ensures within { IfOk result (λ v. All PointIsOnSheet v.items) }
-{
-    let mut points = Vec::new(alloc);
-    for place in all {
-        add_point(&mut points, *place)?;
-    }
-    Ok(points)
-}
-
-/// The first 256 of the solids and of the anchors.
-fn floor(alloc: Global, rects: &[Sides], anchors: &[(i64, i64)]) -> Result<Floor, AllocError>
-    ensures { IfOk result IsFloor }
-{
-    let solids = solids(alloc, rects)?;
-    let anchors = points(alloc, anchors)?;
-    Ok(Floor {
-        solids: Solids(solids),
-        anchors: Points(anchors),
-    })
-}
 
 fn upright(at: i64, lo: i64, hi: i64) -> Line {
     let way = Way::Vertical;
@@ -110,7 +18,7 @@ fn level(at: i64, lo: i64, hi: i64) -> Line {
 }
 
 fn kept(alloc: Global, rects: &[Sides], anchors: &[(i64, i64)]) -> Result<Vec<Line>, AllocError> {
-    let floor = floor(alloc, rects, anchors)?;
+    let floor = floor_of(alloc, rects, anchors)?;
     all_lines(alloc, &floor)
 }
 
@@ -121,7 +29,7 @@ fn finds_a_side_without_a_free_corner(rt: HostRuntime) -> Result<(), Fail> {
         (-40_000, -20_000, 30_000, 60_000),
         (-50_000, 70_000, 30_000, 120_000),
     ];
-    let floor = floor(rt.alloc(), &rects, &[])?;
+    let floor = floor_of(rt.alloc(), &rects, &[])?;
     let lines = lines_at(rt.alloc(), &floor, Way::Vertical, 0)?;
     assert_eq!(rt; lines.as_slice(), [upright(0, 60_000, 70_000)].as_slice());
     assert_eq!(rt; all_lines(rt.alloc(), &floor)?.len(), 12);
@@ -188,7 +96,7 @@ fn keeps_pieces_for_sides_and_anchors(rt: HostRuntime) -> Result<(), Fail> {
 fn finds_on_one_line_what_is_among_all(rt: HostRuntime) -> Result<(), Fail> {
     // Two solids have sides on one whole line, and a third stands between them.
     let rects = [(0, 0, 10, 10), (0, 20, 10, 30), (-5, 12, 20, 18)];
-    let floor = floor(rt.alloc(), &rects, &[(5, 11), (7, 40), (3, 15)])?;
+    let floor = floor_of(rt.alloc(), &rects, &[(5, 11), (7, 40), (3, 15)])?;
     let mut lines = Vec::new(rt.alloc());
     for way in [Way::Vertical, Way::Horizontal] {
         for at in -8..48i16 {
@@ -266,14 +174,14 @@ fn finds_near_a_rectangle_what_is_among_all(rt: HostRuntime) -> Result<(), Fail>
         (-9, 0, -6, 40),
         (10, 20, 0, 0),
     ];
-    let none = floor(alloc, &[], &[])?;
+    let none = floor_of(alloc, &[], &[])?;
     assert_eq!(rt; first_apart(alloc, &none, &rects)?, None);
-    let corridor = floor(alloc, &[(0, 0, 10, 10), (0, 10, 10, 20)], &[(5, 10)])?;
+    let corridor = floor_of(alloc, &[(0, 0, 10, 10), (0, 10, 10, 20)], &[(5, 10)])?;
     assert_eq!(rt; first_apart(alloc, &corridor, &rects)?, None);
     let row = [(0, 0, 10, 10), (0, 20, 10, 30), (-5, 12, 20, 18)];
-    let row = floor(alloc, &row, &[(5, 11), (7, 40), (3, 15)])?;
+    let row = floor_of(alloc, &row, &[(5, 11), (7, 40), (3, 15)])?;
     assert_eq!(rt; first_apart(alloc, &row, &rects)?, None);
-    let many = floor(alloc, tiles(alloc)?.as_slice(), &[(90, 100)])?;
+    let many = floor_of(alloc, tiles(alloc)?.as_slice(), &[(90, 100)])?;
     assert_eq!(rt; first_apart(alloc, &many, &rects)?, None);
     let near = Rect {
         left: 0,
