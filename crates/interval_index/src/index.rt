@@ -104,7 +104,7 @@ impl IntervalIndex {
         ensures touching { IfOk result (λ keys. keys.items ≡ keys_touching lo hi self.now) }
         ensures listed { IsListed self.now }
     {
-        let mut keys = Vec::new(self.alloc);
+        let mut keys = Vec::with_capacity(self.alloc, self.by_key.len())?;
         if lo < hi {
             self.tree.collect(lo, hi, &mut keys)?;
         }

@@ -39,14 +39,19 @@ fn count_met(line: &Line, others: &[Line]) -> usize
     ensures { result ≡ count_by (meets line.now) others.now }
 {
     let (_, here) = beside(line, others);
-    here.iter().filter(|other| is_reached(line, other)).count()
+    let mut count = 0;
+    for other in here {
+        // (without a branch, since which lines are reached follows no pattern)
+        count += usize::from(is_reached(line, other));
+    }
+    count
 }
 
 /// Whether the other runs past the line's coordinate, or ends there.
 pub(crate) fn is_reached(line: &Line, other: &Line) -> bool
     ensures { result ≡ reaches other.now line.now.at }
 {
-    other.lo <= line.at && line.at <= other.hi
+    (other.lo <= line.at) & (line.at <= other.hi)
 }
 
 /// Those of the others that run across the line's whole line between its ends, and how many stand before them.

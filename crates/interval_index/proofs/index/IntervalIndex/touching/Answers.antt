@@ -15,9 +15,9 @@ returns-clause-touching c =
           let test = simp to_z-of_z at w.if-lo-hi.true in
           let less : c.args.lo <ℤ c.args.hi = grind (arith, ints, test) in
           let collected = simp to_z-of_z at (w.in_ok-collect.ensures {u = tt}) in
-          rw (w.keys-is, collected, c.new-keys.ensures.items, ← c.self.view_is) (sym (keys_touching_met c.args.lo c.args.hi l less c.self.invariant.listed.spans))
+          rw (w.keys-is, collected, c.in_ok-keys.ensures.items, ← c.self.view_is) (sym (keys_touching_met c.args.lo c.args.hi l less c.self.invariant.listed.spans))
       | else-lo-hi w ↦
           let test = simp to_z-of_z at w.if-lo-hi.false in
           let empty : c.args.hi ≤ℤ c.args.lo = grind (arith, ints, test) in
-          rw (w.keys-is, c.new-keys.ensures.items) (sym (keys_touching_none c.args.lo c.args.hi c.args.self.now empty))
+          rw (w.keys-is, c.in_ok-keys.ensures.items) (sym (keys_touching_none c.args.lo c.args.hi c.args.self.now empty))
     ]
