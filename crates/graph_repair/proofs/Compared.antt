@@ -1,13 +1,15 @@
 -- The pass over two lists in order: each step, and its end.
 use Rattle.std.proofs.Common.{◌≡◌, ◌≢◌, ◌⊎◌, inl, inr, ℕ, zero, suc, ◌+◌, ◌-◌, ◌<◌, ◌≤◌, Bool, true, false, not, cond, List, [], ◌∷◌, ◌++◌, drop, take, length, get_or, refl, sym, ap, subst, ◌∙◌, arith, rules}
 use Rattle.std.specs.Prelude.{IsTrue, filter, ◌↔◌, ◌||◌}
-use Rattle.std.proofs.lemmas.List.{append-nil, append_assoc, drop-map, drop_all, drop_more, get_or-map, get_or_default, length-map, take_rest}
+use Rattle.std.proofs.lemmas.List.{append_assoc, drop-map, drop_all, drop_more, get_or-map, get_or_default, length-map, take_rest}
+use Rattle.std.proofs.lemmas.List.Elements.{filter_agree}
+use Rattle.plane_geom.specs.declared.rect.Rect.{Rect}
 use Rattle.plane_geom.specs.declared.floor.Line.{Line}
 use Rattle.plane_geom.specs.Order.{stands_before}
 use Rattle.plane_geom.proofs.Order.{before_apart, stands_through}
-use Rattle.sweep_lines.specs.Kept.{AreOrdered}
+use Rattle.sweep_lines.specs.Kept.{AreOrdered, is_near}
 use Rattle.sweep_lines.proofs.Members.{Among, Rising, all_among, rising_of_pairs}
-use Rattle.graph_repair.specs.Listed.{is_listed, lines_of, same_line}
+use Rattle.graph_repair.specs.Listed.{goes, is_listed, lines_of, same_line, stays}
 use Rattle.graph_repair.proofs.Listing.{among_of_listed, line_of_same, not_true, same_itself}
 
 -- whether the line is none of those listed
@@ -15,9 +17,9 @@ abbrev pub is_alone : List Line → Line → Bool
 is_alone others l = not (is_listed others l)
 
 -- what was found, with what the rests of both lists have, is what the lists have
-pub record AreFound (old new olds news stay here there : List Line) : Type 0 where
-  pub in_both : stay ++ filter (is_listed news) olds ≡ filter (is_listed new) old
-  pub in_old : here ++ filter (is_alone news) olds ≡ filter (is_alone new) old
+pub record AreFound (near : Rect) (old new olds news stay here there : List Line) : Type 0 where
+  pub in_both : stay ++ filter (stays near news) olds ≡ filter (stays near new) old
+  pub in_old : here ++ filter (goes near news) olds ≡ filter (goes near new) old
   pub in_new : there ++ filter (is_alone olds) news ≡ filter (is_alone old) new
 
 -- ---- the head of a list
@@ -47,11 +49,41 @@ never_listed l ms none = not_true (is_listed ms l) (λ e. none (among_of_listed 
 abbrev AreRising : List Line → Type 0
 AreRising = Rising (λ l m. stands_before l m ≡ true)
 
+stay_alike : (near : Rect) (l : Line) (a b : Bool) → a ≡ b → (not (is_near near l) || a) ≡ (not (is_near near l) || b)
+stay_alike near l a b e = ap (λ (c : Bool). not (is_near near l) || c) e
+
+stays_near : (near : Rect) (l : Line) (news : List Line) → is_near near l ≡ true → is_listed news l ≡ false → stays near news l ≡ false
+stays_near near l news e f = ap (λ (c : Bool). not c || is_listed news l) e ∙ f
+
+stays_far : (near : Rect) (l : Line) (news : List Line) → is_near near l ≡ false → stays near news l ≡ true
+stays_far near l news e = ap (λ (c : Bool). not c || is_listed news l) e
+
+stays_listed : (near : Rect) (l : Line) (news : List Line) → is_listed news l ≡ true → stays near news l ≡ true
+stays_listed near l news e = stay_alike near l (is_listed news l) true e ∙ true_last (not (is_near near l))
+  where
+    true_last : (b : Bool) → (b || true) ≡ true
+    true_last true = refl
+    true_last false = refl
+
 -- ---- a head that the other list has not
 
-module _ (x : Line) (xs others : List Line) (none : Among x others → ⊥) where
-  none_shared : filter (is_listed others) (x ∷ xs) ≡ filter (is_listed others) xs
-  none_shared = left_head (is_listed others) x xs (never_listed x others none)
+module _ (near : Rect) (x : Line) (xs others : List Line) (none : Among x others → ⊥) where
+  module _ (e : is_near near x ≡ true) where
+    near_goes : stays near others x ≡ false
+    near_goes = stays_near near x others e (never_listed x others none)
+
+    none_shared : filter (stays near others) (x ∷ xs) ≡ filter (stays near others) xs
+    none_shared = left_head (stays near others) x xs near_goes
+
+    one_goes : filter (goes near others) (x ∷ xs) ≡ x ∷ filter (goes near others) xs
+    one_goes = kept_head (goes near others) x xs (ap not near_goes)
+
+  module _ (e : is_near near x ≡ false) where
+    one_stays : filter (stays near others) (x ∷ xs) ≡ x ∷ filter (stays near others) xs
+    one_stays = kept_head (stays near others) x xs (stays_far near x others e)
+
+    none_goes : filter (goes near others) (x ∷ xs) ≡ filter (goes near others) xs
+    none_goes = left_head (goes near others) x xs (ap not (stays_far near x others e))
 
   one_alone : filter (is_alone others) (x ∷ xs) ≡ x ∷ filter (is_alone others) xs
   one_alone = kept_head (is_alone others) x xs (ap not (never_listed x others none))
@@ -59,25 +91,40 @@ module _ (x : Line) (xs others : List Line) (none : Among x others → ⊥) wher
   other_than : (l : Line) → Among l others → is_listed (x ∷ xs) l ≡ is_listed xs l
   other_than l a = not_head l x xs (λ e. none (subst (λ (m : Line). Among m others) e a))
 
-  same_shared : filter (is_listed (x ∷ xs)) others ≡ filter (is_listed xs) others
-  same_shared = agree_on (is_listed (x ∷ xs)) (is_listed xs) others other_than
+  same_stays : (l : Line) → Among l others → stays near (x ∷ xs) l ≡ stays near xs l
+  same_stays l a = stay_alike near l (is_listed (x ∷ xs) l) (is_listed xs l) (other_than l a)
+
+  same_shared : filter (stays near (x ∷ xs)) others ≡ filter (stays near xs) others
+  same_shared = agree_on (stays near (x ∷ xs)) (stays near xs) others same_stays
+
+  same_goes : filter (goes near (x ∷ xs)) others ≡ filter (goes near xs) others
+  same_goes = agree_on (goes near (x ∷ xs)) (goes near xs) others (λ l a. ap not (same_stays l a))
 
   same_alone : filter (is_alone (x ∷ xs)) others ≡ filter (is_alone xs) others
   same_alone = agree_on (is_alone (x ∷ xs)) (is_alone xs) others (λ l a. ap not (other_than l a))
 
 -- ---- a head that both lists have
 
-module _ (x : Line) (xs ys : List Line) (rising : AreRising (x ∷ xs)) where
+module _ (near : Rect) (x : Line) (xs ys : List Line) (rising : AreRising (x ∷ xs)) where
   later : (l : Line) → Among l xs → is_listed (x ∷ ys) l ≡ is_listed ys l
   later l a = not_head l x ys (λ e. before_apart x l (all_among (λ m. stands_before x m ≡ true) xs rising.0 l a) (sym e))
 
-  head_shared : filter (is_listed (x ∷ ys)) (x ∷ xs) ≡ x ∷ filter (is_listed ys) xs
-  head_shared = kept_head (is_listed (x ∷ ys)) x xs (is_head x x ys refl) ∙ ap (λ (ls : List Line). x ∷ ls) (agree_on (is_listed (x ∷ ys)) (is_listed ys) xs later)
+  stays_later : (l : Line) → Among l xs → stays near (x ∷ ys) l ≡ stays near ys l
+  stays_later l a = stay_alike near l (is_listed (x ∷ ys) l) (is_listed ys l) (later l a)
+
+  head_stays : stays near (x ∷ ys) x ≡ true
+  head_stays = stays_listed near x (x ∷ ys) (is_head x x ys refl)
+
+  head_shared : filter (stays near (x ∷ ys)) (x ∷ xs) ≡ x ∷ filter (stays near ys) xs
+  head_shared = kept_head (stays near (x ∷ ys)) x xs head_stays ∙ ap (λ (ls : List Line). x ∷ ls) (agree_on (stays near (x ∷ ys)) (stays near ys) xs stays_later)
+
+  head_not_goes : filter (goes near (x ∷ ys)) (x ∷ xs) ≡ filter (goes near ys) xs
+  head_not_goes = left_head (goes near (x ∷ ys)) x xs (ap not head_stays) ∙ agree_on (goes near (x ∷ ys)) (goes near ys) xs (λ l a. ap not (stays_later l a))
 
   head_not_alone : filter (is_alone (x ∷ ys)) (x ∷ xs) ≡ filter (is_alone ys) xs
   head_not_alone = left_head (is_alone (x ∷ ys)) x xs (ap not (is_head x x ys refl)) ∙ agree_on (is_alone (x ∷ ys)) (is_alone ys) xs (λ l a. ap not (later l a))
 
--- ---- the three steps
+-- ---- the steps
 
 pushed : (found rest all more : List Line) (x : Line) → found ++ more ≡ all → more ≡ x ∷ rest → (found ++ x ∷ []) ++ rest ≡ all
 pushed found rest all more x so_far e = append_assoc found (x ∷ []) rest ∙ sym (ap (λ (ls : List Line). found ++ ls) e) ∙ so_far
@@ -85,15 +132,15 @@ pushed found rest all more x so_far e = append_assoc found (x ∷ []) rest ∙ s
 same_rest : (found rest all more : List Line) → found ++ more ≡ all → more ≡ rest → found ++ rest ≡ all
 same_rest found rest all more so_far e = sym (ap (λ (ls : List Line). found ++ ls) e) ∙ so_far
 
-module _ (old new stay here there : List Line) (x y : Line) (xs ys : List Line) (found : AreFound old new (x ∷ xs) (y ∷ ys) stay here there) (rising : AreRising (x ∷ xs)) (rises : AreRising (y ∷ ys)) where
-  both_pass : x ≡ y → AreFound old new xs ys (stay ++ x ∷ []) here there
+module _ (near : Rect) (old new stay here there : List Line) (x y : Line) (xs ys : List Line) (found : AreFound near old new (x ∷ xs) (y ∷ ys) stay here there) (rising : AreRising (x ∷ xs)) (rises : AreRising (y ∷ ys)) where
+  both_pass : x ≡ y → AreFound near old new xs ys (stay ++ x ∷ []) here there
   both_pass e =
       let news : AreRising (x ∷ ys) = subst (λ (m : Line). AreRising (m ∷ ys)) (sym e) rises in
-      let met = subst (λ (m : Line). AreFound old new (x ∷ xs) (m ∷ ys) stay here there) (sym e) found in
+      let met = subst (λ (m : Line). AreFound near old new (x ∷ xs) (m ∷ ys) stay here there) (sym e) found in
       record {
-        in_both = pushed stay (filter (is_listed ys) xs) (filter (is_listed new) old) (filter (is_listed (x ∷ ys)) (x ∷ xs)) x met.in_both (head_shared x xs ys rising);
-        in_old = same_rest here (filter (is_alone ys) xs) (filter (is_alone new) old) (filter (is_alone (x ∷ ys)) (x ∷ xs)) met.in_old (head_not_alone x xs ys rising);
-        in_new = same_rest there (filter (is_alone xs) ys) (filter (is_alone old) new) (filter (is_alone (x ∷ xs)) (x ∷ ys)) met.in_new (head_not_alone x ys xs news);
+        in_both = pushed stay (filter (stays near ys) xs) (filter (stays near new) old) (filter (stays near (x ∷ ys)) (x ∷ xs)) x met.in_both (head_shared near x xs ys rising);
+        in_old = same_rest here (filter (goes near ys) xs) (filter (goes near new) old) (filter (goes near (x ∷ ys)) (x ∷ xs)) met.in_old (head_not_goes near x xs ys rising);
+        in_new = same_rest there (filter (is_alone xs) ys) (filter (is_alone old) new) (filter (is_alone (x ∷ xs)) (x ∷ ys)) met.in_new (head_not_alone near x ys xs news);
       }
 
   -- a line that stands before the other list's head is not in that list
@@ -101,13 +148,22 @@ module _ (old new stay here there : List Line) (x y : Line) (xs ys : List Line) 
   old_apart before (inl e) = before_apart x y before e
   old_apart before (inr a) = before_apart x x (stands_through x y x before (all_among (λ m. stands_before y m ≡ true) ys rises.0 x a)) refl
 
-  old_passes : stands_before x y ≡ true → AreFound old new xs (y ∷ ys) stay (here ++ x ∷ []) there
-  old_passes before =
+  near_passes : stands_before x y ≡ true → is_near near x ≡ true → AreFound near old new xs (y ∷ ys) stay (here ++ x ∷ []) there
+  near_passes before e =
       let none = old_apart before in
       record {
-        in_both = same_rest stay (filter (is_listed (y ∷ ys)) xs) (filter (is_listed new) old) (filter (is_listed (y ∷ ys)) (x ∷ xs)) found.in_both (none_shared x xs (y ∷ ys) none);
-        in_old = pushed here (filter (is_alone (y ∷ ys)) xs) (filter (is_alone new) old) (filter (is_alone (y ∷ ys)) (x ∷ xs)) x found.in_old (one_alone x xs (y ∷ ys) none);
-        in_new = same_rest there (filter (is_alone xs) (y ∷ ys)) (filter (is_alone old) new) (filter (is_alone (x ∷ xs)) (y ∷ ys)) found.in_new (same_alone x xs (y ∷ ys) none);
+        in_both = same_rest stay (filter (stays near (y ∷ ys)) xs) (filter (stays near new) old) (filter (stays near (y ∷ ys)) (x ∷ xs)) found.in_both (none_shared near x xs (y ∷ ys) none e);
+        in_old = pushed here (filter (goes near (y ∷ ys)) xs) (filter (goes near new) old) (filter (goes near (y ∷ ys)) (x ∷ xs)) x found.in_old (one_goes near x xs (y ∷ ys) none e);
+        in_new = same_rest there (filter (is_alone xs) (y ∷ ys)) (filter (is_alone old) new) (filter (is_alone (x ∷ xs)) (y ∷ ys)) found.in_new (same_alone near x xs (y ∷ ys) none);
+      }
+
+  far_passes : stands_before x y ≡ true → is_near near x ≡ false → AreFound near old new xs (y ∷ ys) (stay ++ x ∷ []) here there
+  far_passes before e =
+      let none = old_apart before in
+      record {
+        in_both = pushed stay (filter (stays near (y ∷ ys)) xs) (filter (stays near new) old) (filter (stays near (y ∷ ys)) (x ∷ xs)) x found.in_both (one_stays near x xs (y ∷ ys) none e);
+        in_old = same_rest here (filter (goes near (y ∷ ys)) xs) (filter (goes near new) old) (filter (goes near (y ∷ ys)) (x ∷ xs)) found.in_old (none_goes near x xs (y ∷ ys) none e);
+        in_new = same_rest there (filter (is_alone xs) (y ∷ ys)) (filter (is_alone old) new) (filter (is_alone (x ∷ xs)) (y ∷ ys)) found.in_new (same_alone near x xs (y ∷ ys) none);
       }
 
   -- nor is one that is not the other list's head and does not stand after it
@@ -115,13 +171,13 @@ module _ (old new stay here there : List Line) (x y : Line) (xs ys : List Line) 
   new_apart apart behind (inl e) = apart (sym e)
   new_apart apart behind (inr a) = let before = all_among (λ m. stands_before x m ≡ true) xs rising.0 y a in let both : true ≡ false = sym before ∙ behind in cc
 
-  new_passes : x ≢ y → stands_before x y ≡ false → AreFound old new (x ∷ xs) ys stay here (there ++ y ∷ [])
+  new_passes : x ≢ y → stands_before x y ≡ false → AreFound near old new (x ∷ xs) ys stay here (there ++ y ∷ [])
   new_passes apart behind =
       let none = new_apart apart behind in
       record {
-        in_both = same_rest stay (filter (is_listed ys) (x ∷ xs)) (filter (is_listed new) old) (filter (is_listed (y ∷ ys)) (x ∷ xs)) found.in_both (same_shared y ys (x ∷ xs) none);
-        in_old = same_rest here (filter (is_alone ys) (x ∷ xs)) (filter (is_alone new) old) (filter (is_alone (y ∷ ys)) (x ∷ xs)) found.in_old (same_alone y ys (x ∷ xs) none);
-        in_new = pushed there (filter (is_alone (x ∷ xs)) ys) (filter (is_alone old) new) (filter (is_alone (x ∷ xs)) (y ∷ ys)) y found.in_new (one_alone y ys (x ∷ xs) none);
+        in_both = same_rest stay (filter (stays near ys) (x ∷ xs)) (filter (stays near new) old) (filter (stays near (y ∷ ys)) (x ∷ xs)) found.in_both (same_shared near y ys (x ∷ xs) none);
+        in_old = same_rest here (filter (goes near ys) (x ∷ xs)) (filter (goes near new) old) (filter (goes near (y ∷ ys)) (x ∷ xs)) found.in_old (same_goes near y ys (x ∷ xs) none);
+        in_new = pushed there (filter (is_alone (x ∷ xs)) ys) (filter (is_alone old) new) (filter (is_alone (x ∷ xs)) (y ∷ ys)) y found.in_new (one_alone near y ys (x ∷ xs) none);
       }
 
 -- ---- by places
@@ -132,19 +188,19 @@ rising_drop (suc n) [] r = r
 rising_drop (suc n) (x ∷ xs) r = rising_drop n xs r.1
 
 -- so much was found in the first i of the old lines and the first j of the new ones
-abbrev pub AreFoundUpto : List Line → List Line → ℕ → ℕ → List Line → List Line → List Line → Type 0
-AreFoundUpto old new i j = AreFound old new (drop i old) (drop j new)
+abbrev pub AreFoundUpto : Rect → List Line → List Line → ℕ → ℕ → List Line → List Line → List Line → Type 0
+AreFoundUpto near old new i j = AreFound near old new (drop i old) (drop j new)
 
 -- nothing was found in none
-pub found_first : (old new stay here there : List Line) → stay ≡ [] → here ≡ [] → there ≡ [] → AreFoundUpto old new 0 0 stay here there
-found_first old new stay here there e f g = record {
-  in_both = ap (λ (ls : List Line). ls ++ filter (is_listed new) old) e;
-  in_old = ap (λ (ls : List Line). ls ++ filter (is_alone new) old) f;
+pub found_first : (near : Rect) (old new stay here there : List Line) → stay ≡ [] → here ≡ [] → there ≡ [] → AreFoundUpto near old new 0 0 stay here there
+found_first near old new stay here there e f g = record {
+  in_both = ap (λ (ls : List Line). ls ++ filter (stays near new) old) e;
+  in_old = ap (λ (ls : List Line). ls ++ filter (goes near new) old) f;
   in_new = ap (λ (ls : List Line). ls ++ filter (is_alone old) new) g;
 }
 
 -- the heads of what is left, as they are read
-module _ (pairs : List (Line × ℕ)) (new : List Line) (in_old : AreOrdered (lines_of pairs)) (in_new : AreOrdered new) (i j : ℕ) (e : Line × ℕ) (d : Line) (less : i < length pairs) (below : j < length new) where
+module _ (near : Rect) (pairs : List (Line × ℕ)) (new : List Line) (in_old : AreOrdered (lines_of pairs)) (in_new : AreOrdered new) (i j : ℕ) (e : Line × ℕ) (d : Line) (less : i < length pairs) (below : j < length new) where
   abbrev old : List Line
   old = lines_of pairs
 
@@ -166,24 +222,29 @@ module _ (pairs : List (Line × ℕ)) (new : List Line) (in_old : AreOrdered (li
   rising_new : AreRising (y ∷ drop (j + 1) new)
   rising_new = subst AreRising rest_new (rising_drop j new (rising_of_pairs (λ l m. stands_before l m ≡ true) new in_new))
 
-  module _ (stay here there : List Line) (found : AreFoundUpto old new i j stay here there) where
-    found_heads : AreFound old new (x ∷ drop (i + 1) old) (y ∷ drop (j + 1) new) stay here there
+  module _ (stay here there : List Line) (found : AreFoundUpto near old new i j stay here there) where
+    found_heads : AreFound near old new (x ∷ drop (i + 1) old) (y ∷ drop (j + 1) new) stay here there
     found_heads =
-        subst (λ (ls : List Line). AreFound old new ls (y ∷ drop (j + 1) new) stay here there) rest_old
-        (subst (λ (ls : List Line). AreFound old new (drop i old) ls stay here there) rest_new found)
+        subst (λ (ls : List Line). AreFound near old new ls (y ∷ drop (j + 1) new) stay here there) rest_old
+        (subst (λ (ls : List Line). AreFound near old new (drop i old) ls stay here there) rest_new found)
 
-    pub found_both : x ≡ y → AreFoundUpto old new (i + 1) (j + 1) (stay ++ x ∷ []) here there
-    found_both same = both_pass old new stay here there x y (drop (i + 1) old) (drop (j + 1) new) found_heads rising_old rising_new same
+    pub found_both : x ≡ y → AreFoundUpto near old new (i + 1) (j + 1) (stay ++ x ∷ []) here there
+    found_both same = both_pass near old new stay here there x y (drop (i + 1) old) (drop (j + 1) new) found_heads rising_old rising_new same
 
-    pub found_old : stands_before x y ≡ true → AreFoundUpto old new (i + 1) j stay (here ++ x ∷ []) there
-    found_old before =
-        subst (λ (ls : List Line). AreFound old new (drop (i + 1) old) ls stay (here ++ x ∷ []) there) (sym rest_new)
-        (old_passes old new stay here there x y (drop (i + 1) old) (drop (j + 1) new) found_heads rising_old rising_new before)
+    pub found_near : stands_before x y ≡ true → is_near near x ≡ true → AreFoundUpto near old new (i + 1) j stay (here ++ x ∷ []) there
+    found_near before e =
+        subst (λ (ls : List Line). AreFound near old new (drop (i + 1) old) ls stay (here ++ x ∷ []) there) (sym rest_new)
+        (near_passes near old new stay here there x y (drop (i + 1) old) (drop (j + 1) new) found_heads rising_old rising_new before e)
 
-    pub found_new : x ≢ y → stands_before x y ≡ false → AreFoundUpto old new i (j + 1) stay here (there ++ y ∷ [])
+    pub found_far : stands_before x y ≡ true → is_near near x ≡ false → AreFoundUpto near old new (i + 1) j (stay ++ x ∷ []) here there
+    found_far before e =
+        subst (λ (ls : List Line). AreFound near old new (drop (i + 1) old) ls (stay ++ x ∷ []) here there) (sym rest_new)
+        (far_passes near old new stay here there x y (drop (i + 1) old) (drop (j + 1) new) found_heads rising_old rising_new before e)
+
+    pub found_new : x ≢ y → stands_before x y ≡ false → AreFoundUpto near old new i (j + 1) stay here (there ++ y ∷ [])
     found_new apart behind =
-        subst (λ (ls : List Line). AreFound old new ls (drop (j + 1) new) stay here (there ++ y ∷ [])) (sym rest_old)
-        (new_passes old new stay here there x y (drop (i + 1) old) (drop (j + 1) new) found_heads rising_old rising_new apart behind)
+        subst (λ (ls : List Line). AreFound near old new ls (drop (j + 1) new) stay here (there ++ y ∷ [])) (sym rest_old)
+        (new_passes near old new stay here there x y (drop (i + 1) old) (drop (j + 1) new) found_heads rising_old rising_new apart behind)
 
 -- ---- what a comparison of two lines answers
 
@@ -200,45 +261,61 @@ two_lines false l m same e = λ one. not_so (same.1 one)
 
 -- ---- where one of the lists has ended
 
-none_of_none : (ls : List Line) → filter (is_listed []) ls ≡ []
-none_of_none [] = refl
-none_of_none (x ∷ xs) = none_of_none xs
+-- a line stays beside an empty list where it is not near
+stays_beside_none : (near : Rect) (l : Line) → stays near [] l ≡ not (is_near near l)
+stays_beside_none near l = false_last (not (is_near near l))
+  where
+    false_last : (b : Bool) → (b || false) ≡ b
+    false_last true = refl
+    false_last false = refl
+
+goes_beside_none : (near : Rect) (l : Line) → goes near [] l ≡ is_near near l
+goes_beside_none near l = ap not (stays_beside_none near l) ∙ twice (is_near near l)
+  where
+    twice : (b : Bool) → not (not b) ≡ b
+    twice true = refl
+    twice false = refl
 
 all_alone : (ls : List Line) → filter (is_alone []) ls ≡ ls
 all_alone [] = refl
 all_alone (x ∷ xs) = ap (λ (ls : List Line). x ∷ ls) (all_alone xs)
 
 -- what is left of the lists is alone
-record AreLeft (olds news : List Line) : Type 0 where
-  stay : filter (is_listed news) olds ≡ []
-  here : filter (is_alone news) olds ≡ olds
+record AreLeft (near : Rect) (olds news : List Line) : Type 0 where
+  stay : filter (stays near news) olds ≡ filter (λ l. not (is_near near l)) olds
+  here : filter (goes near news) olds ≡ filter (is_near near) olds
   there : filter (is_alone olds) news ≡ news
 
-no_new_left : (olds : List Line) → AreLeft olds []
-no_new_left olds = record { stay = none_of_none olds; here = all_alone olds; there = refl }
+no_new_left : (near : Rect) (olds : List Line) → AreLeft near olds []
+no_new_left near olds = record {
+  stay = filter_agree (stays near []) (λ l. not (is_near near l)) (stays_beside_none near) olds;
+  here = filter_agree (goes near []) (is_near near) (goes_beside_none near) olds;
+  there = refl;
+}
 
-no_old_left : (news : List Line) → AreLeft [] news
-no_old_left news = record { stay = refl; here = refl; there = all_alone news }
+no_old_left : (near : Rect) (news : List Line) → AreLeft near [] news
+no_old_left near news = record { stay = refl; here = refl; there = all_alone news }
 
-are_left : (olds news : List Line) → (olds ≡ []) ⊎ (news ≡ []) → AreLeft olds news
-are_left olds news (inl e) = subst (λ (ls : List Line). AreLeft ls news) (sym e) (no_old_left news)
-are_left olds news (inr e) = subst (AreLeft olds) (sym e) (no_new_left olds)
+are_left : (near : Rect) (olds news : List Line) → (olds ≡ []) ⊎ (news ≡ []) → AreLeft near olds news
+are_left near olds news (inl e) = subst (λ (ls : List Line). AreLeft near ls news) (sym e) (no_old_left near news)
+are_left near olds news (inr e) = subst (AreLeft near olds) (sym e) (no_new_left near olds)
 
-module _ (pairs : List (Line × ℕ)) (new : List Line) (i j : ℕ) (stay here there : List Line) (found : AreFoundUpto (lines_of pairs) new i j stay here there) (ended : (length pairs ≤ i) ⊎ (length new ≤ j)) where
-  left : AreLeft (drop i (lines_of pairs)) (drop j new)
-  left = are_left (drop i (lines_of pairs)) (drop j new) (elim ended as (λ _. (drop i (lines_of pairs) ≡ []) ⊎ (drop j new ≡ [])) [
+module _ (near : Rect) (pairs : List (Line × ℕ)) (new : List Line) (i j : ℕ) (stay here there : List Line) (found : AreFoundUpto near (lines_of pairs) new i j stay here there) (ended : (length pairs ≤ i) ⊎ (length new ≤ j)) where
+  left : AreLeft near (drop i (lines_of pairs)) (drop j new)
+  left = are_left near (drop i (lines_of pairs)) (drop j new) (elim ended as (λ _. (drop i (lines_of pairs) ≡ []) ⊎ (drop j new ≡ [])) [
     | inl h ↦ inl (drop_all i (lines_of pairs) (omega (arith, length-map pairs (λ p. p.0))))
     | inr h ↦ inr (drop_all j new h)
   ])
 
-  pub all_shared : stay ≡ filter (is_listed new) (lines_of pairs)
-  all_shared = sym (append-nil stay) ∙ sym (ap (λ (ls : List Line). stay ++ ls) left.stay) ∙ found.in_both
-
   -- what is left is read as slices up to the ends
-  pub all_here : here ++ lines_of (take (length pairs - i) (drop i pairs)) ≡ filter (is_alone new) (lines_of pairs)
-  all_here =
-      let rest : lines_of (take (length pairs - i) (drop i pairs)) ≡ drop i (lines_of pairs) = ap lines_of (take_rest pairs i) ∙ sym (drop-map (λ p. p.0) i pairs) in
-      ap (λ (ls : List Line). here ++ ls) (rest ∙ sym left.here) ∙ found.in_old
+  rest : lines_of (take (length pairs - i) (drop i pairs)) ≡ drop i (lines_of pairs)
+  rest = ap lines_of (take_rest pairs i) ∙ sym (drop-map (λ p. p.0) i pairs)
+
+  pub all_shared : stay ++ filter (λ l. not (is_near near l)) (lines_of (take (length pairs - i) (drop i pairs))) ≡ filter (stays near new) (lines_of pairs)
+  all_shared = ap (λ (ls : List Line). stay ++ ls) (ap (filter (λ l. not (is_near near l))) rest ∙ sym left.stay) ∙ found.in_both
+
+  pub all_here : here ++ filter (is_near near) (lines_of (take (length pairs - i) (drop i pairs))) ≡ filter (goes near new) (lines_of pairs)
+  all_here = ap (λ (ls : List Line). here ++ ls) (ap (filter (is_near near)) rest ∙ sym left.here) ∙ found.in_old
 
   pub all_there : there ++ take (length new - j) (drop j new) ≡ filter (is_alone (lines_of pairs)) new
   all_there = ap (λ (ls : List Line). there ++ ls) (take_rest new j ∙ sym left.there) ∙ found.in_new

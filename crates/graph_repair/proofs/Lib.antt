@@ -2,6 +2,8 @@
 pub mod Counted
 pub mod Taken
 pub mod Pairs
+pub mod Covering
+pub mod Unchanged
 pub mod Listing
 pub mod Compared
 pub mod Exchanged

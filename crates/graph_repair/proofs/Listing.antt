@@ -1,31 +1,34 @@
 -- Whether a line stands in a list, lists that part the kept lines of two floors, and the list of an arena.
-use Rattle.std.proofs.Common.{◌≡◌, ◌≢◌, ◌⊎◌, inl, inr, ℕ, ℤ, Bool, true, false, not, ◌&&◌, List, ◌++◌, refl, sym, ap, subst, ◌∙◌}
+use Rattle.std.proofs.Common.{◌≡◌, ◌≢◌, ◌⊎◌, inl, inr, ℕ, ℤ, Bool, true, false, not, ◌&&◌, ◌||◌, List, ◌++◌, refl, sym, ap, subst, ◌∙◌}
 use Rattle.std.specs.Prelude.{Contains, filter, Some, ◌↔◌}
 use Rattle.std.specs.FinMap.{get}
 use Rattle.std.specs.Ordering.{int_eq}
 use Rattle.std.proofs.lemmas.Bool.{cases_Bool}
 use Rattle.std.proofs.lemmas.Bool.Decides.{Decides-int_eq}
-use Rattle.std.proofs.lemmas.List.Elements.{All-from_recursion}
+use Rattle.std.proofs.lemmas.List.Elements.{All-contains, All-from_recursion}
 use Rattle.std.proofs.lemmas.List.Folds.{Any-from_list_any, list_any-from_Any}
 use Rattle.std.proofs.lemmas.List.Kept.{AllPairs-filter}
 use Rattle.plane_geom.specs.declared.point.Way.{Way}
 use Rattle.plane_geom.specs.declared.point.Way.TheVariants.{Vertical, Horizontal}
+use Rattle.plane_geom.specs.declared.rect.Rect.{Rect}
 use Rattle.plane_geom.specs.declared.floor.Line.{Line}
 use Rattle.plane_geom.specs.declared.floor.Floor.{Floor}
 use Rattle.plane_geom.specs.Floor.{IsKept}
 use Rattle.line_arena.specs.Arena.{Arena}
 use Rattle.line_arena.specs.Order.{AreInOrder}
 use Rattle.line_arena.specs.Stands.{StandsFor}
-use Rattle.sweep_lines.specs.Kept.{AreAllKept, AreOrdered}
+use Rattle.sweep_lines.specs.Kept.{AreAllKept, AreKept, AreOrdered, is_near}
 use Rattle.plane_geom.specs.Order.{stands_before}
 use Rattle.sweep_lines.proofs.Members.{Among, among_all, among_filter, among_filtered, among_map, among_mapped, among_of_any, among_of_contains, any_of_among, contains_of_among, pairs_of_rising, rising_joined, rising_map, rising_of_pairs}
 use Rattle.plane_geom.proofs.Order.{before_apart}
 use Rattle.visibility_graph.specs.Meeting.{same_way}
 use Rattle.visibility_graph.proofs.KeptList.{is_kept}
-use Rattle.graph_repair.specs.Listed.{is_listed, lines_of, same_line}
+use Rattle.graph_repair.specs.Listed.{goes, is_listed, lines_of, same_line, stays}
 use Rattle.graph_repair.specs.Change.{AreAlone, AreShared}
+use Rattle.graph_repair.specs.Changed.{DiffersWithin}
 use Rattle.graph_repair.proofs.Counted.{AreDistinct}
 use Rattle.graph_repair.proofs.Pairs.{rising_more}
+use Rattle.graph_repair.proofs.Unchanged.{kept_far}
 
 -- ---- equal lines
 
@@ -97,47 +100,92 @@ is_there ls l = elim (cases_Bool (is_listed ls l)) as (λ _. Contains ls l ⊎ (
 pub ordered_filter : (p : Line → Bool) (ls : List Line) → AreOrdered ls → AreOrdered (filter p ls)
 ordered_filter p ls ordered = AllPairs-filter (λ l m. stands_before l m ≡ true) p ls ordered
 
-module _ (a b : Floor) (ls ms : List Line) (of_a : AreAllKept a ls) (of_b : AreAllKept b ms) where
-  pub shared_lines : AreShared a b (filter (is_listed ms) ls)
+-- the new lines near what differs tell which old lines stay
+module _ (near : Rect) (a b : Floor) (gone : DiffersWithin near a b) (come : DiffersWithin near b a) (ls ms : List Line) (of_a : AreAllKept a ls) (of_b : AreKept b (λ l. is_near near l ≡ true) ms) where
+  abbrev test : Line → Bool
+  test = stays near ms
+
+  listed_kept : (l : Line) → is_listed ms l ≡ true → IsKept b l
+  listed_kept l e = (All-contains (λ l. IsKept b l × (is_near near l ≡ true)) ms l of_b.kept (contains_of_among ms l (among_of_listed ms l e))).0
+
+  kept_listed : (l : Line) → IsKept b l → is_near near l ≡ true → is_listed ms l ≡ true
+  kept_listed l k e = listed_of_among ms l (among_of_contains ms l (of_b.all l k e))
+
+  test_near : (l : Line) → is_near near l ≡ true → test l ≡ is_listed ms l
+  test_near l e = ap (λ c. not c || is_listed ms l) e
+
+  test_far : (l : Line) → is_near near l ≡ false → test l ≡ true
+  test_far l e = ap (λ c. not c || is_listed ms l) e
+
+  -- a line of the one floor stays where it is one of the other
+  other_of_stays : (l : Line) → IsKept a l → test l ≡ true → IsKept b l
+  other_of_stays l k e = elim (cases_Bool (is_near near l)) as (λ _. IsKept b l) [
+    | inl close ↦ listed_kept l (sym (test_near l close) ∙ e)
+    | inr far ↦ kept_far near a b gone come l far k
+  ]
+
+  stays_of_other : (l : Line) → IsKept b l → test l ≡ true
+  stays_of_other l k = elim (cases_Bool (is_near near l)) as (λ _. test l ≡ true) [
+    | inl close ↦ test_near l close ∙ kept_listed l k close
+    | inr far ↦ test_far l far
+  ]
+
+  not_other_of_goes : (l : Line) → not (test l) ≡ true → IsKept b l → ⊥
+  not_other_of_goes l e k = let both : false ≡ true = ap not (sym (stays_of_other l k)) ∙ e in cc
+
+  goes_of_not_other : (l : Line) → IsKept a l → (IsKept b l → ⊥) → not (test l) ≡ true
+  goes_of_not_other l k none = ap not (not_true (test l) (λ e. none (other_of_stays l k e)))
+
+  pub shared_lines : AreShared a b (filter test ls)
   shared_lines = record {
     listed = λ l. (
       λ c.
-          let f = among_filtered (is_listed ms) ls l (among_of_contains (filter (is_listed ms) ls) l c) in (
-            is_kept a ls of_a l (contains_of_among ls l f.0),
-            is_kept b ms of_b l (contains_of_among ms l (among_of_listed ms l f.1)),
-          ),
-      λ k.
-          contains_of_among (filter (is_listed ms) ls) l
-          (among_filter (is_listed ms) ls l (among_of_contains ls l (of_a.all l k.0 tt)) (listed_of_among ms l (among_of_contains ms l (of_b.all l k.1 tt)))),
+          let f = among_filtered test ls l (among_of_contains (filter test ls) l c) in
+          let k = is_kept a ls of_a l (contains_of_among ls l f.0) in
+          (k, other_of_stays l k f.1),
+      λ k. contains_of_among (filter test ls) l (among_filter test ls l (among_of_contains ls l (of_a.all l k.0 tt)) (stays_of_other l k.1)),
     );
-    ordered = ordered_filter (is_listed ms) ls of_a.ordered;
+    ordered = ordered_filter test ls of_a.ordered;
   }
 
-  not_listed : (l : Line) → not (is_listed ms l) ≡ true → IsKept b l → ⊥
-  not_listed l e k =
-      let stands = listed_of_among ms l (among_of_contains ms l (of_b.all l k tt)) in
-      let both : false ≡ true = ap not (sym stands) ∙ e in
-      cc
-
-  strange_listed : (l : Line) → (IsKept b l → ⊥) → not (is_listed ms l) ≡ true
-  strange_listed l none = elim (cases_Bool (is_listed ms l)) as (λ _. not (is_listed ms l) ≡ true) [
-    | inl stands ↦ absurd (none (is_kept b ms of_b l (contains_of_among ms l (among_of_listed ms l stands))))
-    | inr none ↦ ap not none
-  ]
-
-  pub lines_alone : AreAlone a b (filter (λ l. not (is_listed ms l)) ls)
+  pub lines_alone : AreAlone a b (filter (goes near ms) ls)
   lines_alone = record {
     listed = λ l. (
       λ c.
-          let f = among_filtered (λ l. not (is_listed ms l)) ls l (among_of_contains (filter (λ l. not (is_listed ms l)) ls) l c) in (
-            is_kept a ls of_a l (contains_of_among ls l f.0),
-            not_listed l f.1,
-          ),
-      λ k.
-          contains_of_among (filter (λ l. not (is_listed ms l)) ls) l
-          (among_filter (λ l. not (is_listed ms l)) ls l (among_of_contains ls l (of_a.all l k.0 tt)) (strange_listed l k.1)),
+          let f = among_filtered (goes near ms) ls l (among_of_contains (filter (goes near ms) ls) l c) in
+          (is_kept a ls of_a l (contains_of_among ls l f.0), not_other_of_goes l f.1),
+      λ k. contains_of_among (filter (goes near ms) ls) l (among_filter (goes near ms) ls l (among_of_contains ls l (of_a.all l k.0 tt)) (goes_of_not_other l k.0 k.1)),
     );
-    ordered = ordered_filter (λ l. not (is_listed ms l)) ls of_a.ordered;
+    ordered = ordered_filter (goes near ms) ls of_a.ordered;
+  }
+
+  -- a new line is near, since else it would be an old one
+  near_of_new : (l : Line) → IsKept b l → (IsKept a l → ⊥) → is_near near l ≡ true
+  near_of_new l k none = elim (cases_Bool (is_near near l)) as (λ _. is_near near l ≡ true) [
+    | inl close ↦ close
+    | inr far ↦ absurd (none (kept_far near b a come gone l far k))
+  ]
+
+  not_listed : (l : Line) → not (is_listed ls l) ≡ true → IsKept a l → ⊥
+  not_listed l e k =
+      let stands = listed_of_among ls l (among_of_contains ls l (of_a.all l k tt)) in
+      let both : false ≡ true = ap not (sym stands) ∙ e in
+      cc
+
+  strange_listed : (l : Line) → (IsKept a l → ⊥) → not (is_listed ls l) ≡ true
+  strange_listed l none = ap not (not_true (is_listed ls l) (λ e. none (is_kept a ls of_a l (contains_of_among ls l (among_of_listed ls l e)))))
+
+  pub new_lines : AreAlone b a (filter (λ l. not (is_listed ls l)) ms)
+  new_lines = record {
+    listed = λ l. (
+      λ c.
+          let f = among_filtered (λ l. not (is_listed ls l)) ms l (among_of_contains (filter (λ l. not (is_listed ls l)) ms) l c) in
+          (listed_kept l (listed_of_among ms l f.0), not_listed l f.1),
+      λ k.
+          contains_of_among (filter (λ l. not (is_listed ls l)) ms) l
+          (among_filter (λ l. not (is_listed ls l)) ms l (among_of_contains ms l (of_b.all l k.0 (near_of_new l k.0 k.1))) (strange_listed l k.1)),
+    );
+    ordered = ordered_filter (λ l. not (is_listed ls l)) ms of_b.ordered;
   }
 
 -- ---- the two parts of the kept lines of a floor

@@ -1,16 +1,27 @@
--- Whether a line stands in a list, and the lines of pairs. No public clause cites this module.
-use Rattle.std.specs.Prelude.{Bool, ◌&&◌, ℕ, List, map}
+-- Whether a line stands in a list, whether it stays, and the lines of pairs. No public clause cites this module.
+use Rattle.std.specs.Prelude.{Bool, not, ◌&&◌, ◌||◌, ℕ, List, map}
 use Rattle.std.specs.List.{list_any}
 use Rattle.std.specs.Ordering.{int_eq}
+use Rattle.plane_geom.specs.declared.rect.Rect.{Rect}
 use Rattle.plane_geom.specs.declared.floor.Line.{Line}
+use Rattle.sweep_lines.specs.Kept.{is_near}
 use Rattle.visibility_graph.specs.Meeting.{same_way}
 
+-- whether the lines are one
 abbrev pub same_line : Line → Line → Bool
 same_line l m = same_way l.way m.way && (int_eq l.at m.at && (int_eq l.lo m.lo && int_eq l.hi m.hi))
 
 -- whether the line is one of those listed
 abbrev pub is_listed : List Line → Line → Bool
 is_listed ls l = list_any (same_line l) ls
+
+-- whether an old line stays, where the new lines near a rectangle are listed
+abbrev pub stays : Rect → List Line → Line → Bool
+stays near news l = not (is_near near l) || is_listed news l
+
+-- whether it goes
+abbrev pub goes : Rect → List Line → Line → Bool
+goes near news l = not (stays near news l)
 
 -- the lines of pairs of a line and its id
 abbrev pub lines_of : List (Line × ℕ) → List Line

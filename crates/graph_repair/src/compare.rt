@@ -1,16 +1,16 @@
 //! What two lists of lines have in common, and what each has alone.
 ghost use Rattle.std.specs.Prelude.{◌≡◌, ◌↔◌, ◌++◌, not, IsTrue, IfOk, OnOk, filter};
-ghost use Rattle.sweep_lines.specs.Kept.{AreOrdered};
-ghost use Rattle.graph_repair.specs.Listed.{is_listed, lines_of};
+ghost use Rattle.sweep_lines.specs.Kept.{AreOrdered, is_near};
+ghost use Rattle.graph_repair.specs.Listed.{goes, is_listed, lines_of, stays};
 
 use line_arena::LineId;
-use plane_geom::Line;
+use plane_geom::{Line, Rect, Way};
 use std::alloc::{AllocError, Global};
 
 /// The lines of two lists, an old one and a new one.
 #[derive(Drop)]
 pub struct Difference {
-    // Those of both, those of the old list alone, and those of the new list alone, each in the order of its list.
+    // Those that stay, those of the old list alone, and those of the new list alone, each in the order of its list.
     pub stay: Vec<Line>,
     pub here: Vec<Line>,
     pub there: Vec<Line>,
@@ -18,46 +18,72 @@ pub struct Difference {
 
 /// Compares the lines of two lists in one pass over both, since both are in order.
 ///
-/// Lines that begin at one point and end at two are two. The only error is want of memory.
+/// The new list has the lines near the rectangle alone, so that old lines stay that are not near it. Lines that begin
+/// at one point and end at two are two. The only error is want of memory.
 pub fn compare(
     alloc: Global,
+    near: &Rect,
     old: &[(Line, LineId)],
     new: &[Line],
 ) -> Result<Difference, AllocError>
     requires old { AreOrdered (lines_of old.now) }
     requires new { AreOrdered new.now }
-    ensures stay { IfOk result (λ d. d.stay.items ≡ filter (is_listed new.now) (lines_of old.now)) }
-    ensures here { IfOk result (λ d. d.here.items ≡ filter (λ l. not (is_listed new.now l)) (lines_of old.now)) }
+    ensures stay { IfOk result (λ d. d.stay.items ≡ filter (stays near.now new.now) (lines_of old.now)) }
+    ensures here { IfOk result (λ d. d.here.items ≡ filter (goes near.now new.now) (lines_of old.now)) }
     ensures there { IfOk result (λ d. d.there.items ≡ filter (λ l. not (is_listed (lines_of old.now) l)) new.now) }
 {
     let (mut stay, mut here, mut there) = (Vec::new(alloc), Vec::new(alloc), Vec::new(alloc));
-    let (mut i, mut j) = (0, 0);
-    'both: while i < old.len() && j < new.len() {
-        let (line, _) = old[i];
-        let other = new[j];
+    let (mut place, mut other_place) = (0, 0);
+    'both: while place < old.len() && other_place < new.len() {
+        let (line, _) = old[place];
+        let other = new[other_place];
         if line.is_same(&other) {
             stay.push(line)?;
-            i += 1;
-            j += 1;
-        } else if line.stands_before(&other) {
-            here.push(line)?;
-            i += 1;
-        } else {
+            place += 1;
+            other_place += 1;
+        } else if !line.stands_before(&other) {
             there.push(other)?;
-            j += 1;
+            other_place += 1;
+        } else if is_near(near, &line) {
+            here.push(line)?;
+            place += 1;
+        } else {
+            stay.push(line)?;
+            place += 1;
         }
     }
-    push_lines(&mut here, &old[i..])?;
-    there.extend_from_slice(&new[j..])?;
+    part_lines(near, &old[place..], &mut stay, &mut here)?;
+    there.extend_from_slice(&new[other_place..])?;
     Ok(Difference { stay, here, there })
 }
 
-/// Appends the lines of the pairs.
-fn push_lines(lines: &mut Vec<Line>, pairs: &[(Line, LineId)]) -> Result<(), AllocError>
-    ensures { OnOk result (lines.new.items ≡ lines.old.items ++ lines_of pairs.now) }
+/// Appends the lines of the pairs, to those here where they are near the rectangle, and else to those that stay.
+fn part_lines(
+    near: &Rect,
+    pairs: &[(Line, LineId)],
+    stay: &mut Vec<Line>,
+    here: &mut Vec<Line>,
+) -> Result<(), AllocError>
+    ensures stay { OnOk result (stay.new.items ≡ stay.old.items ++ filter (λ l. not (is_near near.now l)) (lines_of pairs.now)) }
+    ensures here { OnOk result (here.new.items ≡ here.old.items ++ filter (is_near near.now) (lines_of pairs.now)) }
 {
     for (line, _) in pairs {
-        lines.push(*line)?;
+        if is_near(near, line) {
+            here.push(*line)?;
+        } else {
+            stay.push(*line)?;
+        }
     }
     Ok(())
+}
+
+/// Whether the line's coordinate is from the one to the other side of the rectangle across it.
+fn is_near(near: &Rect, line: &Line) -> bool
+    ensures { result ≡ is_near near.now line.now }
+{
+    let (first, last) = match line.way {
+        Way::Vertical => (near.left, near.right),
+        Way::Horizontal => (near.top, near.bottom),
+    };
+    first <= line.at && line.at <= last
 }

@@ -5,12 +5,13 @@ ghost use Rattle.sweep_lines.specs.Kept.{AreOrdered};
 ghost use Rattle.visibility_graph.specs.Meeting.{coming};
 ghost use Rattle.graph_repair.specs.Change.{LeadsFrom};
 
+use crate::changed::changed;
 use crate::compare::{Difference, compare};
 use crate::exchange::take;
 use crate::repair::Repair;
 use plane_geom::{Floor, Line};
 use std::alloc::{AllocError, Global};
-use sweep_lines::all_lines;
+use sweep_lines::lines_near;
 use visibility_graph::{Graph, crossings_of};
 
 /// Plans a repair of the graph to the new floor, and takes all memory that it and the way back will need.
@@ -18,7 +19,6 @@ use visibility_graph::{Graph, crossings_of};
 /// The graph's floor, lines, crossings and `written` stay as they are, also where memory is wanting, which is the
 /// only error.
 pub fn plan(alloc: Global, graph: &mut Graph, new: &Floor) -> Result<Repair, AllocError>
-    requires old_floor { IsFloor graph.old.floor }
     requires new_floor { IsFloor new.now }
     ensures floor { graph.new.floor ≡ graph.old.floor }
     ensures lines { graph.new.arena.lines ≡ graph.old.arena.lines }
@@ -29,9 +29,10 @@ pub fn plan(alloc: Global, graph: &mut Graph, new: &Floor) -> Result<Repair, All
     ensures new_floor { IfOk result (λ r. r.floor ≡ new.now) }
 {
     let floor = new.copy(alloc)?;
-    let new_lines = all_lines(alloc, &floor)?;
+    let near = changed(graph.floor(), &floor);
+    let new_lines = lines_near(alloc, &floor, &near)?;
     let old_lines = graph.arena().lines_in_order();
-    let Difference { stay, here, there } = compare(alloc, old_lines, new_lines.as_slice())?;
+    let Difference { stay, here, there } = compare(alloc, &near, old_lines, new_lines.as_slice())?;
     graph.arena().laws();
     make_room(
         alloc,

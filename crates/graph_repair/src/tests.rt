@@ -1,12 +1,14 @@
-//! The worked row both ways, repairs that change little or nothing, and one of a large floor.
+//! The worked row both ways, repairs that change little, nothing or all, the hulls of what changes, and a large floor.
 ghost use Rattle.std.specs.Prelude.{◌≤◌, All, IfOk, IfSome, OnOk, length};
 ghost use Rattle.plane_geom.specs.Point.{IsCoordinate, PointIsOnSheet};
 ghost use Rattle.plane_geom.specs.Floor.{IsFloor, IsSolid};
 
+use crate::changed::changed;
 use crate::{apply, plan, revert};
 use plane_geom::{Floor, Point, Points, Rect, Solid, Solids};
 use std::alloc::{AllocError, Global};
 use std::test::Fail;
+use sweep_lines::all_lines;
 use visibility_graph::Graph;
 
 /// Left, top, right and bottom.
@@ -137,6 +139,100 @@ fn writes_what_is_new(rt: HostRuntime) -> Result<(), Fail> {
     let without = floor(alloc, &corridor, &[])?;
     let with = floor(alloc, &corridor, &[(5, 10)])?;
     assert_eq!(rt; turns(alloc, &without, &with)?, [11, 11, 13, 13, 15]);
+    Ok(())
+}
+
+/// Whether the graph has exactly the kept lines of the floor.
+fn has_lines(alloc: Global, graph: &Graph, floor: &Floor) -> Result<bool, AllocError>
+    requires { IsFloor floor.now }
+{
+    let mut lines = Vec::new(alloc);
+    for (line, _) in graph.arena().lines_in_order() {
+        lines.push(*line)?;
+    }
+    Ok(lines.as_slice() == all_lines(alloc, floor)?.as_slice())
+}
+
+/// Whether a repair from the one floor to the other and back finds the kept lines of both.
+fn finds_lines(alloc: Global, old: &Floor, new: &Floor) -> Result<bool, AllocError>
+    requires old { IsFloor old.now }
+    requires new { IsFloor new.now }
+{
+    let mut graph = Graph::build(alloc, old)?;
+    let mut repair = plan(alloc, &mut graph, new)?;
+    apply(&mut graph, &mut repair);
+    let there = has_lines(alloc, &graph, new)?;
+    revert(&mut graph, &mut repair);
+    Ok(there && has_lines(alloc, &graph, old)?)
+}
+
+/// How far a node is moved from its place, if it is there.
+type Shift = Option<(i8, i8)>;
+
+const HERE: Shift = Some((0, 0));
+
+/// A floor of nodes with two anchors each.
+fn nodes(alloc: Global, shifts: [Shift; 5]) -> Result<Floor, AllocError>
+    ensures { IfOk result IsFloor }
+{
+    let (mut rects, mut anchors) = (Vec::new(alloc), Vec::new(alloc));
+    for place in 0..5u8 {
+        if let Some((right, down)) = shifts[usize::from(place)] {
+            let x = i16::from(place) * 60 + i16::from(right);
+            let y = i16::from(place % 3) * 45 + i16::from(down);
+            rects.push((x, y, x + 30, y + 20))?;
+            anchors.push((x, y + 10))?;
+            anchors.push((x + 30, y + 7))?;
+        }
+    }
+    floor(alloc, rects.as_slice(), anchors.as_slice())
+}
+
+/// The hull of what differs, as left, top, right and bottom.
+fn hull(old: &Floor, new: &Floor) -> (i64, i64, i64, i64) {
+    let hull = changed(old, new);
+    (hull.left, hull.top, hull.right, hull.bottom)
+}
+
+#[test]
+fn finds_lines_near_what_changes(rt: HostRuntime) -> Result<(), Fail> {
+    let alloc = rt.alloc();
+    let all = nodes(alloc, [HERE; 5])?;
+    let nowhere = (i64::MAX, i64::MAX, i64::MIN, i64::MIN);
+    let moved = Some((7, -13));
+    let cases = [
+        ([HERE; 5], nowhere),
+        ([HERE, HERE, None, HERE, HERE], (120, 90, 150, 110)),
+        ([None, HERE, HERE, HERE, HERE], (0, 0, 30, 20)),
+        ([HERE, HERE, HERE, HERE, None], (240, 45, 270, 65)),
+        ([HERE, HERE, moved, HERE, HERE], (120, 77, 157, 110)),
+        ([HERE, HERE, moved, None, HERE], (120, 0, 210, 110)),
+        // Far apart, onto a node and onto the whole line of a side, and all.
+        ([moved, HERE, HERE, HERE, Some((0, 99))], (0, -13, 270, 164)),
+        (
+            [Some((60, 45)), HERE, HERE, Some((30, 0)), HERE],
+            (0, 0, 240, 65),
+        ),
+        ([Some((11, 4)); 5], (0, 0, 281, 114)),
+    ];
+    for (shifts, want) in cases {
+        let other = nodes(alloc, shifts)?;
+        assert_eq!(rt; hull(&all, &other), want);
+        assert_eq!(rt; hull(&other, &all), want);
+        assert!(rt; finds_lines(alloc, &all, &other)?);
+        assert!(rt; finds_lines(alloc, &other, &all)?);
+    }
+    Ok(())
+}
+
+#[test]
+fn finds_lines_of_an_anchor_that_moves(rt: HostRuntime) -> Result<(), Fail> {
+    let alloc = rt.alloc();
+    let rects = [SQUARE, (30, 0, 40, 10), (20, 30, 50, 40)];
+    let old = floor(alloc, &rects, &[(0, 5), (25, 20), (50, 35)])?;
+    let new = floor(alloc, &rects, &[(0, 5), (25, 28), (50, 35)])?;
+    assert_eq!(rt; hull(&old, &new), (25, 20, 25, 28));
+    assert!(rt; finds_lines(alloc, &old, &new)?);
     Ok(())
 }
 

@@ -3,68 +3,89 @@ use Rattle.std.proofs.Common.{◌≤◌, ◌+◌, ◌⊎◌, List, inl, inr, len
 use Rattle.plane_geom.specs.declared.floor.Line.{Line}
 use Rattle.visibility_graph.proofs.Counts.{no_line}
 use Rattle.graph_repair.specs.Listed.{lines_of}
-use Rattle.graph_repair.proofs.Compared.{AreFoundUpto, all_here, all_shared, all_there, found_both, found_first, found_new, found_old, one_line, two_lines}
+use Rattle.graph_repair.proofs.Compared.{AreFoundUpto, all_here, all_shared, all_there, found_both, found_far, found_first, found_near, found_new, one_line, two_lines}
 use Rattle.graph_repair.proofs.compare.compare.Goals as goal
-use Rattle.graph_repair.proofs.compare.compare.Goals.{In_ok-extend_from_slice, else-both-test, then-both-test+else-j-new}
+use Rattle.graph_repair.proofs.compare.compare.Goals.{In_ok-extend_from_slice, else-both-test, then-both-test+else-other_place-new}
 
 pub both-init : goal.both-init
 both-init c = record {
   within_old = omega arith;
   within_new = omega arith;
-  found = found_first (lines_of c.args.old.now) c.args.new.now c.new-stay.result.items c.new-here.result.items c.new-there.result.items c.new-stay.ensures.items c.new-here.ensures.items c.new-there.ensures.items;
+  found = found_first c.args.near.now (lines_of c.args.old.now) c.args.new.now c.new-stay.result.items c.new-here.result.items c.new-there.result.items c.new-stay.ensures.items c.new-here.ensures.items c.new-there.ensures.items;
 }
 
 pub both-preserved-then-is_same : goal.both-preserved-then-is_same
 both-preserved-then-is_same c =
+    let near = c.args.near.now in
     let old = c.args.old.now in
     let new = c.args.new.now in
-    let line = (get_or old c.both.i c.index-old-i.result).0 in
-    let same = one_line c.is_same.result line (get_or new c.both.j no_line) c.is_same.ensures c.if-is_same.true in
+    let line = (get_or old c.both.place c.index-old-place.result).0 in
+    let same = one_line c.is_same.result line (get_or new c.both.other_place no_line) c.is_same.ensures c.if-is_same.true in
     record {
       within_old = omega arith;
       within_new = omega arith;
-      found = subst (λ (ls : List Line). AreFoundUpto (lines_of old) new (c.both.i + 1) (c.both.j + 1) ls c.both.here.items c.both.there.items) (sym (c.in_ok-push.ensures {u = tt}).items)
-          (found_both old new c.requires.old c.requires.new c.both.i c.both.j c.index-old-i.result no_line (omega arith) (omega arith) c.both.stay.items c.both.here.items c.both.there.items c.both.invariant.found same);
+      found = subst (λ (ls : List Line). AreFoundUpto near (lines_of old) new (c.both.place + 1) (c.both.other_place + 1) ls c.both.here.items c.both.there.items) (sym (c.in_ok-push.ensures {u = tt}).items)
+          (found_both near old new c.requires.old c.requires.new c.both.place c.both.other_place c.index-old-place.result no_line (omega arith) (omega arith) c.both.stay.items c.both.here.items c.both.there.items c.both.invariant.found same);
     }
 
-pub both-preserved-then-stands_before : goal.both-preserved-then-stands_before
-both-preserved-then-stands_before c =
+pub both-preserved-then-not-stands_before : goal.both-preserved-then-not-stands_before
+both-preserved-then-not-stands_before c =
+    let near = c.args.near.now in
     let old = c.args.old.now in
     let new = c.args.new.now in
-    let before = sym c.stands_before.ensures ∙ c.if-stands_before.true in
+    let line = (get_or old c.both.place c.index-old-place.result).0 in
+    let apart = two_lines c.is_same.result line (get_or new c.both.other_place no_line) c.is_same.ensures c.if-is_same.false in
+    let behind = sym c.stands_before.ensures ∙ c.if-not-stands_before.true in
     record {
       within_old = omega arith;
       within_new = omega arith;
-      found = subst (λ (ls : List Line). AreFoundUpto (lines_of old) new (c.both.i + 1) c.both.j c.both.stay.items ls c.both.there.items) (sym (c.in_ok-push-2.ensures {u = tt}).items)
-          (found_old old new c.requires.old c.requires.new c.both.i c.both.j c.index-old-i.result no_line (omega arith) (omega arith) c.both.stay.items c.both.here.items c.both.there.items c.both.invariant.found before);
+      found = subst (λ (ls : List Line). AreFoundUpto near (lines_of old) new c.both.place (c.both.other_place + 1) c.both.stay.items c.both.here.items ls) (sym (c.in_ok-push-2.ensures {u = tt}).items)
+          (found_new near old new c.requires.old c.requires.new c.both.place c.both.other_place c.index-old-place.result no_line (omega arith) (omega arith) c.both.stay.items c.both.here.items c.both.there.items c.both.invariant.found apart behind);
+    }
+
+pub both-preserved-then-is_near : goal.both-preserved-then-is_near
+both-preserved-then-is_near c =
+    let near = c.args.near.now in
+    let old = c.args.old.now in
+    let new = c.args.new.now in
+    let before = sym c.stands_before.ensures ∙ c.if-not-stands_before.false in
+    record {
+      within_old = omega arith;
+      within_new = omega arith;
+      found = subst (λ (ls : List Line). AreFoundUpto near (lines_of old) new (c.both.place + 1) c.both.other_place c.both.stay.items ls c.both.there.items) (sym (c.in_ok-push-3.ensures {u = tt}).items)
+          (found_near near old new c.requires.old c.requires.new c.both.place c.both.other_place c.index-old-place.result no_line (omega arith) (omega arith) c.both.stay.items c.both.here.items c.both.there.items c.both.invariant.found before
+          (sym c.is_near.ensures ∙ c.if-is_near.true));
     }
 
 pub both-preserved : goal.both-preserved
 both-preserved c =
+    let near = c.args.near.now in
     let old = c.args.old.now in
     let new = c.args.new.now in
-    let line = (get_or old c.both.i c.index-old-i.result).0 in
-    let apart = two_lines c.is_same.result line (get_or new c.both.j no_line) c.is_same.ensures c.if-is_same.false in
-    let behind = sym c.stands_before.ensures ∙ c.if-stands_before.false in
+    let before = sym c.stands_before.ensures ∙ c.if-not-stands_before.false in
     record {
       within_old = omega arith;
       within_new = omega arith;
-      found = subst (λ (ls : List Line). AreFoundUpto (lines_of old) new c.both.i (c.both.j + 1) c.both.stay.items c.both.here.items ls) (sym (c.in_ok-push-3.ensures {u = tt}).items)
-          (found_new old new c.requires.old c.requires.new c.both.i c.both.j c.index-old-i.result no_line (omega arith) (omega arith) c.both.stay.items c.both.here.items c.both.there.items c.both.invariant.found apart behind);
+      found = subst (λ (ls : List Line). AreFoundUpto near (lines_of old) new (c.both.place + 1) c.both.other_place ls c.both.here.items c.both.there.items) (sym (c.in_ok-push-4.ensures {u = tt}).items)
+          (found_far near old new c.requires.old c.requires.new c.both.place c.both.other_place c.index-old-place.result no_line (omega arith) (omega arith) c.both.stay.items c.both.here.items c.both.there.items c.both.invariant.found before
+          (sym c.is_near.ensures ∙ c.if-is_near.false));
     }
 
 -- one of the lists has ended
-ended : (c : In_ok-extend_from_slice) → (length c.args.old.now ≤ c.both.i) ⊎ (length c.args.new.now ≤ c.both.j)
-ended c = elim c.both-test.branch [ then-both-test+else-j-new w ↦ inr (omega (arith, w.if-j-new.false)) | else-both-test w ↦ inl (omega (arith, w.both-test.false)) ]
+ended : (c : In_ok-extend_from_slice) → (length c.args.old.now ≤ c.both.place) ⊎ (length c.args.new.now ≤ c.both.other_place)
+ended c = elim c.both-test.branch [ then-both-test+else-other_place-new w ↦ inr (omega (arith, w.if-other_place-new.false)) | else-both-test w ↦ inl (omega (arith, w.both-test.false)) ]
 
 pub returns-clause-stay : goal.returns-clause-stay
-returns-clause-stay c = all_shared c.args.old.now c.args.new.now c.both.i c.both.j c.both.stay.items c.both.here.items c.both.there.items c.both.invariant.found (ended c)
+returns-clause-stay c =
+    (c.in_ok-part_lines.ensures {u = tt}).stay
+    ∙ all_shared c.args.near.now c.args.old.now c.args.new.now c.both.place c.both.other_place c.both.stay.items c.both.here.items c.both.there.items c.both.invariant.found (ended c)
 
 pub returns-clause-here : goal.returns-clause-here
 returns-clause-here c =
-    (c.in_ok-push_lines.ensures {u = tt}) ∙ all_here c.args.old.now c.args.new.now c.both.i c.both.j c.both.stay.items c.both.here.items c.both.there.items c.both.invariant.found (ended c)
+    (c.in_ok-part_lines.ensures {u = tt}).here
+    ∙ all_here c.args.near.now c.args.old.now c.args.new.now c.both.place c.both.other_place c.both.stay.items c.both.here.items c.both.there.items c.both.invariant.found (ended c)
 
 pub returns-clause-there : goal.returns-clause-there
 returns-clause-there c =
     (c.in_ok-extend_from_slice.ensures {u = tt}).items
-    ∙ all_there c.args.old.now c.args.new.now c.both.i c.both.j c.both.stay.items c.both.here.items c.both.there.items c.both.invariant.found (ended c)
+    ∙ all_there c.args.near.now c.args.old.now c.args.new.now c.both.place c.both.other_place c.both.stay.items c.both.here.items c.both.there.items c.both.invariant.found (ended c)

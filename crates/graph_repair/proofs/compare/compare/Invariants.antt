@@ -6,10 +6,10 @@ use Rattle.graph_repair.proofs.compare.compare.Given as goal
 
 abbrev pub invariant-both : goal.invariant-both
 invariant-both l = record {
-  within_old : l.i ≤ length l.old;
-  within_new : l.j ≤ length l.new;
-  found : AreFoundUpto (lines_of l.old) l.new l.i l.j l.stay.items l.here.items l.there.items;
+  within_old : l.place ≤ length l.old;
+  within_new : l.other_place ≤ length l.new;
+  found : AreFoundUpto l.near (lines_of l.old) l.new l.place l.other_place l.stay.items l.here.items l.there.items;
 }
 
 abbrev pub decreases-both : goal.decreases-both
-decreases-both l = (length l.old - l.i) + (length l.new - l.j)
+decreases-both l = (length l.old - l.place) + (length l.new - l.other_place)

@@ -1,0 +1,12 @@
+-- The lines so far were appended.
+use Rattle.std.proofs.Common.{◌≡◌, ◌++◌, not, take}
+use Rattle.std.specs.Prelude.{filter}
+use Rattle.sweep_lines.specs.Kept.{is_near}
+use Rattle.graph_repair.specs.Listed.{lines_of}
+use Rattle.graph_repair.proofs.compare.part_lines.Given as goal
+
+abbrev pub invariant-loop-line : goal.invariant-loop-line
+invariant-loop-line l = record {
+  stay : l.stay.items ≡ l.initial.stay.items ++ filter (λ m. not (is_near l.near m)) (lines_of (take l.line-index l.pairs));
+  here : l.here.items ≡ l.initial.here.items ++ filter (is_near l.near) (lines_of (take l.line-index l.pairs));
+}
