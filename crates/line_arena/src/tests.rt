@@ -185,6 +185,68 @@ fn answers_each_call(rt: HostRuntime) -> Result<(), Fail> {
     Ok(())
 }
 
+/// Puts in the crossings of the grid at these columns and rows, one after another.
+fn put_all(arena: &mut LineArena, places: &[(u8, u8)]) -> Result<(), AllocError> {
+    for (column, row) in places {
+        toggle(arena, *column % SIDE, *row % SIDE)?;
+    }
+    Ok(())
+}
+
+/// The points of the grid at these columns and rows.
+fn points_at(alloc: Global, places: &[(u8, u8)]) -> Result<Vec<Point>, AllocError> {
+    let mut points = Vec::new(alloc);
+    for (column, row) in places {
+        points.push(grid_point(*column, *row))?;
+    }
+    Ok(points)
+}
+
+#[test]
+fn puts_between_others(rt: HostRuntime) -> Result<(), Fail> {
+    let mut arena = lined(rt.alloc())?;
+    // The one to the north of (5, 12) has one to the west of it, which leads south to this row. That of (11, 12) leads
+    // to another row. (15, 12) has none to the north, and those of (16, 12) and (17, 12) lead nowhere.
+    put_all(&mut arena, &[(2, 12), (20, 12), (2, 10), (5, 10), (5, 12)])?;
+    put_all(
+        &mut arena,
+        &[(7, 11), (7, 13), (11, 11), (11, 12), (15, 12)],
+    )?;
+    put_all(&mut arena, &[(16, 9), (16, 12), (13, 8), (17, 8), (17, 12)])?;
+    // The one to the west of (5, 15) has one to the north of it, which leads east to this column.
+    put_all(&mut arena, &[(5, 20), (2, 15), (5, 15)])?;
+    let row = [
+        (2, 12),
+        (5, 12),
+        (11, 12),
+        (15, 12),
+        (16, 12),
+        (17, 12),
+        (20, 12),
+    ];
+    let mut row = points_at(rt.alloc(), &row)?;
+    assert_eq!(rt;
+        walked(rt.alloc(), &arena, grid_point(2, 12), Dir::East)?,
+        row
+    );
+    row.reverse();
+    assert_eq!(rt;
+        walked(rt.alloc(), &arena, grid_point(20, 12), Dir::West)?,
+        row
+    );
+    let mut column = points_at(rt.alloc(), &[(5, 10), (5, 12), (5, 15), (5, 20)])?;
+    assert_eq!(rt;
+        walked(rt.alloc(), &arena, grid_point(5, 10), Dir::South)?,
+        column
+    );
+    column.reverse();
+    assert_eq!(rt;
+        walked(rt.alloc(), &arena, grid_point(5, 20), Dir::North)?,
+        column
+    );
+    Ok(())
+}
+
 #[test]
 fn fills_just_the_room_taken(rt: HostRuntime) -> Result<(), Fail> {
     let row = Line {
