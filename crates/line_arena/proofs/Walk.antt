@@ -13,10 +13,11 @@ use Rattle.line_arena.specs.declared.lists.Lists.{Lists}
 use Rattle.line_arena.specs.declared.node.Node.{Node}
 use Rattle.plane_geom.specs.Along.{IsFurther, reach, way_of}
 use Rattle.line_arena.specs.Entries.{entry_at}
-use Rattle.line_arena.specs.Node.{next_of}
-use Rattle.line_arena.specs.Lists.{AreLists, IsFirstFrom, IsNext, IsPast, RunsAlong, Spot, Stands, line_along, line_at, link, spot_at, spot_of}
+use Rattle.line_arena.specs.Node.{line_of, next_of}
+use Rattle.line_arena.specs.Lists.{AreLists, IsFirstFrom, IsNext, IsPast, RunsAlong, Spot, Stands, StandsBefore, line_along, line_at, link, spot_at, spot_of}
 use Rattle.line_arena.proofs.Nearest.{int_apart, next_from_previous, not_below, past_further}
 use Rattle.line_arena.proofs.Linked.{reach-opposite, same_spot, turned, turned_back}
+use Rattle.line_arena.proofs.Joined.{line_of-spot}
 use Rattle.line_arena.proofs.Put.{apart_of_sound}
 
 none_some_spot : (s : Spot) → None ≡ Some s → ⊥
@@ -39,12 +40,22 @@ pub record IsComing (a : Lists) (l : ℕ) (d : Dir) (p : Point) (next : Option �
   pub is_next : IsNext (Stands (spot_at a) l d) from next
 
 module _ (a : Lists) (l : ℕ) (d : Dir) (p : Point) (lists : AreLists a) (runs : RunsAlong a l d) where
-  pub coming_first : (next : Option ℕ) → next ≡ link a l None d → IsComing a l d p next
-  coming_first next e = record {
+  -- what follows a crossing of the line is the nearest past it
+  next_past : (c : ℕ) (z : ℤ) → Stands (spot_at a) l d c z → IsNext (Stands (spot_at a) l d) (Some z) (link a l (Some c) d)
+  next_past c z here =
+      let on = subst (λ m. IsNext (Stands (spot_at a) m d) (Some (reach d here.spot.point)) (link a m (Some c) d)) here.line ((lists.linked d).nexts c here.spot here.is) in
+      subst (λ w. IsNext (Stands (spot_at a) l d) (Some w) (link a l (Some c) d)) here.along on
+
+  -- a walk begins behind a crossing that stands before the point, or where the list begins
+  pub coming_behind : (from : Option ℕ) → ForSome from (λ c. StandsBefore (spot_at a) l d p c) → (next : Option ℕ) → next ≡ link a l from d → IsComing a l d p next
+  coming_behind None before next read = record {
     from = None;
     past = tt;
-    is_next = subst (IsNext (Stands (spot_at a) l d) None) (sym e) ((lists.linked d).starts l runs.line runs.is runs.way);
+    is_next = subst (IsNext (Stands (spot_at a) l d) None) (sym read) ((lists.linked d).starts l runs.line runs.is runs.way);
   }
+  coming_behind (Some c) before next read =
+      let h = before c refl in
+      record { from = Some h.at; past = h.before; is_next = subst (IsNext (Stands (spot_at a) l d) (Some h.at)) (sym read) (next_past c h.at h.stands) }
 
   module _ (c : ℕ) (e : Point × Node) (is : entry_at a.crossings c ≡ Some e) (coming : IsComing a l d p (Some c)) where
     here : Stands (spot_at a) l d c coming.is_next.0
@@ -52,10 +63,8 @@ module _ (a : Lists) (l : ℕ) (d : Dir) (p : Point) (lists : AreLists a) (runs 
 
     pub coming_next : (next : Option ℕ) → next ≡ link a l (Some c) d → IsNext (Stands (spot_at a) l d) (Some (reach d e.0)) next
     coming_next next read =
-        let spot = here.spot in
-        let on = subst (λ m. IsNext (Stands (spot_at a) m d) (Some (reach d spot.point)) (link a m (Some c) d)) here.line ((lists.linked d).nexts c spot here.is) in
         subst (IsNext (Stands (spot_at a) l d) (Some (reach d e.0))) (sym read)
-        (subst (λ z. IsNext (Stands (spot_at a) l d) (Some z) (link a l (Some c) d)) (here.along ∙ sym (stands_reach a l d c _ e is here)) on)
+        (subst (λ z. IsNext (Stands (spot_at a) l d) (Some z) (link a l (Some c) d)) (sym (stands_reach a l d c _ e is here)) (next_past c _ here))
 
     pub coming_more : IsFurther d e.0 p → (next : Option ℕ) → next ≡ link a l (Some c) d → IsComing a l d p next
     coming_more before next read = record { from = Some (reach d e.0); past = before; is_next = coming_next next read }
@@ -136,6 +145,23 @@ next_live At Live live from (Some n) h c e = subst Live (same n c e) (live n h.0
   where
     same : (i j : ℕ) → Some i ≡ Some j → i ≡ j
     same i j e = cc
+
+-- what follows a crossing is there
+pub step_live : (a : Lists) → AreLists a → (d : Dir) (c : ℕ) (e : Point × Node) → entry_at a.crossings c ≡ Some e
+    → (next : Option ℕ) → next ≡ next_of d e.1 → (k : ℕ) → next ≡ Some k → entry_at a.crossings k ≢ None
+step_live a lists d c e is next read =
+    let l = line_along d (spot_of e) in
+    next_live (Stands (spot_at a) l d) (λ k. entry_at a.crossings k ≢ None) (stands_live a l d) (Some (reach d e.0)) next
+    (subst (IsNext (Stands (spot_at a) l d) (Some (reach d e.0))) (sym (read_next a l c d e is next read)) ((lists.linked d).nexts c (spot_of e) (ap (option_map spot_of) is)))
+
+-- a crossing of the line that the point lies beyond stands before it
+pub stands_before : (a : Lists) (l : ℕ) (d : Dir) (p : Point) (c : ℕ) (e : Point × Node) → entry_at a.crossings c ≡ Some e → line_of d e.1 ≡ l → IsFurther d e.0 p
+    → StandsBefore (spot_at a) l d p c
+stands_before a l d p c e is on further = record {
+  at = reach d e.0;
+  stands = record { spot = spot_of e; is = ap (option_map spot_of) is; line = sym (line_of-spot d e) ∙ on; along = refl };
+  before = further;
+}
 
 module _ (a : Lists) (l : ℕ) (d : Dir) (runs : RunsAlong a l d) where
   pub line_live : entry_at a.lines l ≢ None

@@ -64,6 +64,12 @@ pub record Stands (spots : ℕ → Option Spot) (l : ℕ) (d : Dir) (c : ℕ) (z
   pub line : line_along d spot ≡ l
   pub along : reach d spot.point ≡ z
 
+-- the crossing is on the line along which one travels in the direction, and the point lies beyond it
+pub record StandsBefore (spots : ℕ → Option Spot) (l : ℕ) (d : Dir) (p : Point) (c : ℕ) : Type 0 where
+  pub at : ℤ
+  pub stands : Stands spots l d c at
+  pub before : at <ℤ reach d p
+
 -- all but one of the crossings
 abbrev pub without : ℕ → (ℕ → Option Spot) → ℕ → Option Spot
 without k spots c = if c == k then None else spots c

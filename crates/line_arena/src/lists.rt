@@ -48,7 +48,7 @@ fn distance_along(dir: Dir, a: Point, b: Point) -> u64 {
 }
 
 impl Lists {
-    ghost use Rattle.line_arena.specs.Lists.{AreLinked, AreLists, IsFirstFrom, IsNext, KnowsNeighbours, AreMet, IsApart, IsPut, IsSpot, Relinks, RunsAlong, SameDirection, SameLinks, SamePlaces, Spot, Stands, UpdatesAt, line_along, line_at, link, spot_at, without};
+    ghost use Rattle.line_arena.specs.Lists.{AreLinked, AreLists, IsFirstFrom, IsNext, KnowsNeighbours, AreMet, IsApart, IsPut, IsSpot, Relinks, RunsAlong, SameDirection, SameLinks, SamePlaces, Spot, Stands, StandsBefore, UpdatesAt, line_along, line_at, link, spot_at, without};
 
     /// The crossing that follows in the line's list in the direction; after none it is where the list begins.
     fn next(&self, line: LineId, from: Link, dir: Dir) -> Link
@@ -94,13 +94,14 @@ impl Lists {
 
     /// The first crossing of the line in the direction that the point does not lie beyond.
     ///
-    /// Walks from where the list begins.
-    fn first_from(&self, line: LineId, dir: Dir, point: Point) -> Link
+    /// Walks on from a crossing of the line that stands before the point, or from where the list begins.
+    fn first_from(&self, line: LineId, from: Link, dir: Dir, point: Point) -> Link
         requires lists { AreLists self.now }
         requires runs { RunsAlong self.now line dir }
+        requires before { ForSome from (λ c. StandsBefore (spot_at self.now) line dir point c) }
         ensures { IsFirstFrom (Stands (spot_at self.now) line dir) (reach dir point) result }
     {
-        let mut next = self.next(line, Link::none(), dir);
+        let mut next = self.next(line, from, dir);
         while let Some(crossing) = next.crossing() {
             let (at, node) = self.crossings.get(crossing.place());
             if !is_further(dir, *at, point) {
@@ -139,20 +140,76 @@ impl Lists {
         }
     }
 
+    /// A crossing of the line that stands before the point in the direction, and mostly near to it, if one is found.
+    ///
+    /// For speed alone, so no clause says which: from a crossing beside the point, on the other line, it lies a step back
+    /// and then a step towards the line, where the steps lead there.
+    fn near(&self, line: LineId, dir: Dir, point: Point, beside: Link) -> Link
+        requires beside { ForSome beside (λ c. entry_at self.now.crossings c ≢ None) }
+        requires lists { AreLists self.now }
+        ensures { ForSome result (λ c. StandsBefore (spot_at self.now) line dir point c) }
+    {
+        // The one beside an eastward line stands north of it, and the one beside a southward line west of it.
+        let towards = match dir {
+            Dir::East | Dir::West => Dir::South,
+            Dir::South | Dir::North => Dir::East,
+        };
+        let back = self.step(beside, dir.opposite());
+        let near = self.step(back, towards);
+        if self.is_before(near, line, dir, point) {
+            near
+        } else {
+            Link::none()
+        }
+    }
+
+    /// The crossing that follows in the direction. None follows none.
+    fn step(&self, from: Link, dir: Dir) -> Link
+        requires lists { AreLists self.now }
+        requires from { ForSome from (λ c. entry_at self.now.crossings c ≢ None) }
+        ensures { ForSome result (λ c. entry_at self.now.crossings c ≢ None) }
+    {
+        match from.crossing() {
+            None => from,
+            Some(crossing) => self.crossings.get(crossing.place()).1.next(dir),
+        }
+    }
+
+    /// Whether this is a crossing of the line, and stands before the point in the direction.
+    fn is_before(&self, crossing: Link, line: LineId, dir: Dir, point: Point) -> bool
+        requires { ForSome crossing (λ c. entry_at self.now.crossings c ≢ None) }
+        ensures { IsTrue result → ForSome crossing (λ c. StandsBefore (spot_at self.now) line dir point c) }
+    {
+        let Some(crossing) = crossing.crossing() else {
+            return false;
+        };
+        let (at, node) = self.crossings.get(crossing.place());
+        node.line(dir) == line && is_further(dir, *at, point)
+    }
+
     /// The crossings of the line between which the point stands: the nearest one back, and the nearest one on in the direction.
-    fn neighbours(&self, line: LineId, dir: Dir, point: Point) -> (Link, Link)
+    ///
+    /// Where the point does not lie beyond all of them, the walk to its place begins near to it, if the crossing beside
+    /// it on the other line leads there, and at the nearer end of the line otherwise.
+    fn neighbours(&self, line: LineId, dir: Dir, point: Point, beside: Link) -> (Link, Link)
         requires lists { AreLists self.now }
         requires runs { RunsAlong self.now line dir }
         requires free { (c : ℕ) → Stands (spot_at self.now) line dir c (reach dir point) → ⊥ }
+        requires beside { ForSome beside (λ c. entry_at self.now.crossings c ≢ None) }
         ensures back { IsNext (Stands (spot_at self.now) line (opposite dir)) (Some (reach (opposite dir) point)) result.0 }
         ensures on { IsNext (Stands (spot_at self.now) line dir) (Some (reach dir point)) result.1 }
     {
-        if self.starts_nearer(line, dir, point) {
-            let on = self.first_from(line, dir, point);
+        let last = self.next(line, Link::none(), dir.opposite());
+        if self.is_beyond(last, dir, point) {
+            return (last, Link::none());
+        }
+        let near = self.near(line, dir, point, beside);
+        if near.crossing().is_some() || self.starts_nearer(line, dir, point) {
+            let on = self.first_from(line, near, dir, point);
             let back = self.next(line, on, dir.opposite());
             (back, on)
         } else {
-            let back = self.first_from(line, dir.opposite(), point);
+            let back = self.first_from(line, Link::none(), dir.opposite(), point);
             let on = self.next(line, back, dir);
             (back, on)
         }
@@ -168,7 +225,7 @@ impl Lists {
         ensures only { (c : ℕ) (s : Spot) → spot_at self.now c ≡ Some s → s.vertical ≡ line → s.point ≡ point → result ≡ Some c }
     {
         let dir = self.nearer_start(line, Dir::South, point);
-        let crossing = self.first_from(line, dir, point).crossing()?;
+        let crossing = self.first_from(line, Link::none(), dir, point).crossing()?;
         let (at, _) = *self.crossings.get(crossing.place());
         if is_same(at, point) {
             Some(crossing)
@@ -280,7 +337,7 @@ impl Lists {
 
     /// What a new crossing of the lines, which meet at the point, knows: its lines, and its neighbours on both.
     ///
-    /// Where it does not go last on both, the walk to its place begins at the nearer end of each.
+    /// Where it does not go last on both, the crossing before its place on one line is beside it for the other line.
     fn node_at(&self, vertical: LineId, horizontal: LineId, point: Point) -> Node
         requires lists { AreLists self.now }
         requires spot { IsSpot (line_at self.now) (record { point = point; vertical = vertical; horizontal = horizontal }) }
@@ -302,8 +359,8 @@ impl Lists {
                 north,
             };
         }
-        let (north, south) = self.neighbours(vertical, Dir::South, point);
-        let (west, east) = self.neighbours(horizontal, Dir::East, point);
+        let (north, south) = self.neighbours(vertical, Dir::South, point, west);
+        let (west, east) = self.neighbours(horizontal, Dir::East, point, north);
         Node {
             vertical,
             horizontal,

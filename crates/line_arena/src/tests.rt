@@ -185,6 +185,70 @@ fn answers_each_call(rt: HostRuntime) -> Result<(), Fail> {
     Ok(())
 }
 
+/// Puts in the crossings of the grid at these columns and rows, one after another.
+fn put_all(arena: &mut LineArena, places: &[(u8, u8)]) -> Result<(), AllocError> {
+    for (column, row) in places {
+        toggle(arena, *column % SIDE, *row % SIDE)?;
+    }
+    Ok(())
+}
+
+/// The points of the grid at these columns and rows.
+fn points_at(alloc: Global, places: &[(u8, u8)]) -> Result<Vec<Point>, AllocError> {
+    let mut points = Vec::new(alloc);
+    for (column, row) in places {
+        points.push(grid_point(*column, *row))?;
+    }
+    Ok(points)
+}
+
+/// Whether a walk in the direction from the first of these columns and rows comes to just these, and the walk back too.
+fn joins(
+    alloc: Global,
+    arena: &LineArena,
+    places: &[(u8, u8)],
+    dir: Dir,
+) -> Result<bool, AllocError> {
+    let mut points = points_at(alloc, places)?;
+    let (first, last) = (points.first().copied(), points.last().copied());
+    let (Some(first), Some(last)) = (first, last) else {
+        return Ok(false);
+    };
+    if walked(alloc, arena, first, dir)? != points {
+        return Ok(false);
+    }
+    points.reverse();
+    Ok(walked(alloc, arena, last, dir.opposite())? == points)
+}
+
+#[test]
+fn puts_between_others(rt: HostRuntime) -> Result<(), Fail> {
+    let mut arena = lined(rt.alloc())?;
+    // The one to the north of (5, 12) has one to the west of it, which leads south to this row. That of (11, 12) leads
+    // to another row. (15, 12) has none to the north, and those of (16, 12) and (17, 12) lead nowhere.
+    let row = [
+        (2, 12),
+        (5, 12),
+        (11, 12),
+        (15, 12),
+        (16, 12),
+        (17, 12),
+        (20, 12),
+    ];
+    put_all(&mut arena, &[(2, 12), (20, 12), (2, 10), (5, 10), (5, 12)])?;
+    put_all(
+        &mut arena,
+        &[(7, 11), (7, 13), (11, 11), (11, 12), (15, 12)],
+    )?;
+    put_all(&mut arena, &[(16, 9), (16, 12), (13, 8), (17, 8), (17, 12)])?;
+    assert!(rt; joins(rt.alloc(), &arena, &row, Dir::East)?);
+    // The one to the west of (5, 15) has one to the north of it, which leads east to this column.
+    put_all(&mut arena, &[(5, 20), (2, 15), (5, 15)])?;
+    let column = [(5, 10), (5, 12), (5, 15), (5, 20)];
+    assert!(rt; joins(rt.alloc(), &arena, &column, Dir::South)?);
+    Ok(())
+}
+
 #[test]
 fn fills_just_the_room_taken(rt: HostRuntime) -> Result<(), Fail> {
     let row = Line {

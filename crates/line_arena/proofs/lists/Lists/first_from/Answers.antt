@@ -2,11 +2,17 @@ use Rattle.std.proofs.Common.{◌≡◌, ◌<◌, ◌∙◌, Some, ap, subst, sy
 use Rattle.plane_geom.specs.Along.{IsFurther, reach}
 use Rattle.line_arena.specs.Entries.{entry_at}
 use Rattle.line_arena.specs.Lists.{IsFirstFrom, Stands, link, spot_at}
-use Rattle.line_arena.proofs.Walk.{IsComing, coming_first, coming_more, coming_next, found, found_none, left_at, left_falls, read_next}
+use Rattle.line_arena.proofs.Walk.{IsComing, coming_behind, coming_more, coming_next, found, found_none, left_at, left_falls, read_next, stands_live}
 use Rattle.line_arena.proofs.lists.Lists.first_from.Goals as goal
 
+pub next-next-requires-clause-from : goal.next-next-requires-clause-from
+next-next-requires-clause-from c = λ k is.
+    let a = c.args.self.now in
+    let before = c.requires.before k is in
+    stands_live a c.args.line c.args.dir k before.at before.stands
+
 pub loop-crossing-init : goal.loop-crossing-init
-loop-crossing-init c = coming_first c.args.self.now c.args.line c.args.dir c.args.point c.requires.lists c.requires.runs c.next-next.result (c.next-next.ensures ∙ ap (λ f. link c.args.self.now c.args.line f c.args.dir) c.none.ensures)
+loop-crossing-init c = coming_behind c.args.self.now c.args.line c.args.dir c.args.point c.requires.lists c.requires.runs c.args.from c.requires.before c.next-next.result c.next-next.ensures
 
 pub returns-then-not-is_further : goal.returns-then-not-is_further
 returns-then-not-is_further c =
@@ -43,6 +49,6 @@ loop-crossing-preserved c =
 pub returns : goal.returns
 returns c =
     let a = c.args.self.now in
-    rw c.none-2.ensures
+    rw c.none.ensures
     (found_none a c.args.line c.args.dir c.args.point c.requires.lists c.requires.runs
     (subst (IsComing a c.args.line c.args.dir c.args.point) (sym c.crossing.ensures ∙ c.in_default.is) c.loop-crossing.invariant))

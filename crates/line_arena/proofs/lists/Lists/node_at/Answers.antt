@@ -1,9 +1,10 @@
-use Rattle.std.proofs.Common.{◌∙◌, Some, ap, sym, subst}
+use Rattle.std.proofs.Common.{◌≢◌, ◌∙◌, None, Some, ap, sym, subst}
 use Rattle.plane_geom.specs.Along.{reach}
 use Rattle.plane_geom.specs.declared.point.Dir.TheVariants.{East, South, West, North}
+use Rattle.line_arena.specs.Entries.{entry_at}
 use Rattle.line_arena.specs.Lists.{IsNext, Stands, link, spot_at}
 use Rattle.line_arena.proofs.Put.{spot_runs}
-use Rattle.line_arena.proofs.Walk.{last_back, none_on, start_live}
+use Rattle.line_arena.proofs.Walk.{last_back, next_live, none_on, stands_live, start_live}
 use Rattle.line_arena.proofs.lists.Lists.node_at.Goals as goal
 
 -- the line's last crossing is there
@@ -34,6 +35,16 @@ returns-then-is_beyond-2-clause-next c =
       | West ↦ last_back a c.args.horizontal East across lists p c.next-west.result west right
       | North ↦ last_back a c.args.vertical South down lists p c.next-north.result north below
     ]
+
+pub neighbours-north-requires-clause-beside : goal.neighbours-north-requires-clause-beside
+neighbours-north-requires-clause-beside c =
+    let a = c.args.self.now in
+    start_live a c.args.horizontal West (spot_runs a _ c.requires.spot West) c.requires.lists c.next-west.result (c.next-west.ensures ∙ ap (λ f. link a c.args.horizontal f West) c.none-2.ensures)
+
+pub neighbours-west-requires-clause-beside : goal.neighbours-west-requires-clause-beside
+neighbours-west-requires-clause-beside c =
+    let a = c.args.self.now in
+    next_live (Stands (spot_at a) c.args.vertical North) (λ k. entry_at a.crossings k ≢ None) (stands_live a c.args.vertical North) (Some (reach North c.args.point)) c.neighbours-north.result.0 c.neighbours-north.ensures.back
 
 pub neighbours-north-requires-clause-free : goal.neighbours-north-requires-clause-free
 neighbours-north-requires-clause-free c = c.requires.free South
