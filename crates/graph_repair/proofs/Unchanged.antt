@@ -1,5 +1,5 @@
 -- A line that is not near what differs between two floors is a kept line of both, or of neither.
-use Rattle.std.proofs.Common.{◌≡◌, ◌⊎◌, inl, inr, ℤ, ◌≤ℤ◌, ◌<ℤ◌, true, false, get_or, All, Contains, refl, sym, subst, ◌∙◌, arith}
+use Rattle.std.proofs.Common.{◌≡◌, ◌⊎◌, inl, inr, ℤ, ◌≤ℤ◌, ◌<ℤ◌, true, false, get_or, Contains, refl, sym, subst, ◌∙◌, arith}
 use Rattle.std.specs.Prelude.{Any}
 use Rattle.std.proofs.lemmas.Int.{ints}
 use Rattle.std.proofs.lemmas.List.Elements.{All-contains, Contains-get_or}
@@ -15,7 +15,7 @@ use Rattle.plane_geom.specs.Rect.{HasWithin, Meets}
 use Rattle.plane_geom.specs.Floor.{AreOnOneWholeLine, Holds, IsFreePiece, IsKept, SharesSide, first_point, first_side, last_point, last_side}
 use Rattle.sweep_lines.specs.Bars.{bar_of, far_corner, near_corner}
 use Rattle.sweep_lines.specs.Kept.{is_between, is_near}
-use Rattle.sweep_lines.proofs.Members.{Among, among_of_any, among_of_contains, any_of_among, contains_of_among}
+use Rattle.sweep_lines.proofs.Members.{among_of_any, among_of_contains, any_of_among, contains_of_among}
 use Rattle.sweep_lines.proofs.Sides.{bar_of_side, blocks_of_meets}
 use Rattle.sweep_lines.proofs.KeptAt.{held_across}
 use Rattle.sweep_lines.proofs.KeptLines.{near_tells}

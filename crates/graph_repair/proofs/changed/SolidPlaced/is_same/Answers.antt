@@ -1,6 +1,5 @@
 -- Solids with the same numbers are one.
 use Rattle.std.proofs.Common.{◌≡◌, Bool, true, ◌&&◌, ℤ, refl, sym, subst, ◌∙◌}
-use Rattle.std.specs.Prelude.{IsTrue}
 use Rattle.std.specs.Ordering.{int_eq}
 use Rattle.std.proofs.lemmas.Bool.Decides.{Decides-int_eq}
 use Rattle.plane_geom.specs.declared.rect.Solid.{Solid}
