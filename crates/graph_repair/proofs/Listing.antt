@@ -25,7 +25,7 @@ use Rattle.visibility_graph.specs.Meeting.{same_way}
 use Rattle.visibility_graph.proofs.KeptList.{is_kept}
 use Rattle.graph_repair.specs.Listed.{goes, is_listed, lines_of, same_line, stays}
 use Rattle.graph_repair.specs.Change.{AreAlone, AreShared}
-use Rattle.graph_repair.specs.Changed.{DiffersWithin}
+use Rattle.graph_repair.specs.Hull.{IsAloneWithin}
 use Rattle.graph_repair.proofs.Counted.{AreDistinct}
 use Rattle.graph_repair.proofs.Pairs.{rising_more}
 use Rattle.graph_repair.proofs.Unchanged.{kept_far}
@@ -101,7 +101,7 @@ pub ordered_filter : (p : Line → Bool) (ls : List Line) → AreOrdered ls → 
 ordered_filter p ls ordered = AllPairs-filter (λ l m. stands_before l m ≡ true) p ls ordered
 
 -- the new lines near what differs tell which old lines stay
-module _ (near : Rect) (a b : Floor) (gone : DiffersWithin near a b) (come : DiffersWithin near b a) (ls ms : List Line) (of_a : AreAllKept a ls) (of_b : AreKept b (λ l. is_near near l ≡ true) ms) where
+module _ (near : Rect) (a b : Floor) (gone : IsAloneWithin near a b) (come : IsAloneWithin near b a) (ls ms : List Line) (of_a : AreAllKept a ls) (of_b : AreKept b (λ l. is_near near l ≡ true) ms) where
   abbrev test : Line → Bool
   test = stays near ms
 

@@ -14,12 +14,12 @@ use Rattle.plane_geom.specs.Along.{across}
 use Rattle.plane_geom.specs.Rect.{HasWithin, Meets}
 use Rattle.plane_geom.specs.Floor.{AreOnOneWholeLine, Holds, IsFreePiece, IsKept, SharesSide, first_point, first_side, last_point, last_side}
 use Rattle.sweep_lines.specs.Bars.{bar_of, far_corner, near_corner}
-use Rattle.sweep_lines.specs.Kept.{is_between, is_near}
+use Rattle.sweep_lines.specs.Kept.{is_within, is_near}
 use Rattle.sweep_lines.proofs.Members.{among_of_any, among_of_contains, any_of_among, contains_of_among}
 use Rattle.sweep_lines.proofs.Sides.{bar_of_side, blocks_of_meets}
 use Rattle.sweep_lines.proofs.KeptAt.{held_across}
 use Rattle.sweep_lines.proofs.KeptLines.{near_tells}
-use Rattle.graph_repair.specs.Changed.{DiffersWithin}
+use Rattle.graph_repair.specs.Hull.{IsAloneWithin}
 
 -- both corners of the solid lie in the rectangle
 abbrev IsCovered : Rect → Solid → Type 0
@@ -46,7 +46,7 @@ module _ (hull : Rect) (l : Line) where
       let last : (bar_of l.way s.rect).end ≤ℤ last_side l.way hull = (across_hull hull l.way (far_corner s.rect) w.1).1 in
       near_tells hull l.way l (record { way_is = refl; from = omega (arith, ints); to = omega (arith, ints) })
 
-  module _ (a b : Floor) (differ : DiffersWithin hull a b) (far : is_near hull l ≡ false) where
+  module _ (a b : Floor) (differ : IsAloneWithin hull a b) (far : is_near hull l ≡ false) where
     not_near : is_near hull l ≡ true → ⊥
     not_near e = let both : true ≡ false = sym e ∙ far in cc
 
@@ -93,10 +93,10 @@ module _ (hull : Rect) (l : Line) where
         any_of_among (Holds l) b.anchors p (among_of_contains b.anchors p there) holds
 
 near_alike : (hull : Rect) (l m : Line) → AreOnOneWholeLine l m → is_near hull l ≡ is_near hull m
-near_alike hull l m same = λ i. is_between (first_side (same.way i) hull) (last_side (same.way i) hull) (same.at i)
+near_alike hull l m same = λ i. is_within (first_side (same.way i) hull) (last_side (same.way i) hull) (same.at i)
 
 -- a kept line of the one floor that is not near is one of the other
-pub kept_far : (hull : Rect) (a b : Floor) → DiffersWithin hull a b → DiffersWithin hull b a → (l : Line) → is_near hull l ≡ false → IsKept a l → IsKept b l
+pub kept_far : (hull : Rect) (a b : Floor) → IsAloneWithin hull a b → IsAloneWithin hull b a → (l : Line) → is_near hull l ≡ false → IsKept a l → IsKept b l
 kept_far hull a b there back l far k = record {
   longest = record {
     piece = free_here hull l b a back far k.longest.piece;

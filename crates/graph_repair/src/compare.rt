@@ -22,14 +22,14 @@ pub struct Difference {
 /// at one point and end at two are two. The only error is want of memory.
 pub fn compare(
     alloc: Global,
-    near: &Rect,
+    hull: &Rect,
     old: &[(Line, LineId)],
     new: &[Line],
 ) -> Result<Difference, AllocError>
     requires old { AreOrdered (lines_of old.now) }
     requires new { AreOrdered new.now }
-    ensures stay { IfOk result (λ d. d.stay.items ≡ filter (stays near.now new.now) (lines_of old.now)) }
-    ensures here { IfOk result (λ d. d.here.items ≡ filter (goes near.now new.now) (lines_of old.now)) }
+    ensures stay { IfOk result (λ d. d.stay.items ≡ filter (stays hull.now new.now) (lines_of old.now)) }
+    ensures here { IfOk result (λ d. d.here.items ≡ filter (goes hull.now new.now) (lines_of old.now)) }
     ensures there { IfOk result (λ d. d.there.items ≡ filter (λ l. not (is_listed (lines_of old.now) l)) new.now) }
 {
     let (mut stay, mut here, mut there) = (Vec::new(alloc), Vec::new(alloc), Vec::new(alloc));
@@ -44,7 +44,7 @@ pub fn compare(
         } else if !line.stands_before(&other) {
             there.push(other)?;
             other_place += 1;
-        } else if is_near(near, &line) {
+        } else if is_near(hull, &line) {
             here.push(line)?;
             place += 1;
         } else {
@@ -52,23 +52,23 @@ pub fn compare(
             place += 1;
         }
     }
-    part_lines(near, &old[place..], &mut stay, &mut here)?;
+    part_lines(hull, &old[place..], &mut stay, &mut here)?;
     there.extend_from_slice(&new[other_place..])?;
     Ok(Difference { stay, here, there })
 }
 
 /// Appends the lines of the pairs, to those here where they are near the rectangle, and else to those that stay.
 fn part_lines(
-    near: &Rect,
+    hull: &Rect,
     pairs: &[(Line, LineId)],
     stay: &mut Vec<Line>,
     here: &mut Vec<Line>,
 ) -> Result<(), AllocError>
-    ensures stay { OnOk result (stay.new.items ≡ stay.old.items ++ filter (λ l. not (is_near near.now l)) (lines_of pairs.now)) }
-    ensures here { OnOk result (here.new.items ≡ here.old.items ++ filter (is_near near.now) (lines_of pairs.now)) }
+    ensures stay { OnOk result (stay.new.items ≡ stay.old.items ++ filter (λ l. not (is_near hull.now l)) (lines_of pairs.now)) }
+    ensures here { OnOk result (here.new.items ≡ here.old.items ++ filter (is_near hull.now) (lines_of pairs.now)) }
 {
     for (line, _) in pairs {
-        if is_near(near, line) {
+        if is_near(hull, line) {
             here.push(*line)?;
         } else {
             stay.push(*line)?;
@@ -78,12 +78,12 @@ fn part_lines(
 }
 
 /// Whether the line's coordinate is from the one to the other side of the rectangle across it.
-fn is_near(near: &Rect, line: &Line) -> bool
-    ensures { result ≡ is_near near.now line.now }
+fn is_near(hull: &Rect, line: &Line) -> bool
+    ensures { result ≡ is_near hull.now line.now }
 {
     let (first, last) = match line.way {
-        Way::Vertical => (near.left, near.right),
-        Way::Horizontal => (near.top, near.bottom),
+        Way::Vertical => (hull.left, hull.right),
+        Way::Horizontal => (hull.top, hull.bottom),
     };
     first <= line.at && line.at <= last
 }

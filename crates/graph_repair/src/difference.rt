@@ -5,9 +5,9 @@ ghost use Rattle.sweep_lines.specs.Kept.{AreOrdered};
 ghost use Rattle.visibility_graph.specs.Meeting.{coming};
 ghost use Rattle.graph_repair.specs.Change.{LeadsFrom};
 
-use crate::changed::changed;
 use crate::compare::{Difference, compare};
 use crate::exchange::take;
+use crate::hull::hull_of_difference;
 use crate::repair::Repair;
 use plane_geom::{Floor, Line};
 use std::alloc::{AllocError, Global};
@@ -29,10 +29,10 @@ pub fn plan(alloc: Global, graph: &mut Graph, new: &Floor) -> Result<Repair, All
     ensures new_floor { IfOk result (λ r. r.floor ≡ new.now) }
 {
     let floor = new.copy(alloc)?;
-    let near = changed(graph.floor(), &floor);
-    let new_lines = lines_near(alloc, &floor, &near)?;
+    let hull = hull_of_difference(graph.floor(), &floor);
+    let new_lines = lines_near(alloc, &floor, &hull)?;
     let old_lines = graph.arena().lines_in_order();
-    let Difference { stay, here, there } = compare(alloc, &near, old_lines, new_lines.as_slice())?;
+    let Difference { stay, here, there } = compare(alloc, &hull, old_lines, new_lines.as_slice())?;
     graph.arena().laws();
     make_room(
         alloc,

@@ -1,10 +1,10 @@
 //! Local repair of a visibility graph: only the lines and crossings that change are taken out and put in.
 #![tactic(auto)]
 
-mod changed;
 mod compare;
 mod difference;
 mod exchange;
+mod hull;
 mod laws;
 mod repair;
 

@@ -2,10 +2,10 @@
 ghost use Rattle.std.specs.Prelude.{IfOk};
 ghost use Rattle.plane_geom.specs.Floor.{IsFloor};
 
-use crate::changed::changed;
+use crate::hull::hull_of_difference;
 use crate::{apply, plan, revert};
 use plane_geom::Floor;
-use small_floor::{Sides, floor_of};
+use small_floor::{Sides, small_floor};
 use std::alloc::{AllocError, Global};
 use std::test::Fail;
 use sweep_lines::all_lines;
@@ -33,10 +33,10 @@ const SQUARE: Sides = (0, 0, 10, 10);
 #[test]
 fn writes_what_is_new(rt: HostRuntime) -> Result<(), Fail> {
     let alloc = rt.alloc();
-    let none = floor_of(alloc, &[], &[])?;
-    let one = floor_of(alloc, &[SQUARE], &[])?;
-    let two = floor_of(alloc, &[SQUARE, (-5, 100, 5, 110)], &[])?;
-    let equal = floor_of(alloc, &[SQUARE, SQUARE], &[])?;
+    let none = small_floor(alloc, &[], &[])?;
+    let one = small_floor(alloc, &[SQUARE], &[])?;
+    let two = small_floor(alloc, &[SQUARE, (-5, 100, 5, 110)], &[])?;
+    let equal = small_floor(alloc, &[SQUARE, SQUARE], &[])?;
     assert_eq!(rt; turns(alloc, &one, &two)?, [8, 8, 25, 28, 45]);
     assert_eq!(rt; turns(alloc, &one, &one)?, [8, 8, 8, 8, 8]);
     assert_eq!(rt; turns(alloc, &one, &equal)?, [8, 8, 8, 8, 8]);
@@ -44,8 +44,8 @@ fn writes_what_is_new(rt: HostRuntime) -> Result<(), Fail> {
     assert_eq!(rt; turns(alloc, &none, &one)?, [0, 0, 8, 8, 16]);
     // A corridor of width 0, and an anchor in it.
     let corridor = [SQUARE, (0, 10, 10, 20)];
-    let without = floor_of(alloc, &corridor, &[])?;
-    let with = floor_of(alloc, &corridor, &[(5, 10)])?;
+    let without = small_floor(alloc, &corridor, &[])?;
+    let with = small_floor(alloc, &corridor, &[(5, 10)])?;
     assert_eq!(rt; turns(alloc, &without, &with)?, [11, 11, 13, 13, 15]);
     Ok(())
 }
@@ -93,12 +93,12 @@ fn nodes(alloc: Global, shifts: [Shift; 5]) -> Result<Floor, AllocError>
             anchors.push((x + 30, y + 7))?;
         }
     }
-    floor_of(alloc, rects.as_slice(), anchors.as_slice())
+    small_floor(alloc, rects.as_slice(), anchors.as_slice())
 }
 
 /// The hull of what differs, as left, top, right and bottom.
 fn hull(old: &Floor, new: &Floor) -> (i64, i64, i64, i64) {
-    let hull = changed(old, new);
+    let hull = hull_of_difference(old, new);
     (hull.left, hull.top, hull.right, hull.bottom)
 }
 
@@ -137,8 +137,8 @@ fn finds_lines_near_what_changes(rt: HostRuntime) -> Result<(), Fail> {
 fn finds_lines_of_an_anchor_that_moves(rt: HostRuntime) -> Result<(), Fail> {
     let alloc = rt.alloc();
     let rects = [SQUARE, (30, 0, 40, 10), (20, 30, 50, 40)];
-    let old = floor_of(alloc, &rects, &[(0, 5), (25, 20), (50, 35)])?;
-    let new = floor_of(alloc, &rects, &[(0, 5), (25, 28), (50, 35)])?;
+    let old = small_floor(alloc, &rects, &[(0, 5), (25, 20), (50, 35)])?;
+    let new = small_floor(alloc, &rects, &[(0, 5), (25, 28), (50, 35)])?;
     assert_eq!(rt; hull(&old, &new), (25, 20, 25, 28));
     assert!(rt; finds_lines(alloc, &old, &new)?);
     Ok(())
@@ -163,8 +163,8 @@ fn moves_one_of_many(rt: HostRuntime) -> Result<(), Fail> {
             tile(number)
         })?;
     }
-    let old = floor_of(alloc, old.as_slice(), &[])?;
-    let new = floor_of(alloc, new.as_slice(), &[])?;
+    let old = small_floor(alloc, old.as_slice(), &[])?;
+    let new = small_floor(alloc, new.as_slice(), &[])?;
     assert_eq!(rt; turns(alloc, &old, &new)?, [5936, 5936, 5980, 6016, 6060]);
     Ok(())
 }

@@ -99,7 +99,8 @@ impl IntervalIndex {
     }
 
     /// The keys of the spans that share a point with the open interval from `lo` to `hi`, in thousandths,
-    /// in the order of the index. Visits the nodes on one path down and those with such a span below them alone.
+    /// in the order of the index. Visits the nodes on one path down and those with such a span below them alone,
+    /// and takes memory for all keys of the index at once.
     pub fn touching(&self, lo: i64, hi: i64) -> Result<Vec<u32>, AllocError>
         ensures touching { IfOk result (λ keys. keys.items ≡ keys_touching lo hi self.now) }
         ensures listed { IsListed self.now }

@@ -14,7 +14,7 @@ use Rattle.line_arena.specs.declared.node.Node.{Node}
 use Rattle.plane_geom.specs.Along.{IsFurther, reach, way_of}
 use Rattle.line_arena.specs.Entries.{entry_at}
 use Rattle.line_arena.specs.Node.{line_of, next_of}
-use Rattle.line_arena.specs.Lists.{AreLists, IsFirstFrom, IsNext, IsPast, RunsAlong, Spot, Stands, StandsBefore, line_along, line_at, link, spot_at, spot_of}
+use Rattle.line_arena.specs.Lists.{AreLists, IsFirstFrom, IsNext, IsPast, RunsAlong, Spot, Stands, IsShortOf, line_along, line_at, link, spot_at, spot_of}
 use Rattle.line_arena.proofs.Nearest.{int_apart, next_from_previous, not_below, past_further}
 use Rattle.line_arena.proofs.Linked.{reach-opposite, same_spot, turned, turned_back}
 use Rattle.line_arena.proofs.Joined.{line_of-spot}
@@ -47,7 +47,7 @@ module _ (a : Lists) (l : ℕ) (d : Dir) (p : Point) (lists : AreLists a) (runs 
       subst (λ w. IsNext (Stands (spot_at a) l d) (Some w) (link a l (Some c) d)) here.along on
 
   -- a walk begins behind a crossing that stands before the point, or where the list begins
-  pub coming_behind : (from : Option ℕ) → ForSome from (λ c. StandsBefore (spot_at a) l d p c) → (next : Option ℕ) → next ≡ link a l from d → IsComing a l d p next
+  pub coming_behind : (from : Option ℕ) → ForSome from (λ c. IsShortOf (spot_at a) l d p c) → (next : Option ℕ) → next ≡ link a l from d → IsComing a l d p next
   coming_behind None before next read = record {
     from = None;
     past = tt;
@@ -155,9 +155,9 @@ step_live a lists d c e is next read =
     (subst (IsNext (Stands (spot_at a) l d) (Some (reach d e.0))) (sym (read_next a l c d e is next read)) ((lists.linked d).nexts c (spot_of e) (ap (option_map spot_of) is)))
 
 -- a crossing of the line that the point lies beyond stands before it
-pub stands_before : (a : Lists) (l : ℕ) (d : Dir) (p : Point) (c : ℕ) (e : Point × Node) → entry_at a.crossings c ≡ Some e → line_of d e.1 ≡ l → IsFurther d e.0 p
-    → StandsBefore (spot_at a) l d p c
-stands_before a l d p c e is on further = record {
+pub is_short_of : (a : Lists) (l : ℕ) (d : Dir) (p : Point) (c : ℕ) (e : Point × Node) → entry_at a.crossings c ≡ Some e → line_of d e.1 ≡ l → IsFurther d e.0 p
+    → IsShortOf (spot_at a) l d p c
+is_short_of a l d p c e is on further = record {
   at = reach d e.0;
   stands = record { spot = spot_of e; is = ap (option_map spot_of) is; line = sym (line_of-spot d e) ∙ on; along = refl };
   before = further;

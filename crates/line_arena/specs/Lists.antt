@@ -65,7 +65,7 @@ pub record Stands (spots : ℕ → Option Spot) (l : ℕ) (d : Dir) (c : ℕ) (z
   pub along : reach d spot.point ≡ z
 
 -- the crossing is on the line along which one travels in the direction, and the point lies beyond it
-pub record StandsBefore (spots : ℕ → Option Spot) (l : ℕ) (d : Dir) (p : Point) (c : ℕ) : Type 0 where
+pub record IsShortOf (spots : ℕ → Option Spot) (l : ℕ) (d : Dir) (p : Point) (c : ℕ) : Type 0 where
   pub at : ℤ
   pub stands : Stands spots l d c at
   pub before : at <ℤ reach d p

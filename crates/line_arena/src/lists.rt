@@ -48,7 +48,7 @@ fn distance_along(dir: Dir, a: Point, b: Point) -> u64 {
 }
 
 impl Lists {
-    ghost use Rattle.line_arena.specs.Lists.{AreLinked, AreLists, IsFirstFrom, IsNext, KnowsNeighbours, AreMet, IsApart, IsPut, IsSpot, Relinks, RunsAlong, SameDirection, SameLinks, SamePlaces, Spot, Stands, StandsBefore, UpdatesAt, line_along, line_at, link, spot_at, without};
+    ghost use Rattle.line_arena.specs.Lists.{AreLinked, AreLists, IsFirstFrom, IsNext, KnowsNeighbours, AreMet, IsApart, IsPut, IsSpot, Relinks, RunsAlong, SameDirection, SameLinks, SamePlaces, Spot, Stands, IsShortOf, UpdatesAt, line_along, line_at, link, spot_at, without};
 
     /// The crossing that follows in the line's list in the direction; after none it is where the list begins.
     fn next(&self, line: LineId, from: Link, dir: Dir) -> Link
@@ -81,7 +81,7 @@ impl Lists {
         }
     }
 
-    /// Whether the point lies beyond the crossing in the direction. It lies beyond none.
+    /// Whether the point lies beyond the crossing in the direction. Where there is no crossing, it does.
     fn is_beyond(&self, crossing: Link, dir: Dir, point: Point) -> bool
         requires { ForSome crossing (λ c. entry_at self.now.crossings c ≢ None) }
         ensures { IsTrue result → ForSome crossing (λ c. (s : Spot) → spot_at self.now c ≡ Some s → IsFurther dir s.point point) }
@@ -98,7 +98,7 @@ impl Lists {
     fn first_from(&self, line: LineId, from: Link, dir: Dir, point: Point) -> Link
         requires lists { AreLists self.now }
         requires runs { RunsAlong self.now line dir }
-        requires before { ForSome from (λ c. StandsBefore (spot_at self.now) line dir point c) }
+        requires before { ForSome from (λ c. IsShortOf (spot_at self.now) line dir point c) }
         ensures { IsFirstFrom (Stands (spot_at self.now) line dir) (reach dir point) result }
     {
         let mut next = self.next(line, from, dir);
@@ -147,7 +147,7 @@ impl Lists {
     fn near(&self, line: LineId, dir: Dir, point: Point, beside: Link) -> Link
         requires beside { ForSome beside (λ c. entry_at self.now.crossings c ≢ None) }
         requires lists { AreLists self.now }
-        ensures { ForSome result (λ c. StandsBefore (spot_at self.now) line dir point c) }
+        ensures { ForSome result (λ c. IsShortOf (spot_at self.now) line dir point c) }
     {
         // The one beside an eastward line stands north of it, and the one beside a southward line west of it.
         let towards = match dir {
@@ -178,7 +178,7 @@ impl Lists {
     /// Whether this is a crossing of the line, and stands before the point in the direction.
     fn is_before(&self, crossing: Link, line: LineId, dir: Dir, point: Point) -> bool
         requires { ForSome crossing (λ c. entry_at self.now.crossings c ≢ None) }
-        ensures { IsTrue result → ForSome crossing (λ c. StandsBefore (spot_at self.now) line dir point c) }
+        ensures { IsTrue result → ForSome crossing (λ c. IsShortOf (spot_at self.now) line dir point c) }
     {
         let Some(crossing) = crossing.crossing() else {
             return false;
@@ -337,7 +337,8 @@ impl Lists {
 
     /// What a new crossing of the lines, which meet at the point, knows: its lines, and its neighbours on both.
     ///
-    /// Where it does not go last on both, the crossing before its place on one line is beside it for the other line.
+    /// Where it does not go last on both, the walk along the vertical line may begin beside the horizontal one's last
+    /// crossing, and that along the horizontal one beside the crossing just found to the north.
     fn node_at(&self, vertical: LineId, horizontal: LineId, point: Point) -> Node
         requires lists { AreLists self.now }
         requires spot { IsSpot (line_at self.now) (record { point = point; vertical = vertical; horizontal = horizontal }) }

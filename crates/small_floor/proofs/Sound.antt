@@ -13,9 +13,9 @@ use Rattle.plane_geom.specs.Point.{IsCoordinate, PointIsOnSheet, sheet_end, shee
 use Rattle.plane_geom.specs.Along.{across}
 use Rattle.plane_geom.specs.Rect.{RectIsOnSheet}
 use Rattle.plane_geom.specs.Floor.{IsFloor, IsSolid, first_side, last_side}
-use Rattle.small_floor.specs.Small.{floor_of, on_sheet, point_of, rect_of, solid_of}
+use Rattle.small_floor.specs.Small.{clamped, clamped_point, clamped_rect, small_floor, solid_of_sides}
 
-is_coordinate : (z : ℤ) → IsCoordinate (on_sheet z)
+is_coordinate : (z : ℤ) → IsCoordinate (clamped z)
 is_coordinate z =
     let inner = int_max z sheet_start in
     let above = int_max_is z sheet_start in
@@ -24,9 +24,9 @@ is_coordinate z =
 
 -- ---- anchors
 
-all_on_sheet : (places : List (ℤ × ℤ)) → All PointIsOnSheet (map point_of places)
+all_on_sheet : (places : List (ℤ × ℤ)) → All PointIsOnSheet (map clamped_point places)
 all_on_sheet [] = λ k d l. absurd (omega (arith, l))
-all_on_sheet (p ∷ ps) = All-cons PointIsOnSheet (point_of p) (map point_of ps) (record { x = is_coordinate p.0; y = is_coordinate p.1 }) (all_on_sheet ps)
+all_on_sheet (p ∷ ps) = All-cons PointIsOnSheet (clamped_point p) (map clamped_point ps) (record { x = is_coordinate p.0; y = is_coordinate p.1 }) (all_on_sheet ps)
 
 -- ---- solids
 
@@ -43,11 +43,11 @@ push_sound r on solids h false c wide high = h
 less : (a b : ℤ) → int_lt a b ≡ true → a <ℤ b
 less a b e = grind (arith, ints)
 
-all_sound : (rects : Rects) → All IsSolid (filter_map solid_of rects)
+all_sound : (rects : Rects) → All IsSolid (filter_map solid_of_sides rects)
 all_sound [] = λ k d l. absurd (omega (arith, l))
 all_sound (s ∷ rects) =
-    let r = rect_of s in
-    push_sound r (record { left = is_coordinate s.0; top = is_coordinate s.1; right = is_coordinate s.2; bottom = is_coordinate s.3 }) (filter_map solid_of rects) (all_sound rects)
+    let r = clamped_rect s in
+    push_sound r (record { left = is_coordinate s.0; top = is_coordinate s.1; right = is_coordinate s.2; bottom = is_coordinate s.3 }) (filter_map solid_of_sides rects) (all_sound rects)
     (int_lt r.left r.right) (int_lt r.top r.bottom) (less r.left r.right) (less r.top r.bottom)
 
 push_more : {Y : Type 0} (o : Option Y) (ys : List Y) (n : ℕ) → length ys ≤ n → length (cons_option o ys) ≤ n + 1
@@ -85,10 +85,10 @@ few_are_floor solids anchors few sound few_anchors within = record {
       );
 }
 
-pub is_floor : (rects : Rects) (anchors : List (ℤ × ℤ)) → IsFloor (floor_of rects anchors)
+pub is_floor : (rects : Rects) (anchors : List (ℤ × ℤ)) → IsFloor (small_floor rects anchors)
 is_floor rects anchors =
     let some = take 256 rects in
     let others = take 256 anchors in
-    few_are_floor (filter_map solid_of some) (map point_of others)
-    (omega (arith, no_more solid_of some, length-take 256 rects)) (all_sound some)
-    (omega (arith, length-map others point_of, length-take 256 anchors)) (all_on_sheet others)
+    few_are_floor (filter_map solid_of_sides some) (map clamped_point others)
+    (omega (arith, no_more solid_of_sides some, length-take 256 rects)) (all_sound some)
+    (omega (arith, length-map others clamped_point, length-take 256 anchors)) (all_on_sheet others)

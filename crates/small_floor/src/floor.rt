@@ -1,7 +1,7 @@
 //! The floor of a few rectangles and anchors.
 ghost use Rattle.std.specs.Prelude.{◌≡◌, ◌≤◌, IfOk, filter_map, length, map, take};
 ghost use Rattle.plane_geom.specs.Floor.{IsFloor};
-ghost use Rattle.small_floor.specs.Small.{floor_of, on_sheet, point_of, solid_of};
+ghost use Rattle.small_floor.specs.Small.{clamped, clamped_point, small_floor, solid_of_sides};
 
 use plane_geom::{Floor, Point, Points, Rect, SHEET_END, SHEET_START, Solid, Solids};
 use std::alloc::{AllocError, Global};
@@ -9,15 +9,19 @@ use std::alloc::{AllocError, Global};
 /// Left, top, right and bottom, in thousandths.
 pub type Sides = (i64, i64, i64, i64);
 
-// So many rectangles and anchors are read.
+// At most so many rectangles, and so many anchors, are read.
 const MOST: usize = 256;
 
 /// The floor of the rectangles that have an inside, in their order, and of the anchors, each by its x and y.
 ///
-/// Of each the first 256 are read. A number beyond the sheet stands for the end of the sheet that is nearest to it.
-/// Each solid is of node 0. The only error is want of memory.
-pub fn floor_of(alloc: Global, rects: &[Sides], anchors: &[(i64, i64)]) -> Result<Floor, AllocError>
-    ensures floor { IfOk result (λ f. f ≡ floor_of rects.now anchors.now) }
+/// Of each the first 256 are read. A number beyond the sheet stands for the end of the sheet that is nearest to it,
+/// and what has no inside on the sheet is left out. Each solid is of node 0. The only error is want of memory.
+pub fn small_floor(
+    alloc: Global,
+    rects: &[Sides],
+    anchors: &[(i64, i64)],
+) -> Result<Floor, AllocError>
+    ensures floor { IfOk result (λ f. f ≡ small_floor rects.now anchors.now) }
     ensures sound { IfOk result IsFloor }
 {
     let solids = solids_of(alloc, first(rects))?;
@@ -28,7 +32,7 @@ pub fn floor_of(alloc: Global, rects: &[Sides], anchors: &[(i64, i64)]) -> Resul
     })
 }
 
-/// The first so many.
+/// The first 256, or all where there are fewer.
 fn first<T>(all: &[T]) -> &[T]
     ensures { result.now ≡ take 256 all.now }
 {
@@ -37,7 +41,7 @@ fn first<T>(all: &[T]) -> &[T]
 }
 
 fn solids_of(alloc: Global, rects: &[Sides]) -> Result<Vec<Solid>, AllocError>
-    ensures { IfOk result (λ v. v.items ≡ filter_map solid_of rects.now) }
+    ensures { IfOk result (λ v. v.items ≡ filter_map solid_of_sides rects.now) }
 {
     let mut solids = Vec::new(alloc);
     for sides in rects {
@@ -50,10 +54,10 @@ fn solids_of(alloc: Global, rects: &[Sides]) -> Result<Vec<Solid>, AllocError>
 
 /// The solid, where it has an inside.
 fn solid(sides: Sides) -> Option<Solid>
-    ensures { result ≡ solid_of sides }
+    ensures { result ≡ solid_of_sides sides }
 {
-    let (left, top) = (on_sheet(sides.0), on_sheet(sides.1));
-    let (right, bottom) = (on_sheet(sides.2), on_sheet(sides.3));
+    let (left, top) = (clamped(sides.0), clamped(sides.1));
+    let (right, bottom) = (clamped(sides.2), clamped(sides.3));
     let rect = Rect {
         left,
         top,
@@ -68,23 +72,23 @@ fn solid(sides: Sides) -> Option<Solid>
 }
 
 fn points_of(alloc: Global, places: &[(i64, i64)]) -> Result<Vec<Point>, AllocError>
-    ensures { IfOk result (λ v. v.items ≡ map point_of places.now) }
+    ensures { IfOk result (λ v. v.items ≡ map clamped_point places.now) }
 {
     places.iter().map(|place| point(*place)).collect(alloc)
 }
 
 fn point(place: (i64, i64)) -> Point
-    ensures { result ≡ point_of place }
+    ensures { result ≡ clamped_point place }
 {
     Point {
-        x: on_sheet(place.0),
-        y: on_sheet(place.1),
+        x: clamped(place.0),
+        y: clamped(place.1),
     }
 }
 
 /// The number, or the end of the sheet that is nearest to it.
-fn on_sheet(z: i64) -> i64
-    ensures { result ≡ on_sheet z }
+fn clamped(z: i64) -> i64
+    ensures { result ≡ clamped z }
 {
     z.max(SHEET_START).min(SHEET_END)
 }
@@ -113,7 +117,7 @@ mod tests {
             (i64::MIN, -1, i64::MAX, 1),
         ];
         let anchors = [(-4, 8), (i64::MAX, i64::MIN)];
-        let floor = floor_of(rt.alloc(), &rects, &anchors)?;
+        let floor = small_floor(rt.alloc(), &rects, &anchors)?;
         let solids = [
             solid_at(0, 1, 2, 3),
             solid_at(SHEET_START, -1, SHEET_END, 1),
@@ -133,7 +137,7 @@ mod tests {
         let alloc = rt.alloc();
         let rects = vec![in alloc; (0, 0, 1, 1); 300]?;
         let anchors = vec![in alloc; (0, 0); 70000]?;
-        let floor = floor_of(alloc, rects.as_slice(), anchors.as_slice())?;
+        let floor = small_floor(alloc, rects.as_slice(), anchors.as_slice())?;
         assert_eq!(rt; floor.solids.as_slice().len(), 256);
         assert_eq!(rt; floor.anchors.as_slice().len(), 256);
         Ok(())

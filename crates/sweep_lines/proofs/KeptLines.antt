@@ -22,7 +22,7 @@ use Rattle.sweep_lines.specs.Bars.{bar_of, bars_of}
 use Rattle.sweep_lines.specs.Gaps.{Piece, gaps}
 use Rattle.sweep_lines.specs.Marks.{marks_of, keeps, line_of, kept_gaps, AreAt}
 use Rattle.sweep_lines.specs.Open.{AreSpansOf, IsCrossed, AreOpen, HasLength}
-use Rattle.sweep_lines.specs.Kept.{AreKept, AreAllKept, IsBetween, is_between, is_near}
+use Rattle.sweep_lines.specs.Kept.{AreKept, AreAllKept, RunsWithin, is_within, is_near}
 use Rattle.plane_geom.specs.Order.{stands_before, way_before}
 use Rattle.sweep_lines.proofs.Members.{Among, among_of_contains, contains_of_among, all_among, among_all, among_filter, among_filtered, among_map, among_mapped, Rising, rising_filter, rising_map, rising_joined, rising_of_pairs, pairs_of_rising, among_number, number_mapped}
 use Rattle.sweep_lines.proofs.Gaps.{Rise, IsGap, AreApart}
@@ -127,25 +127,25 @@ asked_alike floor Is Becomes ls f g a = record {
 }
 
 -- whether a number is between others
-pub between_told : (first last z : ℤ) → is_between first last z ≡ true → (first ≤ℤ z) × (z ≤ℤ last)
+pub between_told : (first last z : ℤ) → is_within first last z ≡ true → (first ≤ℤ z) × (z ≤ℤ last)
 between_told first last z e =
     let a = not (int_lt z first) in
     let b = not (int_lt last z) in
     (not_lt z first (and_left a b e), not_lt last z (and_right a b e))
 
-pub between_tells : (first last z : ℤ) → first ≤ℤ z → z ≤ℤ last → is_between first last z ≡ true
+pub between_tells : (first last z : ℤ) → first ≤ℤ z → z ≤ℤ last → is_within first last z ≡ true
 between_tells first last z h k = and_both (not (int_lt z first)) (not (int_lt last z)) (lt_not z first h) (lt_not last z k)
 
-pub near_told : (near : Rect) (l : Line) → is_near near l ≡ true → IsBetween l.way (first_side l.way near) (last_side l.way near) l
+pub near_told : (near : Rect) (l : Line) → is_near near l ≡ true → RunsWithin l.way (first_side l.way near) (last_side l.way near) l
 near_told near l e = let h = between_told (first_side l.way near) (last_side l.way near) l.at e in record { way_is = refl; from = h.0; to = h.1 }
 
-pub near_tells : (near : Rect) (way : Way) (l : Line) → IsBetween way (first_side way near) (last_side way near) l → is_near near l ≡ true
+pub near_tells : (near : Rect) (way : Way) (l : Line) → RunsWithin way (first_side way near) (last_side way near) l → is_near near l ≡ true
 near_tells near way l b =
-    subst (λ w. is_between (first_side w near) (last_side w near) l.at ≡ true) (sym b.way_is) (between_tells (first_side way near) (last_side way near) l.at b.from b.to)
+    subst (λ w. is_within (first_side w near) (last_side w near) l.at ≡ true) (sym b.way_is) (between_tells (first_side way near) (last_side way near) l.at b.from b.to)
 
 -- what `lines_at` has at its end
-pub on_one_line : (floor : Floor) (way : Way) (at : ℤ) (ls : List Line) → AreKept floor (IsBetween way at at) ls → AreKept floor (λ l. (l.way ≡ way) × (l.at ≡ at)) ls
-on_one_line floor way at ls = asked_alike floor (IsBetween way at at) (λ l. (l.way ≡ way) × (l.at ≡ at)) ls
+pub on_one_line : (floor : Floor) (way : Way) (at : ℤ) (ls : List Line) → AreKept floor (RunsWithin way at at) ls → AreKept floor (λ l. (l.way ≡ way) × (l.at ≡ at)) ls
+on_one_line floor way at ls = asked_alike floor (RunsWithin way at at) (λ l. (l.way ≡ way) × (l.at ≡ at)) ls
     (λ l k b. (b.way_is, omega (arith, ints, b.from, b.to)))
     (λ l h. let e = h.1 in record { way_is = h.0; from = omega (arith, ints); to = omega (arith, ints) })
 
@@ -159,31 +159,31 @@ upright_first Vertical Vertical rest e f = absurd (cc)
 upright_first Vertical Horizontal rest e f = refl
 upright_first Horizontal w rest e f = absurd (cc)
 
-pub both_ways : (floor : Floor) (near : Rect) (ls ms : List Line) → AreKept floor (IsBetween Vertical near.left near.right) ls → AreKept floor (IsBetween Horizontal near.top near.bottom) ms →
+pub both_ways : (floor : Floor) (near : Rect) (ls ms : List Line) → AreKept floor (RunsWithin Vertical near.left near.right) ls → AreKept floor (RunsWithin Horizontal near.top near.bottom) ms →
     AreKept floor (λ l. is_near near l ≡ true) (ls ++ ms)
 both_ways floor near ls ms a b =
     record {
       kept = All-append (λ l. IsKept floor l × (is_near near l ≡ true)) ls ms
-          (All-weaker (λ l. IsKept floor l × IsBetween Vertical near.left near.right l) (λ l. IsKept floor l × (is_near near l ≡ true)) (λ l h. (h.0, near_tells near Vertical l h.1)) ls a.kept)
-          (All-weaker (λ l. IsKept floor l × IsBetween Horizontal near.top near.bottom l) (λ l. IsKept floor l × (is_near near l ≡ true)) (λ l h. (h.0, near_tells near Horizontal l h.1)) ms b.kept);
+          (All-weaker (λ l. IsKept floor l × RunsWithin Vertical near.left near.right l) (λ l. IsKept floor l × (is_near near l ≡ true)) (λ l h. (h.0, near_tells near Vertical l h.1)) ls a.kept)
+          (All-weaker (λ l. IsKept floor l × RunsWithin Horizontal near.top near.bottom l) (λ l. IsKept floor l × (is_near near l ≡ true)) (λ l h. (h.0, near_tells near Horizontal l h.1)) ms b.kept);
       all = λ l k w.
           let between = near_told near l w in
           elim (way_told l.way) [
-            | inl e ↦ Contains-append_left ls ms l (a.all l k (subst (λ v. IsBetween v (first_side v near) (last_side v near) l) e between))
-            | inr e ↦ Contains-append_right ls ms l (b.all l k (subst (λ v. IsBetween v (first_side v near) (last_side v near) l) e between))
+            | inl e ↦ Contains-append_left ls ms l (a.all l k (subst (λ v. RunsWithin v (first_side v near) (last_side v near) l) e between))
+            | inr e ↦ Contains-append_right ls ms l (b.all l k (subst (λ v. RunsWithin v (first_side v near) (last_side v near) l) e between))
           ];
       ordered = pairs_of_rising (λ l m. stands_before l m ≡ true) (ls ++ ms)
           (rising_joined (λ l m. stands_before l m ≡ true) ls ms (rising_of_pairs _ ls a.ordered) (rising_of_pairs _ ms b.ordered)
           (λ l m i j. upright_first l.way m.way _
-          (All-contains (λ l. IsKept floor l × IsBetween Vertical near.left near.right l) ls l a.kept (contains_of_among ls l i)).1.way_is
-          (All-contains (λ l. IsKept floor l × IsBetween Horizontal near.top near.bottom l) ms m b.kept (contains_of_among ms m j)).1.way_is));
+          (All-contains (λ l. IsKept floor l × RunsWithin Vertical near.left near.right l) ls l a.kept (contains_of_among ls l i)).1.way_is
+          (All-contains (λ l. IsKept floor l × RunsWithin Horizontal near.top near.bottom l) ms m b.kept (contains_of_among ms m j)).1.way_is));
     }
 
 -- the whole sheet
 abbrev pub sheet : Rect
 sheet = record { left = sheet_start; top = sheet_start; right = sheet_end; bottom = sheet_end }
 
-between_ends : (way : Way) (l : Line) → l.way ≡ way → IsCoordinate l.at → IsBetween way (first_side way sheet) (last_side way sheet) l
+between_ends : (way : Way) (l : Line) → l.way ≡ way → IsCoordinate l.at → RunsWithin way (first_side way sheet) (last_side way sheet) l
 between_ends Vertical l e on = record { way_is = e; from = on.low; to = on.high }
 between_ends Horizontal l e on = record { way_is = e; from = on.low; to = on.high }
 

@@ -26,7 +26,7 @@ use Rattle.sweep_lines.specs.declared.mark.Mark.{Mark}
 use Rattle.sweep_lines.specs.Bars.{bar_of, bars_of}
 use Rattle.sweep_lines.specs.Marks.{begin_mark, end_mark, anchor_mark, marks_of, begins, ends, begun_span, kept_gaps, AreAt}
 use Rattle.sweep_lines.specs.Open.{AreSpansOf, HasBegun, IsCrossed, HasNotEnded, HasLength, AreOpened}
-use Rattle.sweep_lines.specs.Kept.{AreKept, IsBetween, is_between}
+use Rattle.sweep_lines.specs.Kept.{AreKept, RunsWithin, is_within}
 use Rattle.plane_geom.specs.Order.{stands_before, way_before}
 use Rattle.sweep_lines.proofs.Members.{Among, among_of_contains, contains_of_among, among_filter, among_filtered, among_of_any, among_number, number_map, Rising, rising_of_pairs, rising_joined, pairs_of_rising}
 use Rattle.sweep_lines.proofs.Sides.{bar_of_side}
@@ -76,11 +76,11 @@ pub record Swept (floor : Floor) (way : Way) (from to : ℤ) (rest : List Mark) 
   pub ordered : AllPairs (λ m n. m.at ≤ℤ n.at) rest
   pub once : (k : ℕ) → count_by (λ m. begins k m.kind) rest ≤ 1
   pub open_spans : AreSpansOf (bars_of way floor.solids) (HasNotEnded upto) index
-  pub lines : AreKept floor (λ l. IsBetween way from to l × (l.at ≤ℤ upto)) done
+  pub lines : AreKept floor (λ l. RunsWithin way from to l × (l.at ≤ℤ upto)) done
 
 -- the marks that stand from one coordinate to another
 abbrev pub marks_between : Floor → Way → ℤ → ℤ → List Mark
-marks_between floor way from to = filter (λ m. is_between from to m.at) (all_marks floor way)
+marks_between floor way from to = filter (λ m. is_within from to m.at) (all_marks floor way)
 
 less_of_filter : {X : Type 0} (p q : X → Bool) (xs : List X) → count_by q (filter p xs) ≤ count_by q xs
 less_of_filter p q xs = let e = sum_by-filter_both p (λ x. not (p x)) (λ x. refl) (λ x. cond (q x) 1 0) xs in omega (arith, e)
@@ -95,17 +95,17 @@ swept_at_first floor way from to marks index is moved order spans =
       begun = omega (arith, ints);
       rest_each = λ m c.
           let a = Contains-permutation marks between m (IsPermutation-sym between marks moved) c in
-          let f = among_filtered (λ (m : Mark). is_between from to m.at) (all_marks floor way) m (among_of_contains between m a) in
+          let f = among_filtered (λ (m : Mark). is_within from to m.at) (all_marks floor way) m (among_of_contains between m a) in
           let h = between_told from to m.at f.1 in
           (contains_of_among (all_marks floor way) m f.0, omega (arith, ints, h.0), h.1);
       rest_all = λ m c h k.
           Contains-permutation between marks m moved
-          (contains_of_among between m (among_filter (λ (m : Mark). is_between from to m.at) (all_marks floor way) m (among_of_contains (all_marks floor way) m c)
+          (contains_of_among between m (among_filter (λ (m : Mark). is_within from to m.at) (all_marks floor way) m (among_of_contains (all_marks floor way) m c)
           (between_tells from to m.at (omega (arith, ints)) k)));
       ordered = order;
       once = λ k.
           let e = sum_by-IsPermutation (λ (m : Mark). cond (begins k m.kind) 1 0) between marks moved in
-          let f = less_of_filter (λ (m : Mark). is_between from to m.at) (λ (m : Mark). begins k m.kind) (all_marks floor way) in
+          let f = less_of_filter (λ (m : Mark). is_within from to m.at) (λ (m : Mark). begins k m.kind) (all_marks floor way) in
           let o = begins_once k way (bars_of way floor.solids) floor.anchors in omega (arith, e, f, o);
       open_spans = spans_alike (bars_of way floor.solids) (HasBegun from) (HasNotEnded before) index spans
           (λ k b g h. let f : b.begin <ℤ from = h.0 in let e : from ≤ℤ b.end = h.1 in (omega (arith, ints), omega (arith, ints)))
@@ -117,9 +117,9 @@ swept_at_first floor way from to marks index is moved order spans =
       };
     }
 
-pub swept_at_last : (floor : Floor) (way : Way) (from to : ℤ) (index : List Span) (done : List Line) → Swept floor way from to [] index done → AreKept floor (IsBetween way from to) done
+pub swept_at_last : (floor : Floor) (way : Way) (from to : ℤ) (index : List Span) (done : List Line) → Swept floor way from to [] index done → AreKept floor (RunsWithin way from to) done
 swept_at_last floor way from to index done s = record {
-  kept = All-weaker (λ l. IsKept floor l × (IsBetween way from to l × (l.at ≤ℤ s.upto))) (λ l. IsKept floor l × IsBetween way from to l) (λ l h. (h.0, h.1.0)) done s.lines.kept;
+  kept = All-weaker (λ l. IsKept floor l × (RunsWithin way from to l × (l.at ≤ℤ s.upto))) (λ l. IsKept floor l × RunsWithin way from to l) (λ l h. (h.0, h.1.0)) done s.lines.kept;
   all = λ l k w. by_lt_z s.upto l.at
       (λ h. let m = mark_of_reason floor way l k.reason w.way_is in
       let late : s.upto <ℤ m.0.at = subst (λ z. s.upto <ℤ z) (sym m.2) h in
@@ -266,9 +266,9 @@ module _ (floor : Floor) (way : Way) (from to : ℤ) (rest : List Mark) (index :
     new_lines = kept_lines floor way at (take n rest) mid t.is on_sheet are_at crossed listed
 
     abbrev Done : Line → Type 0
-    Done l = IsKept floor l × (IsBetween way from to l × (l.at ≤ℤ at))
+    Done l = IsKept floor l × (RunsWithin way from to l × (l.at ≤ℤ at))
 
-    done_before : (l : Line) → IsKept floor l × (IsBetween way from to l × (l.at ≤ℤ t.swept.upto)) → Done l
+    done_before : (l : Line) → IsKept floor l × (RunsWithin way from to l × (l.at ≤ℤ t.swept.upto)) → Done l
     done_before l h = let p = past in let f = h.1.1 in (h.0, (h.1.0, omega (arith, ints)))
 
     done_here : (l : Line) → IsKept floor l × ((l.way ≡ way) × (l.at ≡ at)) → Done l
@@ -279,7 +279,7 @@ module _ (floor : Floor) (way : Way) (from to : ℤ) (rest : List Mark) (index :
         let w = within in
         (h.0, (record { way_is = h.1.0; from = omega (arith, ints); to = omega (arith, ints) }, omega (arith, ints)))
 
-    has_line : (l : Line) → IsKept floor l → IsBetween way from to l × (l.at ≤ℤ at) → Contains (done ++ kept_gaps way at (take n rest) mid) l
+    has_line : (l : Line) → IsKept floor l → RunsWithin way from to l × (l.at ≤ℤ at) → Contains (done ++ kept_gaps way at (take n rest) mid) l
     has_line l k w = by_lt_z t.swept.upto l.at
         (λ h.
         let m = mark_of_reason floor way l k.reason w.0.way_is in
@@ -292,7 +292,7 @@ module _ (floor : Floor) (way : Way) (from to : ℤ) (rest : List Mark) (index :
 
     before_new : (l m : Line) → Among l done → Among m (kept_gaps way at (take n rest) mid) → stands_before l m ≡ true
     before_new l m i j =
-        let a = All-contains (λ l. IsKept floor l × (IsBetween way from to l × (l.at ≤ℤ t.swept.upto))) done l t.swept.lines.kept (contains_of_among done l i) in
+        let a = All-contains (λ l. IsKept floor l × (RunsWithin way from to l × (l.at ≤ℤ t.swept.upto))) done l t.swept.lines.kept (contains_of_among done l i) in
         let b = All-contains (λ l. IsKept floor l × ((l.way ≡ way) × (l.at ≡ at))) (kept_gaps way at (take n rest) mid) m new_lines.kept (contains_of_among _ m j) in
         let p = past in
         let f = a.1.1 in
@@ -322,7 +322,7 @@ module _ (floor : Floor) (way : Way) (from to : ℤ) (rest : List Mark) (index :
       open_spans = opened way (bars_of way floor.solids) floor.anchors at (take n rest) are_at mid after (λ k b g. (sound k b g).across.long) crossed opens;
       lines = record {
         kept = All-append Done done (kept_gaps way at (take n rest) mid)
-            (All-weaker (λ l. IsKept floor l × (IsBetween way from to l × (l.at ≤ℤ t.swept.upto))) Done done_before done t.swept.lines.kept)
+            (All-weaker (λ l. IsKept floor l × (RunsWithin way from to l × (l.at ≤ℤ t.swept.upto))) Done done_before done t.swept.lines.kept)
             (All-weaker (λ l. IsKept floor l × ((l.way ≡ way) × (l.at ≡ at))) Done done_here (kept_gaps way at (take n rest) mid) new_lines.kept);
         all = has_line;
         ordered = pairs_of_rising (λ l m. stands_before l m ≡ true) (done ++ kept_gaps way at (take n rest) mid) in_order;

@@ -27,7 +27,7 @@ pub struct Mark {
 }
 
 impl Mark {
-    ghost use Rattle.sweep_lines.specs.Kept.{is_between};
+    ghost use Rattle.sweep_lines.specs.Kept.{is_within};
     ghost use Rattle.sweep_lines.specs.Marks.{begin_mark, begun_span, end_mark};
 
     /// The side with which the bar of this number begins.
@@ -81,8 +81,8 @@ impl Mark {
     }
 
     /// Whether it stands from one coordinate to another.
-    pub fn stands_between(&self, from: i64, to: i64) -> bool
-        ensures { result ≡ is_between from to self.now.at }
+    pub fn stands_within(&self, from: i64, to: i64) -> bool
+        ensures { result ≡ is_within from to self.now.at }
     {
         from <= self.at && self.at <= to
     }

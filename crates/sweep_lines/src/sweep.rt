@@ -1,5 +1,5 @@
-//! The two sweeps: marks by rising coordinate, with the spans of the solids that are open across it.
-ghost use Rattle.std.specs.Prelude.{◌≡◌, ◌≤◌, ◌++◌, false, true, not, ◌&&◌, ℕ, List, [], length, filter, All, AllPairs, Any, Contains, Some, IfOk, OnOk, count_by, ◌≤ℤ◌, ◌<ℤ◌};
+//! The sweep: marks by rising coordinate, with the spans of the solids that are open across each.
+ghost use Rattle.std.specs.Prelude.{Bool, ◌≡◌, ◌≤◌, ◌++◌, false, true, not, ◌&&◌, ℕ, List, [], length, filter, All, AllPairs, Any, Contains, Some, IfOk, OnOk, count_by, ◌≤ℤ◌, ◌<ℤ◌};
 ghost use Rattle.std.specs.List.{AllWithin, list_any};
 ghost use Rattle.interval_index.specs.declared.span.Span.{Span};
 ghost use Rattle.interval_index.specs.Index.{IsListed};
@@ -9,7 +9,7 @@ ghost use Rattle.plane_geom.specs.Point.{IsCoordinate};
 ghost use Rattle.plane_geom.specs.Floor.{IsFloor};
 ghost use Rattle.sweep_lines.specs.Marks.{begins, begun_span, ends, keeps, kept_gaps, kept_one};
 ghost use Rattle.sweep_lines.specs.Open.{AreOpened, AreSpansOf, HasLength, IsCrossed};
-ghost use Rattle.sweep_lines.specs.Kept.{AreAllKept, AreKept, IsBetween, is_between, is_near};
+ghost use Rattle.sweep_lines.specs.Kept.{AreAllKept, AreKept, RunsWithin, is_within, is_near};
 
 use crate::bar::{Bar, bars, open_before};
 use crate::mark::{Kind, Mark, marks, put_in_order};
@@ -53,7 +53,8 @@ pub fn all_lines(alloc: Global, floor: &Floor) -> Result<Vec<Line>, AllocError>
 /// `all_lines`.
 ///
 /// Sweeps only the sides and anchors that lie there, from the solids that are open where it begins. The rectangle, in
-/// thousandths, may reach past the sheet. The only error is want of memory.
+/// thousandths, may reach past the sheet. Where it ends before it begins, no line of that way is found. The only error
+/// is want of memory.
 pub fn lines_near(alloc: Global, floor: &Floor, near: &Rect) -> Result<Vec<Line>, AllocError>
     requires floor { IsFloor floor.now }
     ensures { IfOk result (λ ls. AreKept floor.now (λ l. is_near near.now l ≡ true) ls.items) }
@@ -64,9 +65,10 @@ pub fn lines_near(alloc: Global, floor: &Floor, near: &Rect) -> Result<Vec<Line>
     Ok(lines)
 }
 
-/// There is one list of the kept lines that are asked for.
+/// There is one list of all kept lines, and one of those that pass a test.
 pub fn one_list_of_kept_lines()
-    ensures { (floor : Floor) (ls ms : List Line) → AreAllKept floor ls → AreAllKept floor ms → ls ≡ ms }
+    ensures all { (floor : Floor) (ls ms : List Line) → AreAllKept floor ls → AreAllKept floor ms → ls ≡ ms }
+    ensures asked { (floor : Floor) (is_asked : Line → Bool) (ls ms : List Line) → AreKept floor (λ l. is_asked l ≡ true) ls → AreKept floor (λ l. is_asked l ≡ true) ms → ls ≡ ms }
 {}
 
 /// The kept lines of the axis on one whole line.
@@ -90,11 +92,11 @@ fn sweep<A: Axis>(
     lines: &mut Vec<Line>,
 ) -> Result<(), AllocError>
     requires { IsFloor floor.now }
-    ensures { OnOk result ((ls : List Line) × AreKept floor.now (IsBetween A.way_of from to) ls × (lines.new.items ≡ lines.old.items ++ ls)) }
+    ensures { OnOk result ((ls : List Line) × AreKept floor.now (RunsWithin A.way_of from to) ls × (lines.new.items ≡ lines.old.items ++ ls)) }
 {
     let bars = bars::<A>(alloc, floor)?;
     let mut marks = marks::<A>(alloc, bars.as_slice(), floor)?;
-    keep_between(&mut marks, from, to);
+    keep_within(&mut marks, from, to);
     put_in_order(&mut marks)?;
     let mut index = open_before(alloc, bars.as_slice(), from)?;
     let mut rest = marks.as_slice();
@@ -110,10 +112,10 @@ fn sweep<A: Axis>(
 }
 
 /// Keeps the marks that stand from one coordinate to another.
-fn keep_between(marks: &mut Vec<Mark>, from: i64, to: i64)
-    ensures { marks.new.items ≡ filter (λ m. is_between from to m.at) marks.old.items }
+fn keep_within(marks: &mut Vec<Mark>, from: i64, to: i64)
+    ensures { marks.new.items ≡ filter (λ m. is_within from to m.at) marks.old.items }
 {
-    marks.retain(|mark| mark.stands_between(from, to));
+    marks.retain(|mark| mark.stands_within(from, to));
 }
 
 /// How many of the marks, which rise by coordinate, stand at the coordinate or before it.

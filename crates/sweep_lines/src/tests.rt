@@ -3,7 +3,7 @@ ghost use Rattle.plane_geom.specs.Floor.{IsFloor};
 
 use crate::{all_lines, lines_at, lines_near};
 use plane_geom::{Floor, Line, Rect, SHEET_END, SHEET_START, Way};
-use small_floor::{Sides, floor_of};
+use small_floor::{Sides, small_floor};
 use std::alloc::{AllocError, Global};
 use std::test::Fail;
 
@@ -18,7 +18,7 @@ fn level(at: i64, lo: i64, hi: i64) -> Line {
 }
 
 fn kept(alloc: Global, rects: &[Sides], anchors: &[(i64, i64)]) -> Result<Vec<Line>, AllocError> {
-    let floor = floor_of(alloc, rects, anchors)?;
+    let floor = small_floor(alloc, rects, anchors)?;
     all_lines(alloc, &floor)
 }
 
@@ -29,7 +29,7 @@ fn finds_a_side_without_a_free_corner(rt: HostRuntime) -> Result<(), Fail> {
         (-40_000, -20_000, 30_000, 60_000),
         (-50_000, 70_000, 30_000, 120_000),
     ];
-    let floor = floor_of(rt.alloc(), &rects, &[])?;
+    let floor = small_floor(rt.alloc(), &rects, &[])?;
     let lines = lines_at(rt.alloc(), &floor, Way::Vertical, 0)?;
     assert_eq!(rt; lines.as_slice(), [upright(0, 60_000, 70_000)].as_slice());
     assert_eq!(rt; all_lines(rt.alloc(), &floor)?.len(), 12);
@@ -96,7 +96,7 @@ fn keeps_pieces_for_sides_and_anchors(rt: HostRuntime) -> Result<(), Fail> {
 fn finds_on_one_line_what_is_among_all(rt: HostRuntime) -> Result<(), Fail> {
     // Two solids have sides on one whole line, and a third stands between them.
     let rects = [(0, 0, 10, 10), (0, 20, 10, 30), (-5, 12, 20, 18)];
-    let floor = floor_of(rt.alloc(), &rects, &[(5, 11), (7, 40), (3, 15)])?;
+    let floor = small_floor(rt.alloc(), &rects, &[(5, 11), (7, 40), (3, 15)])?;
     let mut lines = Vec::new(rt.alloc());
     for way in [Way::Vertical, Way::Horizontal] {
         for at in -8..48i16 {
@@ -174,14 +174,14 @@ fn finds_near_a_rectangle_what_is_among_all(rt: HostRuntime) -> Result<(), Fail>
         (-9, 0, -6, 40),
         (10, 20, 0, 0),
     ];
-    let none = floor_of(alloc, &[], &[])?;
+    let none = small_floor(alloc, &[], &[])?;
     assert_eq!(rt; first_apart(alloc, &none, &rects)?, None);
-    let corridor = floor_of(alloc, &[(0, 0, 10, 10), (0, 10, 10, 20)], &[(5, 10)])?;
+    let corridor = small_floor(alloc, &[(0, 0, 10, 10), (0, 10, 10, 20)], &[(5, 10)])?;
     assert_eq!(rt; first_apart(alloc, &corridor, &rects)?, None);
     let row = [(0, 0, 10, 10), (0, 20, 10, 30), (-5, 12, 20, 18)];
-    let row = floor_of(alloc, &row, &[(5, 11), (7, 40), (3, 15)])?;
+    let row = small_floor(alloc, &row, &[(5, 11), (7, 40), (3, 15)])?;
     assert_eq!(rt; first_apart(alloc, &row, &rects)?, None);
-    let many = floor_of(alloc, tiles(alloc)?.as_slice(), &[(90, 100)])?;
+    let many = small_floor(alloc, tiles(alloc)?.as_slice(), &[(90, 100)])?;
     assert_eq!(rt; first_apart(alloc, &many, &rects)?, None);
     let near = Rect {
         left: 0,

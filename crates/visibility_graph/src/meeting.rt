@@ -41,7 +41,7 @@ fn count_met(line: &Line, others: &[Line]) -> usize
     let (_, here) = beside(line, others);
     let mut count = 0;
     for other in here {
-        // (without a branch, since which lines are reached follows no pattern)
+        // Without a branch, since which lines are reached follows no pattern.
         count += usize::from(is_reached(line, other));
     }
     count
@@ -63,7 +63,7 @@ pub(crate) fn beside<'a>(line: &Line, others: &'a [Line]) -> (usize, &'a [Line])
     ensures across { All (λ m. meets line.now m ≡ reaches m line.now.at) result.1.now }
     ensures ordered { AreOrdered result.1.now }
 {
-    if are_alongside(line, others) {
+    if are_all_vertical(line, others) {
         return (others.len(), &[]);
     }
     let (front, _) = others.split_at(count_upto_end(line, others));
@@ -73,7 +73,7 @@ pub(crate) fn beside<'a>(line: &Line, others: &'a [Line]) -> (usize, &'a [Line])
 }
 
 /// Whether the line and all others are vertical, which the last of them tells.
-fn are_alongside(line: &Line, others: &[Line]) -> bool
+fn are_all_vertical(line: &Line, others: &[Line]) -> bool
     requires { AreOrdered others.now }
     ensures { IsTrue result → All (λ m. meets line.now m ≡ false) others.now }
 {

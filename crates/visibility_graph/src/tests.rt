@@ -1,12 +1,12 @@
 //! Counts of lines and crossings on small floors and a large one, and each public call once.
 use crate::{Graph, GraphParts};
 use plane_geom::{Line, Point, SHEET_END, SHEET_START, Way};
-use small_floor::{Sides, floor_of};
+use small_floor::{Sides, small_floor};
 use std::alloc::{AllocError, Global};
 use std::test::Fail;
 
 fn graph(alloc: Global, rects: &[Sides], anchors: &[(i64, i64)]) -> Result<Graph, AllocError> {
-    let floor = floor_of(alloc, rects, anchors)?;
+    let floor = small_floor(alloc, rects, anchors)?;
     Graph::build(alloc, &floor)
 }
 

@@ -11,12 +11,12 @@ pub both-init : goal.both-init
 both-init c = record {
   within_old = omega arith;
   within_new = omega arith;
-  found = found_first c.args.near.now (lines_of c.args.old.now) c.args.new.now c.new-stay.result.items c.new-here.result.items c.new-there.result.items c.new-stay.ensures.items c.new-here.ensures.items c.new-there.ensures.items;
+  found = found_first c.args.hull.now (lines_of c.args.old.now) c.args.new.now c.new-stay.result.items c.new-here.result.items c.new-there.result.items c.new-stay.ensures.items c.new-here.ensures.items c.new-there.ensures.items;
 }
 
 pub both-preserved-then-is_same : goal.both-preserved-then-is_same
 both-preserved-then-is_same c =
-    let near = c.args.near.now in
+    let near = c.args.hull.now in
     let old = c.args.old.now in
     let new = c.args.new.now in
     let line = (get_or old c.both.place c.index-old-place.result).0 in
@@ -30,7 +30,7 @@ both-preserved-then-is_same c =
 
 pub both-preserved-then-not-stands_before : goal.both-preserved-then-not-stands_before
 both-preserved-then-not-stands_before c =
-    let near = c.args.near.now in
+    let near = c.args.hull.now in
     let old = c.args.old.now in
     let new = c.args.new.now in
     let line = (get_or old c.both.place c.index-old-place.result).0 in
@@ -45,7 +45,7 @@ both-preserved-then-not-stands_before c =
 
 pub both-preserved-then-is_near : goal.both-preserved-then-is_near
 both-preserved-then-is_near c =
-    let near = c.args.near.now in
+    let near = c.args.hull.now in
     let old = c.args.old.now in
     let new = c.args.new.now in
     let before = sym c.stands_before.ensures ∙ c.if-not-stands_before.false in
@@ -59,7 +59,7 @@ both-preserved-then-is_near c =
 
 pub both-preserved : goal.both-preserved
 both-preserved c =
-    let near = c.args.near.now in
+    let near = c.args.hull.now in
     let old = c.args.old.now in
     let new = c.args.new.now in
     let before = sym c.stands_before.ensures ∙ c.if-not-stands_before.false in
@@ -78,14 +78,14 @@ ended c = elim c.both-test.branch [ then-both-test+else-other_place-new w ↦ in
 pub returns-clause-stay : goal.returns-clause-stay
 returns-clause-stay c =
     (c.in_ok-part_lines.ensures {u = tt}).stay
-    ∙ all_shared c.args.near.now c.args.old.now c.args.new.now c.both.place c.both.other_place c.both.stay.items c.both.here.items c.both.there.items c.both.invariant.found (ended c)
+    ∙ all_shared c.args.hull.now c.args.old.now c.args.new.now c.both.place c.both.other_place c.both.stay.items c.both.here.items c.both.there.items c.both.invariant.found (ended c)
 
 pub returns-clause-here : goal.returns-clause-here
 returns-clause-here c =
     (c.in_ok-part_lines.ensures {u = tt}).here
-    ∙ all_here c.args.near.now c.args.old.now c.args.new.now c.both.place c.both.other_place c.both.stay.items c.both.here.items c.both.there.items c.both.invariant.found (ended c)
+    ∙ all_here c.args.hull.now c.args.old.now c.args.new.now c.both.place c.both.other_place c.both.stay.items c.both.here.items c.both.there.items c.both.invariant.found (ended c)
 
 pub returns-clause-there : goal.returns-clause-there
 returns-clause-there c =
     (c.in_ok-extend_from_slice.ensures {u = tt}).items
-    ∙ all_there c.args.near.now c.args.old.now c.args.new.now c.both.place c.both.other_place c.both.stay.items c.both.here.items c.both.there.items c.both.invariant.found (ended c)
+    ∙ all_there c.args.hull.now c.args.old.now c.args.new.now c.both.place c.both.other_place c.both.stay.items c.both.here.items c.both.there.items c.both.invariant.found (ended c)

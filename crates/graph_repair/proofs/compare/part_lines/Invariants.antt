@@ -7,6 +7,6 @@ use Rattle.graph_repair.proofs.compare.part_lines.Given as goal
 
 abbrev pub invariant-loop-line : goal.invariant-loop-line
 invariant-loop-line l = record {
-  stay : l.stay.items ≡ l.initial.stay.items ++ filter (λ m. not (is_near l.near m)) (lines_of (take l.line-index l.pairs));
-  here : l.here.items ≡ l.initial.here.items ++ filter (is_near l.near) (lines_of (take l.line-index l.pairs));
+  stay : l.stay.items ≡ l.initial.stay.items ++ filter (λ m. not (is_near l.hull m)) (lines_of (take l.line-index l.pairs));
+  here : l.here.items ≡ l.initial.here.items ++ filter (is_near l.hull) (lines_of (take l.line-index l.pairs));
 }

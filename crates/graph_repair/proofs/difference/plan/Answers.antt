@@ -6,7 +6,7 @@ use Rattle.line_arena.specs.Stands.{StandsFor}
 use Rattle.sweep_lines.specs.Kept.{AreKept, AreOrdered, is_near}
 use Rattle.visibility_graph.specs.Meeting.{coming}
 use Rattle.graph_repair.specs.Change.{AreAlone, AreShared}
-use Rattle.graph_repair.specs.Changed.{DiffersWithin}
+use Rattle.graph_repair.specs.Hull.{IsAloneWithin}
 use Rattle.graph_repair.specs.Listed.{goes, is_listed, lines_of, stays}
 use Rattle.graph_repair.proofs.Listing.{kept_of_arena, lines_alone, new_lines, ordered_filter, ordered_lines, shared_lines}
 use Rattle.graph_repair.proofs.Exchanged.{leads_at, leads_first}
@@ -19,19 +19,19 @@ pub make_room-requires-clause-stay_ordered : goal.make_room-requires-clause-stay
 make_room-requires-clause-stay_ordered c =
     let old = lines_of c.lines_in_order-old_lines.result.now in
     subst AreOrdered (sym (c.as_slice-2.ensures.value ∙ c.in_ok-stay.ensures.stay))
-    (ordered_filter (stays c.changed-near.result c.as_slice.result.now) old (ordered_lines c.lines_in_order-old_lines.result.now c.lines_in_order-old_lines.ensures.ordered))
+    (ordered_filter (stays c.hull_of_difference-hull.result c.as_slice.result.now) old (ordered_lines c.lines_in_order-old_lines.result.now c.lines_in_order-old_lines.ensures.ordered))
 
 pub make_room-requires-clause-here_ordered : goal.make_room-requires-clause-here_ordered
 make_room-requires-clause-here_ordered c =
     let old = lines_of c.lines_in_order-old_lines.result.now in
     subst AreOrdered (sym (c.as_slice-3.ensures.value ∙ c.in_ok-stay.ensures.here))
-    (ordered_filter (goes c.changed-near.result c.as_slice.result.now) old (ordered_lines c.lines_in_order-old_lines.result.now c.lines_in_order-old_lines.ensures.ordered))
+    (ordered_filter (goes c.hull_of_difference-hull.result c.as_slice.result.now) old (ordered_lines c.lines_in_order-old_lines.result.now c.lines_in_order-old_lines.ensures.ordered))
 
 pub make_room-requires-clause-there_ordered : goal.make_room-requires-clause-there_ordered
 make_room-requires-clause-there_ordered c =
     let old = lines_of c.lines_in_order-old_lines.result.now in
     let new = c.as_slice.result.now in
-    let kept = subst (AreKept c.in_ok-floor.floor (λ l. is_near c.changed-near.result l ≡ true)) (sym c.as_slice.ensures.value) c.in_ok-new_lines.ensures in
+    let kept = subst (AreKept c.in_ok-floor.floor (λ l. is_near c.hull_of_difference-hull.result l ≡ true)) (sym c.as_slice.ensures.value) c.in_ok-new_lines.ensures in
     subst AreOrdered (sym (c.as_slice-4.ensures.value ∙ c.in_ok-stay.ensures.there)) (ordered_filter (λ l. not (is_listed old l)) new kept.ordered)
 
 pub returns-clause-leads : goal.returns-clause-leads
@@ -45,9 +45,9 @@ returns-clause-leads c =
     let here = c.in_ok-stay.field-0.here.items in
     let there = c.in_ok-stay.field-0.there.items in
     let of_a = kept_of_arena a c.arena.result.now c.lines_in_order-old_lines.result.now c.arena.ensures.stands c.lines_in_order-old_lines.ensures.ordered c.lines_in_order-old_lines.ensures.listed in
-    let near = c.changed-near.result in
-    let gone = subst (λ f. DiffersWithin near f b) c.floor.ensures c.changed-near.ensures.gone in
-    let come = subst (DiffersWithin near b) c.floor.ensures c.changed-near.ensures.come in
+    let near = c.hull_of_difference-hull.result in
+    let gone = subst (λ f. IsAloneWithin near f b) c.floor.ensures c.hull_of_difference-hull.ensures.gone in
+    let come = subst (IsAloneWithin near b) c.floor.ensures c.hull_of_difference-hull.ensures.come in
     let of_b = subst (AreKept b (λ l. is_near near l ≡ true)) (sym c.as_slice.ensures.value) c.in_ok-new_lines.ensures in
     let shared = subst (AreShared a b) (sym c.in_ok-stay.ensures.stay) (shared_lines near a b gone come old new of_a of_b) in
     let alone = subst (AreAlone a b) (sym c.in_ok-stay.ensures.here) (lines_alone near a b gone come old new of_a of_b) in

@@ -6,7 +6,7 @@ use Rattle.std.proofs.lemmas.Int.{to_z-of_z}
 use Rattle.std.proofs.lemmas.List.{append_assoc, append-nil}
 use Rattle.sweep_lines.specs.declared.bar.Bar.{Bar}
 use Rattle.sweep_lines.specs.declared.mark.Mark.{Mark}
-use Rattle.sweep_lines.specs.Kept.{AreKept, IsBetween, is_between}
+use Rattle.sweep_lines.specs.Kept.{AreKept, RunsWithin, is_within}
 use Rattle.sweep_lines.specs.Open.{AreSpansOf, HasBegun, HasLength, IsCrossed, AreOpened}
 use Rattle.sweep_lines.specs.Marks.{begins, begun_span, ends, kept_gaps, marks_of}
 use Rattle.sweep_lines.proofs.Loops.{read}
@@ -26,7 +26,7 @@ loop-first-init g c =
     let from = read c.args.from in
     let to = read c.args.to in
     let moved = subst (λ ms. IsPermutation ms c.put_in_order.new.marks.items)
-    (c.keep_between.ensures ∙ ap (filter (λ m. is_between from to m.at)) (c.in_ok-marks.ensures ∙ ap (λ bs. marks_of way bs floor.anchors) (c.as_slice.ensures.value ∙ c.in_ok-bars.ensures)))
+    (c.keep_within.ensures ∙ ap (filter (λ m. is_within from to m.at)) (c.in_ok-marks.ensures ∙ ap (λ bs. marks_of way bs floor.anchors) (c.as_slice.ensures.value ∙ c.in_ok-bars.ensures)))
     c.put_in_order.ensures.moved in
     let spans = subst (λ bs. AreSpansOf bs (HasBegun from) c.in_ok-index.index) (c.as_slice-2.ensures.value ∙ c.in_ok-bars.ensures) c.in_ok-index.ensures in
     record {
@@ -98,8 +98,8 @@ returns g c =
     let from : read c.args.from ≡ c.args.from = to_z-of_z w64 c.args.from c.ranges.from in
     let to : read c.args.to ≡ c.args.to = to_z-of_z w64 c.args.to c.ranges.to in (
       done,
-      subst (λ z. AreKept floor (IsBetween way z c.args.to) done) from
-          (subst (λ z. AreKept floor (IsBetween way (read c.args.from) z) done) to
+      subst (λ z. AreKept floor (RunsWithin way z c.args.to) done) from
+          (subst (λ z. AreKept floor (RunsWithin way (read c.args.from) z) done) to
           (swept_at_last floor way (read c.args.from) (read c.args.to) c.loop-first.index done
           (subst (λ ms. Swept floor way (read c.args.from) (read c.args.to) ms c.loop-first.index done) (none_left c.loop-first.rest.now c.in_default.ensures.value) c.loop-first.invariant.swept))),
       c.loop-first.invariant.lines,

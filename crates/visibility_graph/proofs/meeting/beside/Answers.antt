@@ -8,8 +8,8 @@ use Rattle.visibility_graph.proofs.Counts.{filter_before, filter_behind, nothing
 use Rattle.visibility_graph.proofs.Parted.{met_across, not_met_before, not_met_behind}
 use Rattle.visibility_graph.proofs.meeting.beside.Goals as goal
 
-pub returns-then-are_alongside-clause-met : goal.returns-then-are_alongside-clause-met
-returns-then-are_alongside-clause-met c = sym (nothing (meets c.args.line.now) c.args.others.now (c.are_alongside.ensures c.if-are_alongside.true))
+pub returns-then-are_all_vertical-clause-met : goal.returns-then-are_all_vertical-clause-met
+returns-then-are_all_vertical-clause-met c = sym (nothing (meets c.args.line.now) c.args.others.now (c.are_all_vertical.ensures c.if-are_all_vertical.true))
 
 pub returns-clause-met : goal.returns-clause-met
 returns-clause-met c =

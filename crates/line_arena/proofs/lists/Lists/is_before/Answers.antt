@@ -1,7 +1,7 @@
 use Rattle.std.proofs.Common.{◌≡◌, ◌∙◌, ℕ, Some, arith, subst, sym}
 use Rattle.line_arena.specs.Entries.{entry_at}
-use Rattle.line_arena.specs.Lists.{StandsBefore, spot_at}
-use Rattle.line_arena.proofs.Walk.{stands_before}
+use Rattle.line_arena.specs.Lists.{IsShortOf, spot_at}
+use Rattle.line_arena.proofs.Walk.{is_short_of}
 use Rattle.line_arena.proofs.lists.Lists.is_before.Goals as goal
 
 some_is : (i j : ℕ) → Some i ≡ Some j → i ≡ j
@@ -15,5 +15,5 @@ returns-then-eq c = λ further k named.
     let same_line : c.line.result ≡ c.args.line = grind (arith, c.eq.ensures, c.if-eq.true) in
     let on = sym c.line.ensures ∙ same_line in
     let same = some_is c.in-Some.crossing k (sym c.in-Some.is ∙ c.crossing.ensures ∙ named) in
-    subst (StandsBefore (spot_at a) c.args.line c.args.dir c.args.point) same
-    (stands_before a c.args.line c.args.dir c.args.point c.in-Some.crossing e is on (c.is_further.ensures.0 further))
+    subst (IsShortOf (spot_at a) c.args.line c.args.dir c.args.point) same
+    (is_short_of a c.args.line c.args.dir c.args.point c.in-Some.crossing e is on (c.is_further.ensures.0 further))

@@ -2,11 +2,11 @@
 ghost use Rattle.std.specs.Prelude.{◌≡◌, IsTrue, Contains};
 ghost use Rattle.plane_geom.specs.declared.point.Point.{Point};
 ghost use Rattle.plane_geom.specs.Rect.{HasWithin};
-ghost use Rattle.graph_repair.specs.Changed.{AreCovered, DiffersWithin};
+ghost use Rattle.graph_repair.specs.Hull.{AreListedOrWithin, IsAloneWithin};
 
 use plane_geom::{Floor, Point, Rect, Solid};
 
-/// The rectangle with nothing in it, from which a hull grows.
+/// A rectangle with nothing in it, from which a hull grows.
 const NOWHERE: Rect = Rect {
     left: i64::MAX,
     top: i64::MAX,
@@ -19,6 +19,7 @@ trait Placed {
     ghost use Rattle.std.specs.Prelude.{◌≡◌, ◌↔◌, IsTrue};
     ghost use Rattle.plane_geom.specs.declared.point.Point.{Point};
 
+    // Its corners, as definitions see them.
     ghost near_of: { Self → Point };
 
     ghost far_of: { Self → Point };
@@ -81,9 +82,9 @@ impl Placed for Point {
 }
 
 /// A rectangle in which all lies that one of the floors has and the other has not. It is small where one node changes.
-pub(crate) fn changed(old: &Floor, new: &Floor) -> Rect
-    ensures gone { DiffersWithin result old.now new.now }
-    ensures come { DiffersWithin result new.now old.now }
+pub(crate) fn hull_of_difference(old: &Floor, new: &Floor) -> Rect
+    ensures gone { IsAloneWithin result old.now new.now }
+    ensures come { IsAloneWithin result new.now old.now }
 {
     let (solids, other_solids) = (old.solids.as_slice(), new.solids.as_slice());
     let (anchors, other_anchors) = (old.anchors.as_slice(), new.anchors.as_slice());
@@ -96,7 +97,7 @@ pub(crate) fn changed(old: &Floor, new: &Floor) -> Rect
 /// The hull with those of the items in it that do not stand among the others, as far as it is seen by their places.
 fn cover_missing<T: Placed>(hull: Rect, items: &[T], others: &[T]) -> Rect
     ensures wider { (p : Point) → HasWithin hull p → HasWithin result p }
-    ensures covered { AreCovered T.near_of T.far_of result items.now others.now }
+    ensures covered { AreListedOrWithin T.near_of T.far_of result items.now others.now }
 {
     let mut hull = hull;
     for (place, item) in items.iter().enumerate() {
@@ -128,7 +129,7 @@ fn stands_at<T: Placed>(others: &[T], item: &T, place: usize) -> bool
     }
 }
 
-/// The least rectangle that has the other one and the point in it.
+/// The least rectangle that has the hull and the point in it.
 fn widened(hull: Rect, p: Point) -> Rect
     ensures has { HasWithin result p }
     ensures wider { (q : Point) → HasWithin hull q → HasWithin result q }

@@ -3,7 +3,7 @@ use Rattle.plane_geom.specs.declared.point.Point.{Point}
 use Rattle.plane_geom.specs.declared.rect.Solid.{Solid}
 use Rattle.sweep_lines.specs.Bars.{far_corner, near_corner}
 use Rattle.graph_repair.proofs.Covering.{covered_lists}
-use Rattle.graph_repair.proofs.changed.changed.Goals as goal
+use Rattle.graph_repair.proofs.hull.hull_of_difference.Goals as goal
 
 pub returns-clause-gone : goal.returns-clause-gone
 returns-clause-gone c =

@@ -4,14 +4,14 @@ use Rattle.std.specs.Prelude.{filter_map}
 use Rattle.plane_geom.specs.declared.point.Point.{Point}
 use Rattle.plane_geom.specs.declared.rect.Solid.{Solid}
 use Rattle.plane_geom.specs.Floor.{IsFloor}
-use Rattle.small_floor.specs.Small.{floor_of, point_of, solid_of}
+use Rattle.small_floor.specs.Small.{clamped_point, small_floor, solid_of_sides}
 use Rattle.small_floor.proofs.Sound.{is_floor}
-use Rattle.small_floor.proofs.floor.floor_of.Goals as goal
+use Rattle.small_floor.proofs.floor.small_floor.Goals as goal
 
 pub returns-clause-sound : goal.returns-clause-sound
 returns-clause-sound c =
-    let floor = floor_of c.args.rects.now c.args.anchors.now in
-    let solids = c.in_ok-solids.ensures ∙ ap (filter_map solid_of) c.first.ensures in
-    let anchors = c.in_ok-anchors.ensures ∙ ap (map point_of) c.first-2.ensures in
+    let floor = small_floor c.args.rects.now c.args.anchors.now in
+    let solids = c.in_ok-solids.ensures ∙ ap (filter_map solid_of_sides) c.first.ensures in
+    let anchors = c.in_ok-anchors.ensures ∙ ap (map clamped_point) c.first-2.ensures in
     subst (λ (all : List Solid). IsFloor (record { solids = all; anchors = c.in_ok-anchors.anchors.items })) (sym solids)
     (subst (λ (all : List Point). IsFloor (record { solids = floor.solids; anchors = all })) (sym anchors) (is_floor c.args.rects.now c.args.anchors.now))

@@ -1,7 +1,7 @@
 -- The least and the greatest of two numbers bound both.
 use Rattle.std.proofs.Common.{FitsSigned, rules, w64, arith, ◌≤ℤ◌}
 use Rattle.std.proofs.lemmas.Int.{ints, to_z-of_z}
-use Rattle.graph_repair.proofs.changed.widened.Goals as goal
+use Rattle.graph_repair.proofs.hull.widened.Goals as goal
 
 pub returns-clause-has : goal.returns-clause-has
 returns-clause-has c =

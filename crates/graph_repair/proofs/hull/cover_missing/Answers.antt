@@ -3,8 +3,8 @@ use Rattle.std.proofs.Common.{◌+◌, sym, subst, take, arith}
 use Rattle.plane_geom.specs.declared.rect.Rect.{Rect}
 use Rattle.plane_geom.specs.Rect.{HasWithin}
 use Rattle.graph_repair.proofs.Covering.{Covers, covers_all, covers_none, one_missing, one_there}
-use Rattle.graph_repair.proofs.changed.cover_missing.Goals as goal
-use Rattle.graph_repair.proofs.changed.cover_missing.Goals.{then-not-stands_alike, else-not-stands_alike}
+use Rattle.graph_repair.proofs.hull.cover_missing.Goals as goal
+use Rattle.graph_repair.proofs.hull.cover_missing.Goals.{then-not-stands_alike, else-not-stands_alike}
 
 pub loop-place-init : goal.loop-place-init
 loop-place-init g c = covers_none g.T.Placed.near_of g.T.Placed.far_of c.args.hull c.args.others.now

@@ -4,7 +4,7 @@ use Rattle.std.specs.Ordering.{int_eq}
 use Rattle.std.proofs.lemmas.Bool.Decides.{Decides-int_eq}
 use Rattle.plane_geom.specs.declared.rect.Solid.{Solid}
 use Rattle.sweep_lines.proofs.KeptAt.{and_both, and_left, and_right}
-use Rattle.graph_repair.proofs.changed.SolidPlaced.is_same.Goals as goal
+use Rattle.graph_repair.proofs.hull.SolidPlaced.is_same.Goals as goal
 
 -- what the program tests
 abbrev same_rest : Solid → Solid → Bool

@@ -3,7 +3,7 @@ use Rattle.std.proofs.Common.{◌≡◌, ap, ◌∙◌, sym, get_or, length, ◌
 use Rattle.plane_geom.specs.declared.point.Way.TheVariants.{Vertical}
 use Rattle.plane_geom.specs.declared.floor.Line.{Line}
 use Rattle.visibility_graph.proofs.Parted.{not_met_alongside, vertical_upto}
-use Rattle.visibility_graph.proofs.meeting.are_alongside.Goals as goal
+use Rattle.visibility_graph.proofs.meeting.are_all_vertical.Goals as goal
 
 pub returns-in-Vertical-Some : goal.returns-in-Vertical-Some
 returns-in-Vertical-Some c = λ vertical k d l.
