@@ -157,32 +157,37 @@ fn first_apart(alloc: Global, floor: &Floor, rects: &[Sides]) -> Result<Option<S
     Ok(None)
 }
 
+/// The whole sheet and past it, a point, sides of solids, the midst of one, beyond all, and none.
+const PLACES: [Sides; 10] = [
+    (SHEET_START, SHEET_START, SHEET_END, SHEET_END),
+    (
+        SHEET_START * 2,
+        SHEET_START * 2,
+        SHEET_END * 2,
+        SHEET_END * 2,
+    ),
+    (10, 10, 10, 10),
+    (5, 11, 5, 11),
+    (0, 10, 10, 20),
+    (40, 30, 120, 90),
+    (1, 11, 4, 19),
+    (90_000, 90_000, 90_001, 90_001),
+    (-9, 0, -6, 40),
+    (10, 20, 0, 0),
+];
+
 #[test]
 fn finds_near_a_rectangle_what_is_among_all(rt: HostRuntime) -> Result<(), Fail> {
     let alloc = rt.alloc();
-    let (start, end) = (SHEET_START, SHEET_END);
-    // The whole sheet and past it, a point, sides of solids, the midst of one, beyond all, and none.
-    let rects = [
-        (start, start, end, end),
-        (start * 2, start * 2, end * 2, end * 2),
-        (10, 10, 10, 10),
-        (5, 11, 5, 11),
-        (0, 10, 10, 20),
-        (40, 30, 120, 90),
-        (1, 11, 4, 19),
-        (90_000, 90_000, 90_001, 90_001),
-        (-9, 0, -6, 40),
-        (10, 20, 0, 0),
-    ];
     let none = small_floor(alloc, &[], &[])?;
-    assert_eq!(rt; first_apart(alloc, &none, &rects)?, None);
+    assert_eq!(rt; first_apart(alloc, &none, &PLACES)?, None);
     let corridor = small_floor(alloc, &[(0, 0, 10, 10), (0, 10, 10, 20)], &[(5, 10)])?;
-    assert_eq!(rt; first_apart(alloc, &corridor, &rects)?, None);
+    assert_eq!(rt; first_apart(alloc, &corridor, &PLACES)?, None);
     let row = [(0, 0, 10, 10), (0, 20, 10, 30), (-5, 12, 20, 18)];
     let row = small_floor(alloc, &row, &[(5, 11), (7, 40), (3, 15)])?;
-    assert_eq!(rt; first_apart(alloc, &row, &rects)?, None);
+    assert_eq!(rt; first_apart(alloc, &row, &PLACES)?, None);
     let many = small_floor(alloc, tiles(alloc)?.as_slice(), &[(90, 100)])?;
-    assert_eq!(rt; first_apart(alloc, &many, &rects)?, None);
+    assert_eq!(rt; first_apart(alloc, &many, &PLACES)?, None);
     let near = Rect {
         left: 0,
         top: 12,
@@ -192,10 +197,10 @@ fn finds_near_a_rectangle_what_is_among_all(rt: HostRuntime) -> Result<(), Fail>
     assert_eq!(rt;
         lines_near(alloc, &row, &near)?.as_slice(),
         [
-            upright(0, start, 12),
-            upright(0, 18, end),
+            upright(0, SHEET_START, 12),
+            upright(0, 18, SHEET_END),
             upright(5, 10, 12),
-            level(12, start, end),
+            level(12, SHEET_START, SHEET_END),
         ]
         .as_slice()
     );
