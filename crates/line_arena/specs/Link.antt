@@ -11,7 +11,7 @@ abbrev pub number_of : Option ℕ → ℕ
 number_of None = zero
 number_of (Some n) = suc n
 
--- the number of that to which a link leads is the number of the link
+-- the number of a link is known again from where it leads
 abbrev pub number_again : (n : ℕ) → number_of (linked n) ≡ n
 number_again zero = refl
 number_again (suc n) = refl

@@ -1,5 +1,5 @@
 //! The floor of a few rectangles and anchors.
-ghost use Rattle.std.specs.Prelude.{◌≡◌, ◌≤◌, IfOk, filter_map, length, map, take};
+ghost use Rattle.std.specs.Prelude.{◌≡◌, IfOk, filter_map, map, take};
 ghost use Rattle.plane_geom.specs.Floor.{IsFloor};
 ghost use Rattle.small_floor.specs.Small.{clamped, clamped_point, small_floor, solid_of_sides};
 

@@ -1,0 +1,66 @@
+//! The smallest editor: two boxes with a connector, a third box that is moved between them, and that undone.
+//!
+//! It shows how a program calls the engine. Lengths are in thousandths of a GML unit.
+#![tactic(auto)]
+
+use par_route::OpenGate;
+use route_session::{Session, SessionFault};
+use scene_store::{Edit, Scene, SceneFault};
+use std::alloc::Global;
+use std::io;
+use std::thread::Threads;
+
+/// How many searches are made side by side.
+const WORKERS: u32 = 2;
+
+/// Two boxes of 20 units with a connector between their centres, and a third box below them.
+fn drawing(alloc: Global) -> Result<Scene, SceneFault> {
+    let mut scene = Scene::new(alloc);
+    scene.add_node(1, 0, 0, 20_000, 20_000)?;
+    scene.add_node(2, 100_000, 0, 20_000, 20_000)?;
+    scene.add_node(3, 50_000, 80_000, 20_000, 40_000)?;
+    scene.add_edge(1, 2, 0, 0)?;
+    Ok(scene)
+}
+
+/// Moves a box in a transaction of its own. The connectors that this makes stale are searched again.
+fn move_box<R: Threads + Sync>(
+    rt: &R,
+    session: &mut Session,
+    id: i64,
+    x: i64,
+    y: i64,
+) -> Result<(), SessionFault> {
+    session.begin()?;
+    session.edit(&Edit::MoveNode { id, x, y })?;
+    session.commit(rt, WORKERS, &OpenGate)
+}
+
+/// Prints the corners of each connector's line.
+fn print_lines(rt: &HostRuntime, title: &str, session: &Session) -> io::Result<()> {
+    println!(rt; "{}:", title)?;
+    for line in &session.nudged()?.routes {
+        print!(rt; "  connector {}:", line.edge)?;
+        for corner in line.points.as_slice() {
+            print!(rt; " ({}, {})", corner.x, corner.y)?;
+        }
+        println!(rt; "")?;
+    }
+    Ok(())
+}
+
+/// What the program ends with where an edit is refused.
+fn refused() -> io::Error {
+    io::ErrorKind::InvalidInput.into()
+}
+
+fn main(rt: HostRuntime) -> io::Result<()> {
+    let alloc = rt.alloc();
+    let scene = drawing(alloc).map_err(|_| refused())?;
+    let mut session = Session::open(&rt, alloc, scene, WORKERS, &OpenGate)?;
+    print_lines(&rt, "Two boxes and a connector", &session)?;
+    move_box(&rt, &mut session, 3, 50_000, 0).map_err(|_| refused())?;
+    print_lines(&rt, "Box 3 between them", &session)?;
+    session.undo().map_err(|_| refused())?;
+    print_lines(&rt, "That undone", &session)
+}
