@@ -1,4 +1,4 @@
-//! The smallest editor: two boxes with a connector, a third box that is moved between them, and that undone.
+//! The smallest editor: two boxes with a connector, and a third box that is moved between them and back.
 //!
 //! It shows how a program calls the engine. Lengths are in thousandths of a GML unit.
 #![tactic(auto)]
@@ -49,7 +49,7 @@ fn print_lines(rt: &HostRuntime, title: &str, session: &Session) -> io::Result<(
     Ok(())
 }
 
-/// What the program ends with where an edit is refused.
+/// What the program ends with where a call is refused or wants memory.
 fn refused() -> io::Error {
     io::ErrorKind::InvalidInput.into()
 }
@@ -58,9 +58,9 @@ fn main(rt: HostRuntime) -> io::Result<()> {
     let alloc = rt.alloc();
     let scene = drawing(alloc).map_err(|_| refused())?;
     let mut session = Session::open(&rt, alloc, scene, WORKERS, &OpenGate)?;
-    print_lines(&rt, "Two boxes and a connector", &session)?;
+    print_lines(&rt, "Box 3 out of the way", &session)?;
     move_box(&rt, &mut session, 3, 50_000, 0).map_err(|_| refused())?;
-    print_lines(&rt, "Box 3 between them", &session)?;
+    print_lines(&rt, "Box 3 between the others", &session)?;
     session.undo().map_err(|_| refused())?;
-    print_lines(&rt, "That undone", &session)
+    print_lines(&rt, "Box 3 back", &session)
 }
