@@ -55,18 +55,16 @@ impl Row {
         }
     }
 
-    /// The row with this label at the heading.
-    pub fn with(&self, heading: Dir, label: Label) -> Row
-        ensures { result ≡ with_label self.now heading label }
+    /// Gives the heading this label.
+    pub fn set(&mut self, heading: Dir, label: Label)
+        ensures { self.new ≡ with_label self.old heading label }
     {
-        let mut row = *self;
         match heading {
-            Dir::East => row.east = label,
-            Dir::South => row.south = label,
-            Dir::West => row.west = label,
-            Dir::North => row.north = label,
+            Dir::East => self.east = label,
+            Dir::South => self.south = label,
+            Dir::West => self.west = label,
+            Dir::North => self.north = label,
         }
-        row
     }
 
     /// Whether the row has no label.

@@ -92,8 +92,7 @@ impl Table {
     {
         let at = self.row(place, number);
         self.mark(at)?;
-        let row = self.rows[at].with(place.heading, label);
-        self.rows[at] = row;
+        self.rows[at].set(place.heading, label);
         Ok(())
     }
 
