@@ -9,6 +9,7 @@ use scene_store::{Edit, Scene, SceneFault};
 use std::alloc::Global;
 use std::io;
 use std::thread::Threads;
+use walk_model::WrittenRoute;
 
 /// How many searches are made side by side.
 const WORKERS: u32 = 2;
@@ -36,15 +37,20 @@ fn move_box<R: Threads + Sync>(
     session.commit(rt, WORKERS, &OpenGate)
 }
 
-/// Prints the corners of each connector's line.
+/// Prints the corners of a connector's line.
+fn print_line(rt: &HostRuntime, line: &WrittenRoute) -> io::Result<()> {
+    print!(rt; "  connector {}:", line.edge)?;
+    for corner in line.points.as_slice() {
+        print!(rt; " ({}, {})", corner.x, corner.y)?;
+    }
+    println!(rt; "")
+}
+
+/// Prints the line of each connector.
 fn print_lines(rt: &HostRuntime, title: &str, session: &Session) -> io::Result<()> {
     println!(rt; "{}:", title)?;
     for line in &session.nudged()?.routes {
-        print!(rt; "  connector {}:", line.edge)?;
-        for corner in line.points.as_slice() {
-            print!(rt; " ({}, {})", corner.x, corner.y)?;
-        }
-        println!(rt; "")?;
+        print_line(rt, line)?;
     }
     Ok(())
 }
