@@ -4,4 +4,4 @@ pub mod Optimum
 pub mod Gaps
 pub mod Verifying
 pub mod Rounding
-pub mod Fixtures
+pub mod Pairs

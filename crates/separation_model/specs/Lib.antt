@@ -8,3 +8,4 @@ pub mod Certified
 pub mod Rounded
 pub mod Latest
 pub mod Checked
+pub mod Small

@@ -1,41 +1,13 @@
 //! Rows that were worked by hand, with all multipliers.
 
-ghost use Rattle.std.specs.Prelude.{◌≡◌, ◌≤◌, pos, ◌≤ℤ◌, IfOk, All};
+ghost use Rattle.std.specs.Prelude.{◌≤◌, pos, ◌≤ℤ◌, IfOk, All};
 ghost use Rattle.separation_solve.specs.Start.{IsForward};
 ghost use Rattle.separation_model.specs.Bundle.{IsBundle, IsItem};
 
 use crate::{Bundle, Item, Rule, Solution, solve, verify, widest_gap};
+use separation_model::{small_bundle, small_item, small_solution};
 use std::alloc::{AllocError, Global};
 use std::test::Fail;
-
-/// Two items, the left before the right.
-fn pair(
-    alloc: Global,
-    left: Item,
-    right: Item,
-    spaced: bool,
-    wanted: i64,
-) -> Result<Bundle, AllocError>
-    requires left { IsItem left }
-    requires right { IsItem right }
-    requires ordered { left.want ≤ℤ right.want }
-    requires wanted_low { pos 0 ≤ℤ wanted }
-    requires wanted_high { wanted ≤ℤ pos 1000000 }
-    ensures { IfOk result IsBundle }
-{
-    let items = vec![in alloc; left, right]?;
-    let rule = Rule {
-        left: 0,
-        right: 1,
-        spaced,
-    };
-    let rules = vec![in alloc; rule]?;
-    Ok(Bundle {
-        items,
-        rules,
-        wanted,
-    })
-}
 
 /// Rules from each of so many items to the next, all spaced.
 fn chain(alloc: Global, count: u32) -> Result<Vec<Rule>, AllocError>
@@ -69,39 +41,6 @@ fn row(alloc: Global, item: Item, count: u32, wanted: i64) -> Result<Bundle, All
     })
 }
 
-fn item(want: i16, below: u16, above: u16, heavy: bool) -> Item
-    ensures item { IsItem result }
-    ensures want { result.want ≡ want }
-{
-    let want = i64::from(want);
-    Item {
-        want,
-        lo: want - i64::from(below),
-        hi: want + i64::from(above),
-        weight: if heavy { 3 } else { 1 },
-    }
-}
-
-/// Two positions over one denominator, with the multipliers of the rule and of the limits.
-fn solution(
-    alloc: Global,
-    gap: i64,
-    den: u64,
-    places: [i128; 2],
-    mult: i128,
-    low: [i128; 2],
-    high: [i128; 2],
-) -> Result<Solution, AllocError> {
-    Ok(Solution {
-        gap,
-        den: vec![in alloc; den, den]?,
-        pos: vec![in alloc; places[0], places[1]]?,
-        mult: vec![in alloc; mult]?,
-        low: vec![in alloc; low[0], low[1]]?,
-        high: vec![in alloc; high[0], high[1]]?,
-    })
-}
-
 /// Whether the least positions for the widest gap are these, and verified.
 fn is_solved(alloc: Global, bundle: &Bundle, expected: &Solution) -> Result<bool, AllocError>
     requires { IsBundle bundle.now }
@@ -114,18 +53,18 @@ fn is_solved(alloc: Global, bundle: &Bundle, expected: &Solution) -> Result<bool
 #[test]
 fn solves_at_limits(rt: HostRuntime) -> Result<(), Fail> {
     let alloc = rt.alloc();
-    let within = item(0, 5000, 0, false);
-    let bundle = pair(alloc, within, within, true, 8000)?;
-    let want = solution(alloc, 5000, 1, [-5000, 0], 10000, [0, 0], [0, 10000])?;
+    let within = small_item(0, 5000, 0, false);
+    let bundle = small_bundle(alloc, within, within, true, 8000)?;
+    let want = small_solution(alloc, 5000, 1, [-5000, 0], 10000, [0, 0], [0, 10000])?;
     assert!(rt; is_solved(alloc, &bundle, &want)?);
-    let edge = item(-24000, 40000, 0, false);
-    let bundle = pair(alloc, edge, edge, true, 4000)?;
-    let want = solution(alloc, 4000, 1, [-28000, -24000], 8000, [0, 0], [0, 8000])?;
+    let edge = small_item(-24000, 40000, 0, false);
+    let bundle = small_bundle(alloc, edge, edge, true, 4000)?;
+    let want = small_solution(alloc, 4000, 1, [-28000, -24000], 8000, [0, 0], [0, 8000])?;
     assert!(rt; is_solved(alloc, &bundle, &want)?);
-    let light = item(0, 30000, 30000, false);
-    let fixed = item(700, 0, 0, false);
-    let bundle = pair(alloc, light, fixed, true, 1000)?;
-    let want = solution(alloc, 1000, 1, [-300, 700], 600, [0, 0], [0, 600])?;
+    let light = small_item(0, 30000, 30000, false);
+    let fixed = small_item(700, 0, 0, false);
+    let bundle = small_bundle(alloc, light, fixed, true, 1000)?;
+    let want = small_solution(alloc, 1000, 1, [-300, 700], 600, [0, 0], [0, 600])?;
     assert!(rt; is_solved(alloc, &bundle, &want)?);
     Ok(())
 }
@@ -133,18 +72,18 @@ fn solves_at_limits(rt: HostRuntime) -> Result<(), Fail> {
 #[test]
 fn solves_between_limits(rt: HostRuntime) -> Result<(), Fail> {
     let alloc = rt.alloc();
-    let left = item(0, 30000, 0, false);
-    let right = item(0, 0, 30000, false);
-    let bundle = pair(alloc, left, right, true, 1)?;
-    let want = solution(alloc, 1, 2, [-1, 1], 2, [0, 0], [0, 0])?;
+    let left = small_item(0, 30000, 0, false);
+    let right = small_item(0, 0, 30000, false);
+    let bundle = small_bundle(alloc, left, right, true, 1)?;
+    let want = small_solution(alloc, 1, 2, [-1, 1], 2, [0, 0], [0, 0])?;
     assert!(rt; is_solved(alloc, &bundle, &want)?);
-    let heavy = item(0, 30000, 30000, true);
-    let light = item(0, 30000, 30000, false);
-    let bundle = pair(alloc, heavy, light, true, 4000)?;
-    let want = solution(alloc, 4000, 1, [-1000, 3000], 6000, [0, 0], [0, 0])?;
+    let heavy = small_item(0, 30000, 30000, true);
+    let light = small_item(0, 30000, 30000, false);
+    let bundle = small_bundle(alloc, heavy, light, true, 4000)?;
+    let want = small_solution(alloc, 4000, 1, [-1000, 3000], 6000, [0, 0], [0, 0])?;
     assert!(rt; is_solved(alloc, &bundle, &want)?);
-    let bundle = pair(alloc, light, item(700, 0, 0, false), false, 1000)?;
-    let want = solution(alloc, 1000, 1, [0, 700], 0, [0, 0], [0, 0])?;
+    let bundle = small_bundle(alloc, light, small_item(700, 0, 0, false), false, 1000)?;
+    let want = small_solution(alloc, 1000, 1, [0, 700], 0, [0, 0], [0, 0])?;
     assert!(rt; is_solved(alloc, &bundle, &want)?);
     Ok(())
 }
@@ -152,7 +91,7 @@ fn solves_between_limits(rt: HostRuntime) -> Result<(), Fail> {
 #[test]
 fn solves_a_row(rt: HostRuntime) -> Result<(), Fail> {
     let alloc = rt.alloc();
-    let bundle = row(alloc, item(0, 5000, 0, false), 3, 4000)?;
+    let bundle = row(alloc, small_item(0, 5000, 0, false), 3, 4000)?;
     let want = Solution {
         gap: 2500,
         den: vec![in alloc; 1, 1, 1]?,
@@ -168,7 +107,7 @@ fn solves_a_row(rt: HostRuntime) -> Result<(), Fail> {
 #[test]
 fn solves_a_long_row(rt: HostRuntime) -> Result<(), Fail> {
     let alloc = rt.alloc();
-    let bundle = row(alloc, item(0, 30000, 30000, false), 1000, 4000)?;
+    let bundle = row(alloc, small_item(0, 30000, 30000, false), 1000, 4000)?;
     let gap = widest_gap(alloc, &bundle)?;
     assert_eq!(rt; gap, 60);
     let solution = solve(alloc, &bundle, gap)?;

@@ -1,4 +1,4 @@
--- Bundles of two items, for tests alone.
+-- Two items with a rule between them are a bundle that calls accept.
 use Rattle.std.proofs.Common.{◌≡◌, pos, ◌≤ℤ◌, List, [], ◌∷◌, length, ap, sym, subst, arith}
 use Rattle.std.proofs.lemmas.List.Elements.{All-cons, All-nil, All-same}
 use Rattle.separation_model.specs.declared.bundle.Rule.{Rule}
