@@ -12,6 +12,10 @@ use Rattle.sweep_lines.proofs.Members.{Among, Rising, all_among, rising_of_pairs
 use Rattle.graph_repair.specs.Listed.{goes, is_listed, lines_of, same_line, stays}
 use Rattle.graph_repair.proofs.Listing.{among_of_listed, line_of_same, not_true, same_itself}
 
+-- whether the line is not near the rectangle
+abbrev is_far : Rect → Line → Bool
+is_far near l = not (is_near near l)
+
 -- whether the line is none of those listed
 abbrev pub is_alone : List Line → Line → Bool
 is_alone others l = not (is_listed others l)
@@ -29,6 +33,14 @@ kept_head p x xs e = ap (λ b. cond b (x ∷ filter p xs) (filter p xs)) e
 
 left_head : (p : Line → Bool) (x : Line) (xs : List Line) → p x ≡ false → filter p (x ∷ xs) ≡ filter p xs
 left_head p x xs e = ap (λ b. cond b (x ∷ filter p xs) (filter p xs)) e
+
+-- a head on which another test agrees, apart from the rest
+head_apart : (p q : Line → Bool) (x : Line) (xs : List Line) → p x ≡ q x → filter p (x ∷ xs) ≡ filter q (x ∷ []) ++ filter p xs
+head_apart p q x xs e = ap (λ b. cond b (x ∷ filter p xs) (filter p xs)) e ∙ either (q x)
+  where
+    either : (b : Bool) → cond b (x ∷ filter p xs) (filter p xs) ≡ cond b (x ∷ []) [] ++ filter p xs
+    either true = refl
+    either false = refl
 
 -- tests that agree on the lines of a list leave the same of it
 agree_on : (p q : Line → Bool) (ls : List Line) → ((l : Line) → Among l ls → p l ≡ q l) → filter p ls ≡ filter q ls
@@ -52,11 +64,20 @@ AreRising = Rising (λ l m. stands_before l m ≡ true)
 stay_alike : (near : Rect) (l : Line) (a b : Bool) → a ≡ b → (not (is_near near l) || a) ≡ (not (is_near near l) || b)
 stay_alike near l a b e = ap (λ (c : Bool). not (is_near near l) || c) e
 
-stays_near : (near : Rect) (l : Line) (news : List Line) → is_near near l ≡ true → is_listed news l ≡ false → stays near news l ≡ false
-stays_near near l news e f = ap (λ (c : Bool). not c || is_listed news l) e ∙ f
+-- a line that is not listed stays where it is far
+stays_alone : (near : Rect) (l : Line) (news : List Line) → is_listed news l ≡ false → stays near news l ≡ is_far near l
+stays_alone near l news e = stay_alike near l (is_listed news l) false e ∙ false_last (is_far near l)
+  where
+    false_last : (b : Bool) → (b || false) ≡ b
+    false_last true = refl
+    false_last false = refl
 
-stays_far : (near : Rect) (l : Line) (news : List Line) → is_near near l ≡ false → stays near news l ≡ true
-stays_far near l news e = ap (λ (c : Bool). not c || is_listed news l) e
+goes_alone : (near : Rect) (l : Line) (news : List Line) → is_listed news l ≡ false → goes near news l ≡ is_near near l
+goes_alone near l news e = ap not (stays_alone near l news e) ∙ twice (is_near near l)
+  where
+    twice : (b : Bool) → not (not b) ≡ b
+    twice true = refl
+    twice false = refl
 
 stays_listed : (near : Rect) (l : Line) (news : List Line) → is_listed news l ≡ true → stays near news l ≡ true
 stays_listed near l news e = stay_alike near l (is_listed news l) true e ∙ true_last (not (is_near near l))
@@ -68,25 +89,17 @@ stays_listed near l news e = stay_alike near l (is_listed news l) true e ∙ tru
 -- ---- a head that the other list has not
 
 module _ (near : Rect) (x : Line) (xs others : List Line) (none : Among x others → ⊥) where
-  module _ (e : is_near near x ≡ true) where
-    near_goes : stays near others x ≡ false
-    near_goes = stays_near near x others e (never_listed x others none)
+  unlisted : is_listed others x ≡ false
+  unlisted = never_listed x others none
 
-    none_shared : filter (stays near others) (x ∷ xs) ≡ filter (stays near others) xs
-    none_shared = left_head (stays near others) x xs near_goes
+  far_stays : filter (stays near others) (x ∷ xs) ≡ filter (is_far near) (x ∷ []) ++ filter (stays near others) xs
+  far_stays = head_apart (stays near others) (is_far near) x xs (stays_alone near x others unlisted)
 
-    one_goes : filter (goes near others) (x ∷ xs) ≡ x ∷ filter (goes near others) xs
-    one_goes = kept_head (goes near others) x xs (ap not near_goes)
-
-  module _ (e : is_near near x ≡ false) where
-    one_stays : filter (stays near others) (x ∷ xs) ≡ x ∷ filter (stays near others) xs
-    one_stays = kept_head (stays near others) x xs (stays_far near x others e)
-
-    none_goes : filter (goes near others) (x ∷ xs) ≡ filter (goes near others) xs
-    none_goes = left_head (goes near others) x xs (ap not (stays_far near x others e))
+  near_goes : filter (goes near others) (x ∷ xs) ≡ filter (is_near near) (x ∷ []) ++ filter (goes near others) xs
+  near_goes = head_apart (goes near others) (is_near near) x xs (goes_alone near x others unlisted)
 
   one_alone : filter (is_alone others) (x ∷ xs) ≡ x ∷ filter (is_alone others) xs
-  one_alone = kept_head (is_alone others) x xs (ap not (never_listed x others none))
+  one_alone = kept_head (is_alone others) x xs (ap not unlisted)
 
   other_than : (l : Line) → Among l others → is_listed (x ∷ xs) l ≡ is_listed xs l
   other_than l a = not_head l x xs (λ e. none (subst (λ (m : Line). Among m others) e a))
@@ -126,8 +139,8 @@ module _ (near : Rect) (x : Line) (xs ys : List Line) (rising : AreRising (x ∷
 
 -- ---- the steps
 
-pushed : (found rest all more : List Line) (x : Line) → found ++ more ≡ all → more ≡ x ∷ rest → (found ++ x ∷ []) ++ rest ≡ all
-pushed found rest all more x so_far e = append_assoc found (x ∷ []) rest ∙ sym (ap (λ (ls : List Line). found ++ ls) e) ∙ so_far
+appended : (found rest all more part : List Line) → found ++ more ≡ all → more ≡ part ++ rest → (found ++ part) ++ rest ≡ all
+appended found rest all more part so_far e = append_assoc found part rest ∙ sym (ap (λ (ls : List Line). found ++ ls) e) ∙ so_far
 
 same_rest : (found rest all more : List Line) → found ++ more ≡ all → more ≡ rest → found ++ rest ≡ all
 same_rest found rest all more so_far e = sym (ap (λ (ls : List Line). found ++ ls) e) ∙ so_far
@@ -138,7 +151,7 @@ module _ (near : Rect) (old new stay here there : List Line) (x y : Line) (xs ys
       let news : AreRising (x ∷ ys) = subst (λ (m : Line). AreRising (m ∷ ys)) (sym e) rises in
       let met = subst (λ (m : Line). AreFound near old new (x ∷ xs) (m ∷ ys) stay here there) (sym e) found in
       record {
-        in_both = pushed stay (filter (stays near ys) xs) (filter (stays near new) old) (filter (stays near (x ∷ ys)) (x ∷ xs)) x met.in_both (head_shared near x xs ys rising);
+        in_both = appended stay (filter (stays near ys) xs) (filter (stays near new) old) (filter (stays near (x ∷ ys)) (x ∷ xs)) (x ∷ []) met.in_both (head_shared near x xs ys rising);
         in_old = same_rest here (filter (goes near ys) xs) (filter (goes near new) old) (filter (goes near (x ∷ ys)) (x ∷ xs)) met.in_old (head_not_goes near x xs ys rising);
         in_new = same_rest there (filter (is_alone xs) ys) (filter (is_alone old) new) (filter (is_alone (x ∷ xs)) (x ∷ ys)) met.in_new (head_not_alone near x ys xs news);
       }
@@ -148,21 +161,12 @@ module _ (near : Rect) (old new stay here there : List Line) (x y : Line) (xs ys
   old_apart before (inl e) = before_apart x y before e
   old_apart before (inr a) = before_apart x x (stands_through x y x before (all_among (λ m. stands_before y m ≡ true) ys rises.0 x a)) refl
 
-  near_passes : stands_before x y ≡ true → is_near near x ≡ true → AreFound near old new xs (y ∷ ys) stay (here ++ x ∷ []) there
-  near_passes before e =
+  old_passes : stands_before x y ≡ true → AreFound near old new xs (y ∷ ys) (stay ++ filter (is_far near) (x ∷ [])) (here ++ filter (is_near near) (x ∷ [])) there
+  old_passes before =
       let none = old_apart before in
       record {
-        in_both = same_rest stay (filter (stays near (y ∷ ys)) xs) (filter (stays near new) old) (filter (stays near (y ∷ ys)) (x ∷ xs)) found.in_both (none_shared near x xs (y ∷ ys) none e);
-        in_old = pushed here (filter (goes near (y ∷ ys)) xs) (filter (goes near new) old) (filter (goes near (y ∷ ys)) (x ∷ xs)) x found.in_old (one_goes near x xs (y ∷ ys) none e);
-        in_new = same_rest there (filter (is_alone xs) (y ∷ ys)) (filter (is_alone old) new) (filter (is_alone (x ∷ xs)) (y ∷ ys)) found.in_new (same_alone near x xs (y ∷ ys) none);
-      }
-
-  far_passes : stands_before x y ≡ true → is_near near x ≡ false → AreFound near old new xs (y ∷ ys) (stay ++ x ∷ []) here there
-  far_passes before e =
-      let none = old_apart before in
-      record {
-        in_both = pushed stay (filter (stays near (y ∷ ys)) xs) (filter (stays near new) old) (filter (stays near (y ∷ ys)) (x ∷ xs)) x found.in_both (one_stays near x xs (y ∷ ys) none e);
-        in_old = same_rest here (filter (goes near (y ∷ ys)) xs) (filter (goes near new) old) (filter (goes near (y ∷ ys)) (x ∷ xs)) found.in_old (none_goes near x xs (y ∷ ys) none e);
+        in_both = appended stay (filter (stays near (y ∷ ys)) xs) (filter (stays near new) old) (filter (stays near (y ∷ ys)) (x ∷ xs)) (filter (is_far near) (x ∷ [])) found.in_both (far_stays near x xs (y ∷ ys) none);
+        in_old = appended here (filter (goes near (y ∷ ys)) xs) (filter (goes near new) old) (filter (goes near (y ∷ ys)) (x ∷ xs)) (filter (is_near near) (x ∷ [])) found.in_old (near_goes near x xs (y ∷ ys) none);
         in_new = same_rest there (filter (is_alone xs) (y ∷ ys)) (filter (is_alone old) new) (filter (is_alone (x ∷ xs)) (y ∷ ys)) found.in_new (same_alone near x xs (y ∷ ys) none);
       }
 
@@ -177,7 +181,7 @@ module _ (near : Rect) (old new stay here there : List Line) (x y : Line) (xs ys
       record {
         in_both = same_rest stay (filter (stays near ys) (x ∷ xs)) (filter (stays near new) old) (filter (stays near (y ∷ ys)) (x ∷ xs)) found.in_both (same_shared near y ys (x ∷ xs) none);
         in_old = same_rest here (filter (goes near ys) (x ∷ xs)) (filter (goes near new) old) (filter (goes near (y ∷ ys)) (x ∷ xs)) found.in_old (same_goes near y ys (x ∷ xs) none);
-        in_new = pushed there (filter (is_alone (x ∷ xs)) ys) (filter (is_alone old) new) (filter (is_alone (x ∷ xs)) (y ∷ ys)) y found.in_new (one_alone near y ys (x ∷ xs) none);
+        in_new = appended there (filter (is_alone (x ∷ xs)) ys) (filter (is_alone old) new) (filter (is_alone (x ∷ xs)) (y ∷ ys)) (y ∷ []) found.in_new (one_alone near y ys (x ∷ xs) none);
       }
 
 -- ---- by places
@@ -231,15 +235,10 @@ module _ (near : Rect) (pairs : List (Line × ℕ)) (new : List Line) (in_old : 
     pub found_both : x ≡ y → AreFoundUpto near old new (i + 1) (j + 1) (stay ++ x ∷ []) here there
     found_both same = both_pass near old new stay here there x y (drop (i + 1) old) (drop (j + 1) new) found_heads rising_old rising_new same
 
-    pub found_near : stands_before x y ≡ true → is_near near x ≡ true → AreFoundUpto near old new (i + 1) j stay (here ++ x ∷ []) there
-    found_near before e =
-        subst (λ (ls : List Line). AreFound near old new (drop (i + 1) old) ls stay (here ++ x ∷ []) there) (sym rest_new)
-        (near_passes near old new stay here there x y (drop (i + 1) old) (drop (j + 1) new) found_heads rising_old rising_new before e)
-
-    pub found_far : stands_before x y ≡ true → is_near near x ≡ false → AreFoundUpto near old new (i + 1) j (stay ++ x ∷ []) here there
-    found_far before e =
-        subst (λ (ls : List Line). AreFound near old new (drop (i + 1) old) ls (stay ++ x ∷ []) here there) (sym rest_new)
-        (far_passes near old new stay here there x y (drop (i + 1) old) (drop (j + 1) new) found_heads rising_old rising_new before e)
+    pub found_old : stands_before x y ≡ true → AreFoundUpto near old new (i + 1) j (stay ++ filter (is_far near) (x ∷ [])) (here ++ filter (is_near near) (x ∷ [])) there
+    found_old before =
+        subst (λ (ls : List Line). AreFound near old new (drop (i + 1) old) ls (stay ++ filter (is_far near) (x ∷ [])) (here ++ filter (is_near near) (x ∷ [])) there) (sym rest_new)
+        (old_passes near old new stay here there x y (drop (i + 1) old) (drop (j + 1) new) found_heads rising_old rising_new before)
 
     pub found_new : x ≢ y → stands_before x y ≡ false → AreFoundUpto near old new i (j + 1) stay here (there ++ y ∷ [])
     found_new apart behind =
@@ -261,35 +260,20 @@ two_lines false l m same e = λ one. not_so (same.1 one)
 
 -- ---- where one of the lists has ended
 
--- a line stays beside an empty list where it is not near
-stays_beside_none : (near : Rect) (l : Line) → stays near [] l ≡ not (is_near near l)
-stays_beside_none near l = false_last (not (is_near near l))
-  where
-    false_last : (b : Bool) → (b || false) ≡ b
-    false_last true = refl
-    false_last false = refl
-
-goes_beside_none : (near : Rect) (l : Line) → goes near [] l ≡ is_near near l
-goes_beside_none near l = ap not (stays_beside_none near l) ∙ twice (is_near near l)
-  where
-    twice : (b : Bool) → not (not b) ≡ b
-    twice true = refl
-    twice false = refl
-
 all_alone : (ls : List Line) → filter (is_alone []) ls ≡ ls
 all_alone [] = refl
 all_alone (x ∷ xs) = ap (λ (ls : List Line). x ∷ ls) (all_alone xs)
 
 -- what is left of the lists is alone
 record AreLeft (near : Rect) (olds news : List Line) : Type 0 where
-  stay : filter (stays near news) olds ≡ filter (λ l. not (is_near near l)) olds
+  stay : filter (stays near news) olds ≡ filter (is_far near) olds
   here : filter (goes near news) olds ≡ filter (is_near near) olds
   there : filter (is_alone olds) news ≡ news
 
 no_new_left : (near : Rect) (olds : List Line) → AreLeft near olds []
 no_new_left near olds = record {
-  stay = filter_agree (stays near []) (λ l. not (is_near near l)) (stays_beside_none near) olds;
-  here = filter_agree (goes near []) (is_near near) (goes_beside_none near) olds;
+  stay = filter_agree (stays near []) (is_far near) (λ l. stays_alone near l [] refl) olds;
+  here = filter_agree (goes near []) (is_near near) (λ l. goes_alone near l [] refl) olds;
   there = refl;
 }
 
@@ -311,8 +295,8 @@ module _ (near : Rect) (pairs : List (Line × ℕ)) (new : List Line) (i j : ℕ
   rest : lines_of (take (length pairs - i) (drop i pairs)) ≡ drop i (lines_of pairs)
   rest = ap lines_of (take_rest pairs i) ∙ sym (drop-map (λ p. p.0) i pairs)
 
-  pub all_shared : stay ++ filter (λ l. not (is_near near l)) (lines_of (take (length pairs - i) (drop i pairs))) ≡ filter (stays near new) (lines_of pairs)
-  all_shared = ap (λ (ls : List Line). stay ++ ls) (ap (filter (λ l. not (is_near near l))) rest ∙ sym left.stay) ∙ found.in_both
+  pub all_shared : stay ++ filter (is_far near) (lines_of (take (length pairs - i) (drop i pairs))) ≡ filter (stays near new) (lines_of pairs)
+  all_shared = ap (λ (ls : List Line). stay ++ ls) (ap (filter (is_far near)) rest ∙ sym left.stay) ∙ found.in_both
 
   pub all_here : here ++ filter (is_near near) (lines_of (take (length pairs - i) (drop i pairs))) ≡ filter (goes near new) (lines_of pairs)
   all_here = ap (λ (ls : List Line). here ++ ls) (ap (filter (is_near near)) rest ∙ sym left.here) ∙ found.in_old

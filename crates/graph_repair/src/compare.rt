@@ -1,11 +1,12 @@
 //! What two lists of lines have in common, and what each has alone.
-ghost use Rattle.std.specs.Prelude.{◌≡◌, ◌↔◌, ◌++◌, not, IsTrue, IfOk, OnOk, filter};
-ghost use Rattle.sweep_lines.specs.Kept.{AreOrdered, is_near};
+ghost use Rattle.std.specs.Prelude.{◌≡◌, ◌++◌, not, IfOk, OnOk, filter};
+ghost use Rattle.sweep_lines.specs.Kept.{AreOrdered};
 ghost use Rattle.graph_repair.specs.Listed.{goes, is_listed, lines_of, stays};
 
 use line_arena::LineId;
-use plane_geom::{Line, Rect, Way};
+use plane_geom::{Line, Rect};
 use std::alloc::{AllocError, Global};
+use sweep_lines::is_near;
 
 /// The lines of two lists, an old one and a new one.
 #[derive(Drop)]
@@ -14,6 +15,38 @@ pub struct Difference {
     pub stay: Vec<Line>,
     pub here: Vec<Line>,
     pub there: Vec<Line>,
+}
+
+impl Difference {
+    ghost use Rattle.std.specs.Prelude.{[], ◌∷◌};
+    ghost use Rattle.sweep_lines.specs.Kept.{is_near};
+
+    /// Appends an old line that is not in the new list, to those here where it is near the rectangle, and else to
+    /// those that stay.
+    fn part_line(&mut self, hull: &Rect, line: Line) -> Result<(), AllocError>
+        ensures stay { OnOk result (self.new.stay.items ≡ self.old.stay.items ++ filter (λ l. not (is_near hull.now l)) (line ∷ [])) }
+        ensures here { OnOk result (self.new.here.items ≡ self.old.here.items ++ filter (is_near hull.now) (line ∷ [])) }
+        ensures there { OnOk result (self.new.there.items ≡ self.old.there.items) }
+    {
+        if is_near(hull, &line) {
+            self.here.push(line)?;
+        } else {
+            self.stay.push(line)?;
+        }
+        Ok(())
+    }
+
+    /// Appends the lines of the pairs so, of which none is in the new list.
+    fn part_lines(&mut self, hull: &Rect, pairs: &[(Line, LineId)]) -> Result<(), AllocError>
+        ensures stay { OnOk result (self.new.stay.items ≡ self.old.stay.items ++ filter (λ l. not (is_near hull.now l)) (lines_of pairs.now)) }
+        ensures here { OnOk result (self.new.here.items ≡ self.old.here.items ++ filter (is_near hull.now) (lines_of pairs.now)) }
+        ensures there { OnOk result (self.new.there.items ≡ self.old.there.items) }
+    {
+        for (line, _) in pairs {
+            self.part_line(hull, *line)?;
+        }
+        Ok(())
+    }
 }
 
 /// Compares the lines of two lists in one pass over both, since both are in order.
@@ -32,58 +65,28 @@ pub fn compare(
     ensures here { IfOk result (λ d. d.here.items ≡ filter (goes hull.now new.now) (lines_of old.now)) }
     ensures there { IfOk result (λ d. d.there.items ≡ filter (λ l. not (is_listed (lines_of old.now) l)) new.now) }
 {
-    let (mut stay, mut here, mut there) = (Vec::new(alloc), Vec::new(alloc), Vec::new(alloc));
+    let mut difference = Difference {
+        stay: Vec::new(alloc),
+        here: Vec::new(alloc),
+        there: Vec::new(alloc),
+    };
     let (mut place, mut other_place) = (0, 0);
     'both: while place < old.len() && other_place < new.len() {
         let (line, _) = old[place];
         let other = new[other_place];
         if line.is_same(&other) {
-            stay.push(line)?;
+            difference.stay.push(line)?;
             place += 1;
             other_place += 1;
-        } else if !line.stands_before(&other) {
-            there.push(other)?;
+        } else if line.stands_before(&other) {
+            difference.part_line(hull, line)?;
+            place += 1;
+        } else {
+            difference.there.push(other)?;
             other_place += 1;
-        } else if is_near(hull, &line) {
-            here.push(line)?;
-            place += 1;
-        } else {
-            stay.push(line)?;
-            place += 1;
         }
     }
-    part_lines(hull, &old[place..], &mut stay, &mut here)?;
-    there.extend_from_slice(&new[other_place..])?;
-    Ok(Difference { stay, here, there })
-}
-
-/// Appends the lines of the pairs, to those here where they are near the rectangle, and else to those that stay.
-fn part_lines(
-    hull: &Rect,
-    pairs: &[(Line, LineId)],
-    stay: &mut Vec<Line>,
-    here: &mut Vec<Line>,
-) -> Result<(), AllocError>
-    ensures stay { OnOk result (stay.new.items ≡ stay.old.items ++ filter (λ l. not (is_near hull.now l)) (lines_of pairs.now)) }
-    ensures here { OnOk result (here.new.items ≡ here.old.items ++ filter (is_near hull.now) (lines_of pairs.now)) }
-{
-    for (line, _) in pairs {
-        if is_near(hull, line) {
-            here.push(*line)?;
-        } else {
-            stay.push(*line)?;
-        }
-    }
-    Ok(())
-}
-
-/// Whether the line's coordinate is from the one to the other side of the rectangle across it.
-fn is_near(hull: &Rect, line: &Line) -> bool
-    ensures { result ≡ is_near hull.now line.now }
-{
-    let (first, last) = match line.way {
-        Way::Vertical => (hull.left, hull.right),
-        Way::Horizontal => (hull.top, hull.bottom),
-    };
-    first <= line.at && line.at <= last
+    difference.part_lines(hull, &old[place..])?;
+    difference.there.extend_from_slice(&new[other_place..])?;
+    Ok(difference)
 }

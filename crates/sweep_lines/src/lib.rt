@@ -5,8 +5,10 @@
 
 mod bar;
 mod mark;
+mod near;
 mod sweep;
 
+pub use near::is_near;
 pub use sweep::{all_lines, lines_at, lines_near, one_list_of_kept_lines};
 
 #[cfg(test)]

@@ -27,7 +27,6 @@ pub struct Mark {
 }
 
 impl Mark {
-    ghost use Rattle.sweep_lines.specs.Kept.{is_within};
     ghost use Rattle.sweep_lines.specs.Marks.{begin_mark, begun_span, end_mark};
 
     /// The side with which the bar of this number begins.
@@ -78,13 +77,6 @@ impl Mark {
             }),
             Kind::End(_) | Kind::Anchor => None,
         }
-    }
-
-    /// Whether it stands from one coordinate to another.
-    pub fn stands_within(&self, from: i64, to: i64) -> bool
-        ensures { result ≡ is_within from to self.now.at }
-    {
-        from <= self.at && self.at <= to
     }
 
     /// Whether the free piece of its whole line is kept for its sake.

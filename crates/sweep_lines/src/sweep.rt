@@ -13,6 +13,7 @@ ghost use Rattle.sweep_lines.specs.Kept.{AreAllKept, AreKept, RunsWithin, is_wit
 
 use crate::bar::{Bar, bars, open_before};
 use crate::mark::{Kind, Mark, marks, put_in_order};
+use crate::near::is_within;
 use interval_index::IntervalIndex;
 use plane_geom::{Axis, Floor, Line, Rect, SHEET_END, SHEET_START, Way, XAxis, YAxis};
 use std::alloc::{AllocError, Global};
@@ -115,7 +116,7 @@ fn sweep<A: Axis>(
 fn keep_within(marks: &mut Vec<Mark>, from: i64, to: i64)
     ensures { marks.new.items ≡ filter (λ m. is_within from to m.at) marks.old.items }
 {
-    marks.retain(|mark| mark.stands_within(from, to));
+    marks.retain(|mark| is_within(from, to, mark.at));
 }
 
 /// How many of the marks, which rise by coordinate, stand at the coordinate or before it.

@@ -8,7 +8,7 @@ abbrev pub invariant-both : goal.invariant-both
 invariant-both l = record {
   within_old : l.place ≤ length l.old;
   within_new : l.other_place ≤ length l.new;
-  found : AreFoundUpto l.hull (lines_of l.old) l.new l.place l.other_place l.stay.items l.here.items l.there.items;
+  found : AreFoundUpto l.hull (lines_of l.old) l.new l.place l.other_place l.difference.stay.items l.difference.here.items l.difference.there.items;
 }
 
 abbrev pub decreases-both : goal.decreases-both
