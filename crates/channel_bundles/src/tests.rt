@@ -44,7 +44,8 @@ fn solids(alloc: Global, blocks: &[Block]) -> Result<Vec<Solid>, AllocError> {
     blocks.iter().map(|b| solid(*b)).collect(alloc)
 }
 
-/// The run of the edge, with its number, that goes from one point to the other.
+/// The run of the edge, with its number, that goes from one point to the other. Where both are one, the row says
+/// whereto.
 fn run(edge: u32, place: u32, heading: Dir, from: Point, to: Point) -> Run {
     let way = heading.way();
     let (start, end) = (from.along(way), to.along(way));

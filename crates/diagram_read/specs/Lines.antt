@@ -1,6 +1,7 @@
 -- The line of an edge.
-use Rattle.std.specs.Prelude.{ℕ, ◌*◌, ◌^◌, ◌||◌, ℤ, unsigned_abs, nat_lt, List, [], ◌∷◌, ◌++◌, codes, slice_get, Option, Some, None, option_and_then, Result, Ok, if◌then◌else◌}
+use Rattle.std.specs.Prelude.{ℕ, ◌||◌, ℤ, List, [], ◌∷◌, ◌++◌, codes, slice_get, Option, Some, None, option_and_then, Result, Ok, if◌then◌else◌}
 use Rattle.plane_geom.specs.declared.point.Point.{Point}
+use Rattle.plane_geom.specs.Point.{is_coordinate}
 use Rattle.gml_text.specs.Tree.{Pairs}
 use Rattle.scene_model.specs.declared.edge.Edge.{Edge}
 use Rattle.diagram_read.specs.declared.fault.Part.TheVariants as part
@@ -11,7 +12,7 @@ use Rattle.diagram_read.specs.Faults.{◌>>=◌, need, refuse, each}
 
 -- a coordinate on the sheet
 abbrev pub on_sheet : ℤ → Option ℤ
-on_sheet value = if nat_lt (2 * 10 ^ 9) (unsigned_abs value) then None else Some value
+on_sheet value = if is_coordinate value then Some value else None
 
 -- the point that a list of the line of the edge with this number tells
 abbrev pub point_in : ℕ → Pairs → Result Point DiagramFault

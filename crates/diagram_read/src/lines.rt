@@ -9,7 +9,7 @@ use crate::values::{
     as_list, has_key, in_range, inner_at, is_no_number, list_at, number_at, value_with,
 };
 use gml_text::{Doc, Pair};
-use plane_geom::{Point, Points};
+use plane_geom::{Point, Points, is_coordinate};
 use scene_model::Edge;
 use std::alloc::Global;
 
@@ -80,9 +80,9 @@ fn point_in(number: u32, list: &[Pair]) -> Result<Point, DiagramFault>
 fn on_sheet(value: i64) -> Option<i64>
     ensures { result ≡ on_sheet value }
 {
-    if 2_000_000_000 < value.unsigned_abs() {
-        None
-    } else {
+    if is_coordinate(value) {
         Some(value)
+    } else {
+        None
     }
 }

@@ -74,12 +74,7 @@ fn dirs_in(value: Option<&Value>) -> Option<Dirs>
     ensures { result ≡ dirs_in (option_map content (option_copied value.entry)) }
 {
     match value {
-        None => Some(Dirs {
-            east: true,
-            south: true,
-            west: true,
-            north: true,
-        }),
+        None => Some(Dirs::ALL),
         Some(Value::Text(letters)) => Dirs::from_letters(letters.as_slice()),
         Some(Value::Number(_) | Value::List(_)) => None,
     }

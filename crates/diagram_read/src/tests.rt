@@ -231,12 +231,7 @@ const PIN: Pin = Pin {
     class: 7,
     dx: 0,
     dy: 0,
-    dirs: Dirs {
-        east: true,
-        south: true,
-        west: true,
-        north: true,
-    },
+    dirs: Dirs::ALL,
     cost: 0,
 };
 

@@ -6,7 +6,7 @@ use Rattle.plane_geom.specs.declared.floor.Floor.{Floor}
 use Rattle.plane_geom.specs.Floor.{IsKept}
 use Rattle.sweep_lines.specs.Kept.{AreOrdered}
 use Rattle.visibility_graph.specs.Drawing.{Drawing}
-use Rattle.visibility_graph.specs.Meeting.{coming, meets, pairs_by}
+use Rattle.visibility_graph.specs.Meeting.{coming, counted_by, meets, pairs_by}
 
 -- the floor for which the graph does not stand; the kept lines of both floors, those of the graph's floor alone,
 -- and those of the other floor alone; and whether the repair was applied
@@ -42,3 +42,7 @@ pub record IsWriteCount (old new : Floor) (n : ℕ) : Type 0 where
   pub are_stay : AreShared old new stay
   pub are_come : AreAlone new old come
   pub count : n ≡ length come + coming come stay
+
+-- the count rose by what the change from the old floor to the new one writes
+abbrev pub CountsWrites : Floor → Floor → ℕ → ℕ → Type 0
+CountsWrites old new before after = (n : ℕ) × IsWriteCount old new n × (after ≡ counted_by n before)

@@ -1,9 +1,8 @@
 //! The repair, either way.
-ghost use Rattle.std.specs.Prelude.{◌≡◌, ℕ, true, false, not, All, [], ◌∷◌};
+ghost use Rattle.std.specs.Prelude.{◌≡◌, true, false, not, All, [], ◌∷◌};
 ghost use Rattle.line_arena.specs.Stands.{HasLine, IsComplete, StandsFor};
 ghost use Rattle.sweep_lines.specs.Kept.{AreOrdered};
-ghost use Rattle.visibility_graph.specs.Meeting.{counted_by};
-ghost use Rattle.graph_repair.specs.Change.{IsWriteCount, LeadsFrom};
+ghost use Rattle.graph_repair.specs.Change.{CountsWrites, LeadsFrom};
 ghost use Rattle.graph_repair.specs.Take.{AreTaken};
 
 use crate::repair::Repair;
@@ -24,7 +23,7 @@ pub fn apply(graph: &mut Graph, repair: &mut Repair)
     ensures there { graph.new.floor ≡ repair.old.floor }
     ensures here { repair.new.floor ≡ graph.old.floor }
     ensures back { LeadsFrom graph.new repair.new }
-    ensures written { (n : ℕ) × IsWriteCount graph.old.floor graph.new.floor n × (graph.new.arena.written ≡ counted_by n graph.old.arena.written) }
+    ensures written { CountsWrites graph.old.floor graph.new.floor graph.old.arena.written graph.new.arena.written }
 {
     exchange(graph, repair);
 }
@@ -40,7 +39,7 @@ pub fn revert(graph: &mut Graph, repair: &mut Repair)
     ensures there { graph.new.floor ≡ repair.old.floor }
     ensures here { repair.new.floor ≡ graph.old.floor }
     ensures back { LeadsFrom graph.new repair.new }
-    ensures written { (n : ℕ) × IsWriteCount graph.old.floor graph.new.floor n × (graph.new.arena.written ≡ counted_by n graph.old.arena.written) }
+    ensures written { CountsWrites graph.old.floor graph.new.floor graph.old.arena.written graph.new.arena.written }
 {
     exchange(graph, repair);
 }
@@ -52,7 +51,7 @@ fn exchange(graph: &mut Graph, repair: &mut Repair)
     ensures here { repair.new.floor ≡ graph.old.floor }
     ensures back { LeadsFrom graph.new repair.new }
     ensures applied { repair.new.applied ≡ not repair.old.applied }
-    ensures written { (n : ℕ) × IsWriteCount graph.old.floor graph.new.floor n × (graph.new.arena.written ≡ counted_by n graph.old.arena.written) }
+    ensures written { CountsWrites graph.old.floor graph.new.floor graph.old.arena.written graph.new.arena.written }
 {
     let mut parts = take(repair.alloc, graph);
     parts.arena.laws();

@@ -5,7 +5,7 @@ ghost use Rattle.plane_geom.specs.Floor.{IsFloor};
 use crate::hull::hull_of_difference;
 use crate::{apply, plan, revert};
 use plane_geom::Floor;
-use small_floor::{Sides, small_floor};
+use small_floor::{Sides, small_floor, tile};
 use std::alloc::{AllocError, Global};
 use std::test::Fail;
 use sweep_lines::all_lines;
@@ -142,13 +142,6 @@ fn finds_lines_of_an_anchor_that_moves(rt: HostRuntime) -> Result<(), Fail> {
     assert_eq!(rt; hull(&old, &new), (25, 20, 25, 28));
     assert!(rt; finds_lines(alloc, &old, &new)?);
     Ok(())
-}
-
-/// One of many solids in rows of sixteen, of different sizes.
-fn tile(number: u8) -> Sides {
-    let (left, top) = (i64::from(number % 16) * 40, i64::from(number / 16) * 30);
-    let (width, height) = (20 + i64::from(number % 7), 15 + i64::from(number % 5));
-    (left, top, left + width, top + height)
 }
 
 #[test]

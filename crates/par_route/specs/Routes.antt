@@ -1,5 +1,5 @@
 -- The answers of many tasks.
-use Rattle.std.specs.Prelude.{◌≡◌, List, [], Option}
+use Rattle.std.specs.Prelude.{◌≡◌, List, Option}
 use Rattle.std.specs.List.{AllZip}
 use Rattle.plane_geom.specs.declared.floor.Floor.{Floor}
 use Rattle.plane_geom.specs.declared.rect.Solid.{Solid}
@@ -22,10 +22,3 @@ abbrev pub HaveOneList : Type 0
 HaveOneList =
     (solids : List Solid) (tasks : List Task) (these those : List (Option Route))
     → AreAnswers solids tasks these → AreAnswers solids tasks those → these ≡ those
-
--- the task has no choices, no checkpoints, and bends cost nothing
-pub record IsIdle (task : Task) : Type 0 where
-  pub starts : task.starts ≡ []
-  pub ends : task.ends ≡ []
-  pub via : task.via ≡ []
-  pub penalty : task.penalty ≡ 0

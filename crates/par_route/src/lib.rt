@@ -4,9 +4,11 @@
 mod gate;
 mod pieces;
 mod routes;
+mod watch;
 
 pub use gate::{Gate, OpenGate};
 pub use routes::{one_list, route_all};
+pub use watch::{CountGate, HoldGate};
 
 #[cfg(test)]
 mod tests;

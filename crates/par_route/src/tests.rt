@@ -1,85 +1,29 @@
 //! How tasks are cut into pieces, which pieces pass the gate, and worked routes over scenes.
 //!
 //! The tasks that are cut have no choices and so no route, on a floor without solids.
-ghost use Rattle.std.specs.Prelude.{◌≡◌, ◌≢◌, ◌≤◌, [], All, IfOk, IsSomeAnd, IsTrue};
-ghost use Rattle.par_route.specs.Routes.{IsIdle};
+ghost use Rattle.std.specs.Prelude.{◌≡◌, ◌≢◌, ◌≤◌, All, IfOk, IsSomeAnd, IsTrue};
 ghost use Rattle.scene_model.specs.Loads.{IsLoadablePin};
 ghost use Rattle.scene_model.specs.Scene.{edge_with};
+ghost use Rattle.walk_model.specs.Legal.{idle_task};
 
-use crate::{Gate, OpenGate, route_all};
-use plane_geom::Points;
+use crate::{CountGate, Gate, HoldGate, OpenGate, route_all};
 use route_search::{Tally, find_first};
 use scene_model::{Dirs, Node, Pin, Pins};
 use scene_store::Scene;
 use std::alloc::{AllocError, Global};
-use std::sync::atomic::{AtomicBool, AtomicU32, Ordering};
 use std::test::Fail;
 use std::thread::Threads;
 use visibility_graph::Graph;
-use walk_model::{Choices, Route, Task};
+use walk_model::{Route, Task};
 
 mod on_a_line;
 
-/// Counts the pieces that pass, and adds up their numbers.
-#[derive(Drop)]
-struct Counter {
-    pieces: AtomicU32,
-    numbers: AtomicU32,
-}
-
-impl Gate for Counter {
-    fn pass(&self, piece: u32) {
-        self.pieces.fetch_add(1, Ordering::SeqCst);
-        self.numbers.fetch_add(piece, Ordering::SeqCst);
-    }
-}
-
-/// Holds piece 1 until piece 2 has passed, for so many turns.
-#[derive(Drop)]
-struct Hold {
-    second: AtomicBool,
-    seen: AtomicBool,
-}
-
-const TURNS: u32 = 100_000_000;
-
-impl Gate for Hold {
-    fn pass(&self, piece: u32) {
-        if piece == 2 {
-            self.second.store(true, Ordering::SeqCst);
-        }
-        if piece == 1 {
-            for _ in 0..TURNS {
-                if self.second.load(Ordering::SeqCst) {
-                    self.seen.store(true, Ordering::SeqCst);
-                    return;
-                }
-            }
-        }
-    }
-}
-
-/// A task without choices.
-fn idle_task(alloc: Global) -> Task
-    ensures starts { result.starts ≡ [] }
-    ensures ends { result.ends ≡ [] }
-    ensures via { result.via ≡ [] }
-    ensures penalty { result.penalty ≡ 0 }
-{
-    Task {
-        starts: Choices(Vec::new(alloc)),
-        ends: Choices(Vec::new(alloc)),
-        via: Points(Vec::new(alloc)),
-        penalty: 0,
-    }
-}
-
 fn idle_tasks(alloc: Global, count: u32) -> Result<Vec<Task>, AllocError>
-    ensures { IfOk result (λ tasks. All IsIdle tasks.items) }
+    ensures { IfOk result (λ tasks. All (λ t. t ≡ idle_task) tasks.items) }
 {
     let mut tasks = Vec::new(alloc);
     for _ in 0..count {
-        tasks.push(idle_task(alloc))?;
+        tasks.push(Task::idle(alloc))?;
     }
     Ok(tasks)
 }
@@ -115,16 +59,13 @@ fn cuts_tasks_into_pieces(rt: HostRuntime) -> Result<(), Fail> {
         (5000, 4, 4, 10),
     ];
     for (count, workers, pieces, numbers) in rows {
-        let gate = Counter {
-            pieces: AtomicU32::new(0),
-            numbers: AtomicU32::new(0),
-        };
+        let gate = CountGate::new();
         let mut tally = Tally::new();
         let answers = answered(&rt, alloc, count, workers, &gate, &mut tally)?;
         assert_eq!(rt; answers, (count as usize, 0), "of {count} by {workers}");
         assert_eq!(rt; tally.count(), u64::from(count));
-        assert_eq!(rt; gate.pieces.load(Ordering::SeqCst), pieces);
-        assert_eq!(rt; gate.numbers.load(Ordering::SeqCst), numbers);
+        assert_eq!(rt; gate.pieces(), pieces);
+        assert_eq!(rt; gate.numbers(), numbers);
     }
     Ok(())
 }
@@ -132,13 +73,10 @@ fn cuts_tasks_into_pieces(rt: HostRuntime) -> Result<(), Fail> {
 #[test]
 fn has_two_pieces_under_way(rt: HostRuntime) -> Result<(), Fail> {
     let alloc = rt.alloc();
-    let gate = Hold {
-        second: AtomicBool::new(false),
-        seen: AtomicBool::new(false),
-    };
+    let gate = HoldGate::new();
     let mut tally = Tally::new();
     answered(&rt, alloc, 3, 2, &gate, &mut tally)?;
-    assert!(rt; gate.seen.load(Ordering::SeqCst));
+    assert!(rt; gate.has_seen_both());
     Ok(())
 }
 
@@ -181,27 +119,6 @@ struct Row {
     cost: Option<u64>,
     corners: &'static [Corner],
 }
-
-const EAST: Dirs = Dirs {
-    east: true,
-    south: false,
-    west: false,
-    north: false,
-};
-
-const WEST: Dirs = Dirs {
-    east: false,
-    south: false,
-    west: true,
-    north: false,
-};
-
-const NORTH: Dirs = Dirs {
-    east: false,
-    south: false,
-    west: false,
-    north: true,
-};
 
 const SOURCE: Place = Place(1, 0, 0, 20_000, 20_000);
 
@@ -285,7 +202,7 @@ const ROWS: [Row; 10] = [
     Row {
         plan: Plan {
             places: &[SOURCE, Place(2, -100_000, 0, 20_000, 20_000)],
-            starts: &[Offset(10_000, 0, WEST, 0)],
+            starts: &[Offset(10_000, 0, Dirs::WEST, 0)],
             ends: &[],
             via: &[],
         },
@@ -308,8 +225,8 @@ const ROWS: [Row; 10] = [
         plan: Plan {
             places: &[SOURCE, TARGET],
             starts: &[
-                Offset(10_000, 0, EAST, 60_000),
-                Offset(0, -10_000, NORTH, 20_000),
+                Offset(10_000, 0, Dirs::EAST, 60_000),
+                Offset(0, -10_000, Dirs::NORTH, 20_000),
             ],
             ends: &[],
             via: &[],
@@ -322,8 +239,8 @@ const ROWS: [Row; 10] = [
         plan: Plan {
             places: &[SOURCE, TARGET],
             starts: &[
-                Offset(10_000, 0, EAST, 148_000),
-                Offset(0, -10_000, NORTH, 20_000),
+                Offset(10_000, 0, Dirs::EAST, 148_000),
+                Offset(0, -10_000, Dirs::NORTH, 20_000),
             ],
             ends: &[],
             via: &[],
@@ -336,8 +253,8 @@ const ROWS: [Row; 10] = [
         plan: Plan {
             places: &[SOURCE, TARGET],
             starts: &[
-                Offset(10_000, 0, EAST, 148_001),
-                Offset(0, -10_000, NORTH, 20_000),
+                Offset(10_000, 0, Dirs::EAST, 148_001),
+                Offset(0, -10_000, Dirs::NORTH, 20_000),
             ],
             ends: &[],
             via: &[],
@@ -355,7 +272,10 @@ const ROWS: [Row; 10] = [
         plan: Plan {
             places: &[SOURCE, TARGET],
             starts: &[],
-            ends: &[Offset(-10_000, 0, WEST, 5_000), Offset(-5_000, 0, WEST, 0)],
+            ends: &[
+                Offset(-10_000, 0, Dirs::WEST, 5_000),
+                Offset(-5_000, 0, Dirs::WEST, 0),
+            ],
             via: &[],
         },
         cost: Some(95_000),

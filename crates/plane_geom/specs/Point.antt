@@ -1,5 +1,5 @@
 -- Points, directions and the sheet on which all is drawn.
-use Rattle.std.specs.Prelude.{◌≡◌, ℕ, ◌+◌, ◌⊎◌, ℤ, pos, negsuc, ◌+ℤ◌, ◌-ℤ◌, ◌≤ℤ◌, unsigned_abs, int_lt, if◌then◌else◌}
+use Rattle.std.specs.Prelude.{◌≡◌, Bool, not, ◌&&◌, ℕ, ◌+◌, ◌⊎◌, ℤ, pos, negsuc, ◌+ℤ◌, ◌-ℤ◌, ◌≤ℤ◌, unsigned_abs, int_lt, if◌then◌else◌}
 use Rattle.plane_geom.specs.declared.point.Point.{Point}
 use Rattle.plane_geom.specs.declared.point.Dir.{Dir}
 use Rattle.plane_geom.specs.declared.point.Dir.TheVariants.{East, South, West, North}
@@ -16,6 +16,10 @@ sheet_end = pos 2000000000
 pub record IsCoordinate (z : ℤ) : Type 0 where
   pub low : sheet_start ≤ℤ z
   pub high : z ≤ℤ sheet_end
+
+-- whether the number is a coordinate of the sheet
+abbrev pub is_coordinate : ℤ → Bool
+is_coordinate z = not (int_lt z sheet_start) && not (int_lt sheet_end z)
 
 -- a point of the sheet
 pub record PointIsOnSheet (p : Point) : Type 0 where

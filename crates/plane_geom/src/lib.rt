@@ -12,5 +12,5 @@ mod rect;
 pub use axis::{Axis, XAxis, YAxis};
 pub use floor::{Floor, Line, free_pieces_have_longest, kept_lines_apart};
 pub use list::{Points, Solids};
-pub use point::{Dir, Point, SHEET_END, SHEET_START, Way};
+pub use point::{Dir, Point, SHEET_END, SHEET_START, Way, is_coordinate};
 pub use rect::{Rect, Solid, meets_by_steps};

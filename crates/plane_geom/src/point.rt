@@ -1,11 +1,20 @@
 //! Points, directions and ways.
-ghost use Rattle.std.specs.Prelude.{◌≡◌};
+ghost use Rattle.std.specs.Prelude.{◌≡◌, ◌↔◌, IsTrue};
+ghost use Rattle.plane_geom.specs.Point.{IsCoordinate, is_coordinate};
 
 /// The least coordinate of the sheet.
 pub const SHEET_START: i64 = -2_000_000_000;
 
 /// The greatest coordinate of the sheet.
 pub const SHEET_END: i64 = 2_000_000_000;
+
+/// Whether the number is a coordinate of the sheet.
+pub fn is_coordinate(z: i64) -> bool
+    ensures test { result ≡ is_coordinate z }
+    ensures meaning { IsTrue result ↔ IsCoordinate z }
+{
+    SHEET_START <= z && z <= SHEET_END
+}
 
 /// A place on the plane, in thousandths of a GML unit.
 #[derive(Clone, Copy, Debug, Default, PartialEq, Eq, Hash)]
@@ -60,6 +69,13 @@ impl Dir {
 impl Point {
     ghost use Rattle.plane_geom.specs.Along.{across, along};
     ghost use Rattle.plane_geom.specs.Point.{IsStraight, PointIsOnSheet, distance, forward, heading};
+
+    /// Whether the point lies on the sheet.
+    pub fn is_on_sheet(self) -> bool
+        ensures { IsTrue result ↔ PointIsOnSheet self }
+    {
+        is_coordinate(self.x) && is_coordinate(self.y)
+    }
 
     /// The sum of the distances across and along: how many unit steps lead to the other point.
     ///
@@ -157,6 +173,21 @@ mod tests {
             assert_eq!(rt; dir.way(), dir.opposite().way());
             assert_eq!(rt; from.across(dir.way()), to.across(dir.way()));
             assert_ne!(rt; from.along(dir.way()), to.along(dir.way()));
+        }
+    }
+
+    #[test]
+    fn tells_points_on_the_sheet(rt: HostRuntime) {
+        let cases = [
+            (SHEET_START, SHEET_END, true),
+            (SHEET_END, SHEET_START, true),
+            (SHEET_START - 1, 0, false),
+            (0, SHEET_START - 1, false),
+            (SHEET_END + 1, 0, false),
+            (0, SHEET_END + 1, false),
+        ];
+        for (x, y, on_sheet) in cases {
+            assert_eq!(rt; Point { x, y }.is_on_sheet(), on_sheet);
         }
     }
 }

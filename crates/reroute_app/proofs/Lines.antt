@@ -1,11 +1,11 @@
 -- The line of an edge lies on the sheet, and is not too long to be judged.
-use Rattle.std.proofs.Common.{◌≡◌, ℕ, suc, ◌+◌, ◌*◌, ◌^◌, ◌≤◌, Bool, true, false, List, [], ◌∷◌, length, Option, Some, None, Ok, All, refl, subst, arith, length-append, ltb-false}
-use Rattle.std.specs.Prelude.{ℤ, ◌||◌, unsigned_abs, nat_lt, codes, option_and_then, IfOk, IfSome, if◌then◌else◌}
+use Rattle.std.proofs.Common.{◌≡◌, ℕ, suc, ◌+◌, ◌≤◌, Bool, true, false, List, [], ◌∷◌, length, Option, Some, None, Ok, All, refl, subst, arith, length-append}
+use Rattle.std.specs.Prelude.{ℤ, ◌||◌, codes, option_and_then, IfOk, IfSome, if◌then◌else◌}
 use Rattle.std.proofs.lemmas.Int.{ints}
 use Rattle.std.proofs.lemmas.Option.{none-some, same_Some}
 use Rattle.std.proofs.lemmas.List.Elements.{All-nil, All-push}
 use Rattle.plane_geom.specs.declared.point.Point.{Point}
-use Rattle.plane_geom.specs.Point.{IsCoordinate, PointIsOnSheet}
+use Rattle.plane_geom.specs.Point.{IsCoordinate, PointIsOnSheet, is_coordinate}
 use Rattle.walk_model.specs.Line.{IsPolyline}
 use Rattle.gml_text.specs.Tree.{Pairs}
 use Rattle.scene_model.specs.declared.edge.Edge.{Edge}
@@ -18,14 +18,15 @@ use Rattle.diagram_read.proofs.Steps.{bound, ok_told, there}
 use Rattle.reroute_app.specs.View.{pair_count, HasFewPairs}
 use Rattle.reroute_app.proofs.Counts.{parted, line_few, lists_few}
 
+fits : (v : ℤ) → is_coordinate v ≡ true → IsCoordinate v
+fits v within = record { low = grind (arith, ints, within); high = grind (arith, ints, within) }
+
 coordinate : (v z : ℤ) → on_sheet v ≡ Some z → IsCoordinate z
-coordinate v z is = by (nat_lt (2 * 10 ^ 9) (unsigned_abs v)) refl is
+coordinate v z is = by (is_coordinate v) refl is
   where
-    by : (b : Bool) → nat_lt (2 * 10 ^ 9) (unsigned_abs v) ≡ b → (if b then None else Some v) ≡ Some z → IsCoordinate z
-    by true far e = absurd (none-some z e)
-    by false near e =
-        let low = ltb-false (2 * 10 ^ 9) (unsigned_abs v) near in
-        subst IsCoordinate (same_Some v z e) (record { low = omega (arith, ints, low); high = omega (arith, ints, low) })
+    by : (b : Bool) → is_coordinate v ≡ b → (if b then Some v else None) ≡ Some z → IsCoordinate z
+    by true within e = subst IsCoordinate (same_Some v z e) (fits v within)
+    by false out e = absurd (none-some z e)
 
 coordinate_of : (o : Option ℤ) (z : ℤ) → option_and_then on_sheet o ≡ Some z → IsCoordinate z
 coordinate_of o z is = (let value = parted on_sheet o z is in coordinate value.0 z value.2)

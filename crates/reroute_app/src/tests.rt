@@ -1,9 +1,9 @@
 //! The worked diagrams and scripts, diagrams that are refused, words of no form, gates, and inputs at the limits.
 use super::*;
 use host_edge::{MemFolder, MemSink, NamedFile};
+use par_route::{CountGate, HoldGate};
 use std::alloc::AllocError;
 use std::process::Abort;
-use std::sync::atomic::{AtomicBool, AtomicU32, Ordering};
 use std::test::Fail;
 
 mod diagrams;
@@ -682,26 +682,9 @@ fn refuses_long_scripts(rt: HostRuntime) -> Result<(), Fail> {
     Ok(())
 }
 
-/// Counts the pieces that pass, and adds up their numbers.
-#[derive(Drop)]
-struct Counter {
-    pieces: AtomicU32,
-    numbers: AtomicU32,
-}
-
-impl Gate for Counter {
-    fn pass(&self, piece: u32) {
-        self.pieces.fetch_add(1, Ordering::SeqCst);
-        self.numbers.fetch_add(piece, Ordering::SeqCst);
-    }
-}
-
 #[test]
 fn counts_searches(rt: HostRuntime) -> Result<(), Fail> {
-    let gate = Counter {
-        pieces: AtomicU32::new(0),
-        numbers: AtomicU32::new(0),
-    };
+    let gate = CountGate::new();
     let mut tally = Tally::new();
     let row = Row {
         words: "route|d.gml|s.txt|--count",
@@ -709,49 +692,21 @@ fn counts_searches(rt: HostRuntime) -> Result<(), Fail> {
     };
     routed(&rt, rt.alloc(), &row, "graph [ ]", &gate, &mut tally)?;
     assert_eq!(rt; tally.count(), 2);
-    assert_eq!(rt; gate.pieces.load(Ordering::SeqCst), 2);
-    assert_eq!(rt; gate.numbers.load(Ordering::SeqCst), 2);
+    assert_eq!(rt; gate.pieces(), 2);
+    assert_eq!(rt; gate.numbers(), 2);
     Ok(())
-}
-
-/// Holds piece 1 until piece 2 has passed, for so many turns.
-#[derive(Drop)]
-struct Hold {
-    second: AtomicBool,
-    seen: AtomicBool,
-}
-
-const TURNS: u32 = 100_000_000;
-
-impl Gate for Hold {
-    fn pass(&self, piece: u32) {
-        if piece == 2 {
-            self.second.store(true, Ordering::SeqCst);
-        }
-        if piece == 1 {
-            for _ in 0..TURNS {
-                if self.second.load(Ordering::SeqCst) {
-                    self.seen.store(true, Ordering::SeqCst);
-                    return;
-                }
-            }
-        }
-    }
 }
 
 #[test]
 fn routes_side_by_side(rt: HostRuntime) -> Result<(), Fail> {
-    let gate = Hold {
-        second: AtomicBool::new(false),
-        seen: AtomicBool::new(false),
-    };
+    let gate = HoldGate::new();
     let mut tally = Tally::new();
     let row = Row {
         words: "route|--workers|2|d.gml|s.txt",
         ..route_row(rows::PARALLEL, Status::Done, 0, rows::PARALLEL_OUT)
     };
     routed(&rt, rt.alloc(), &row, "graph [ ]", &gate, &mut tally)?;
-    assert!(rt; gate.seen.load(Ordering::SeqCst));
+    assert!(rt; gate.has_seen_both());
     assert_eq!(rt; tally.count(), 2);
     Ok(())
 }

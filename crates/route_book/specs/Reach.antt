@@ -1,5 +1,5 @@
 -- How near ways come to a rectangle. No public clause cites this module.
-use Rattle.std.specs.Prelude.{ℕ, ◌+◌, ◌≤◌, ◌^◌, ◌≤ℤ◌, unsigned_abs, List, [], ◌∷◌, ◌++◌, length, All, Contains}
+use Rattle.std.specs.Prelude.{ℕ, ◌+◌, ◌≤◌, ◌≤ℤ◌, unsigned_abs, List, [], ◌∷◌, ◌++◌, length, All, Contains}
 use Rattle.plane_geom.specs.declared.point.Point.{Point}
 use Rattle.plane_geom.specs.declared.rect.Rect.{Rect}
 use Rattle.plane_geom.specs.Point.{PointIsOnSheet}
@@ -10,12 +10,6 @@ use Rattle.scene_model.specs.declared.pin.Pin.{Pin}
 use Rattle.scene_model.specs.Routing.{pins_of_class, place_of}
 use Rattle.scene_model.specs.Stale.{IsLengthBy}
 use Rattle.scene_model.specs.Valid.{IsNode}
-
--- the pin lies on the node's box, and costs no more than a pin may
-pub record IsPlaced (n : Node) (p : Pin) : Type 0 where
-  pub x : unsigned_abs p.dx ≤ unsigned_abs n.half_w
-  pub y : unsigned_abs p.dy ≤ unsigned_abs n.half_h
-  pub cost : unsigned_abs p.cost ≤ 10 ^ 9
 
 -- a rectangle on the sheet that has a point
 pub record IsBox (r : Rect) : Type 0 where

@@ -1,7 +1,7 @@
 //! The saved answers of a scene, and their change with the scene.
-ghost use Rattle.std.specs.Prelude.{◌≡◌, ◌≤◌, ℕ, List, IfOk, OnOk, length, option_copied};
+ghost use Rattle.std.specs.Prelude.{◌≡◌, ◌≤◌, IfOk, OnOk, length, option_copied};
 ghost use Rattle.route_search.specs.Finds.{counted_by};
-ghost use Rattle.route_book.specs.Exchange.{turned};
+ghost use Rattle.route_book.specs.Exchange.{CountsStale, turned};
 ghost use Rattle.scene_model.specs.Answers.{AreAnswers};
 ghost use Rattle.scene_model.specs.Routing.{floor_of};
 ghost use Rattle.scene_model.specs.Scene.{connectors};
@@ -121,7 +121,7 @@ impl Book {
         ensures same { self.new ≡ self.old }
         ensures here { IfOk result (λ c. c.here ≡ self.old) }
         ensures there { IfOk result (λ c. AreAnswers new.now c.there) }
-        ensures tally { OnOk result ((numbers : List ℕ) × AreStale old.now self.old new.now numbers × (tally.new ≡ counted_by (length numbers) tally.old)) }
+        ensures tally { OnOk result (CountsStale old.now self.old new.now tally.old tally.new) }
         ensures never_falls { tally.old ≤ tally.new }
     {
         let _settings = old.settings();

@@ -6,7 +6,6 @@
 mod answers;
 mod book;
 mod comparison;
-mod coordinates;
 mod laws;
 mod line;
 mod reach;

@@ -1,54 +1,12 @@
 //! How near to a rectangle the ways of a connector come within a cost.
-ghost use Rattle.std.specs.Prelude.{◌≡◌, ◌↔◌, ◌+◌, ◌*◌, ◌^◌, ◌<◌, ◌≤◌, ◌==◌, ◌∷◌, ◌++◌, [], All, IsTrue, filter, length};
+ghost use Rattle.std.specs.Prelude.{◌≡◌, ◌↔◌, ◌+◌, ◌*◌, ◌^◌, ◌<◌, ◌≤◌, ◌∷◌, ◌++◌, [], All, IsTrue, length};
 ghost use Rattle.plane_geom.specs.Point.{PointIsOnSheet};
-ghost use Rattle.route_book.specs.Reach.{AreParts, IsBox, IsNear, IsNearBetween, IsNearFrom, IsPlaced, IsShortestBy};
-ghost use Rattle.scene_model.specs.Routing.{pins_of_class, place_of};
+ghost use Rattle.route_book.specs.Reach.{AreParts, IsBox, IsNear, IsNearBetween, IsNearFrom, IsShortestBy};
 ghost use Rattle.scene_model.specs.Stale.{way_length};
-ghost use Rattle.scene_model.specs.Valid.{IsNode};
+ghost use Rattle.scene_model.specs.Valid.{IsPlaced};
 
-use crate::coordinates::moved;
 use plane_geom::{Point, Rect};
-use scene_store::{Dirs, Edge, Node, Pin};
-
-/// The pin of class 0.
-const CENTRE: [Pin; 1] = [Pin {
-    class: 0,
-    dx: 0,
-    dy: 0,
-    dirs: Dirs {
-        east: true,
-        south: true,
-        west: true,
-        north: true,
-    },
-    cost: 0,
-}];
-
-/// The pins among which those of the class are.
-fn pins_with(node: &Node, class: u32) -> &[Pin]
-    requires { IsNode node.now }
-    ensures class { filter (λ p. p.class == class) result.now ≡ pins_of_class node.now class }
-    ensures placed { All (IsPlaced node.now) result.now }
-{
-    if class == 0 {
-        &CENTRE
-    } else {
-        node.pins.as_slice()
-    }
-}
-
-/// Where the pin of the node stands.
-fn place_of(node: &Node, pin: Pin) -> Point
-    requires node { IsNode node.now }
-    requires pin { IsPlaced node.now pin }
-    ensures place { result ≡ place_of node.now pin }
-    ensures on_sheet { PointIsOnSheet result }
-{
-    Point {
-        x: moved(node.x, pin.dx),
-        y: moved(node.y, pin.dy),
-    }
-}
+use scene_store::{Edge, Node, Pin};
 
 /// How long a way is, and how long at least where it goes by a rectangle.
 #[derive(Clone, Copy)]
@@ -106,8 +64,8 @@ impl<'a> Reach<'a> {
         requires end { IsPlaced self.now.target.now end }
         ensures { IsTrue result ↔ IsNear self.now.source.now self.now.target.now self.now.edge.now self.now.cost rect.now start end }
     {
-        let from = place_of(self.source, start);
-        let to = place_of(self.target, end);
+        let from = self.source.place_of(start);
+        let to = self.target.place_of(end);
         let way = way_lengths(rect, from, self.edge.via.as_slice(), to);
         start.cost.unsigned_abs() + end.cost.unsigned_abs() + way.by <= self.cost
     }
@@ -120,7 +78,7 @@ impl<'a> Reach<'a> {
         ensures { IsTrue result ↔ IsNearFrom self.now.source.now self.now.target.now self.now.edge.now self.now.cost rect.now start }
     {
         let class = self.edge.to_class;
-        for end in pins_with(self.target, class) {
+        for end in self.target.pins_among(class) {
             if end.class == class && self.is_near(rect, start, *end) {
                 return true;
             }
@@ -135,7 +93,7 @@ impl<'a> Reach<'a> {
         ensures { IsTrue result ↔ IsNearBetween self.now.source.now self.now.target.now self.now.edge.now self.now.cost rect.now }
     {
         let class = self.edge.from_class;
-        for start in pins_with(self.source, class) {
+        for start in self.source.pins_among(class) {
             if start.class == class && self.is_near_from(rect, *start) {
                 return true;
             }

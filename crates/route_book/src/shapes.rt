@@ -1,28 +1,14 @@
-//! What a task takes of a node, and its solid.
-ghost use Rattle.std.specs.Prelude.{◌≡◌, ◌↔◌, Contains, IfOk, IsTrue, option_to_list};
+//! What a task takes of a node, and the solids that one scene has and another has not.
+ghost use Rattle.std.specs.Prelude.{◌≡◌, ◌↔◌, Contains, IfOk, IsTrue};
 ghost use Rattle.route_book.specs.Shapes.{AskSame, shape_of};
 ghost use Rattle.route_book.specs.Solids.{AreRemoved};
-ghost use Rattle.scene_model.specs.Routing.{box, solid_of, solids};
+ghost use Rattle.scene_model.specs.Routing.{solids};
 ghost use Rattle.scene_model.specs.Stale.{shape};
-ghost use Rattle.scene_model.specs.Valid.{AreSettings, IsNode, IsValid};
+ghost use Rattle.scene_model.specs.Valid.{IsNode, IsValid};
 
-use crate::coordinates::{moved, moved_back};
-use plane_geom::{Rect, Solid};
-use scene_store::{Edge, Node, Scene, Settings};
+use plane_geom::Solid;
+use scene_store::{Edge, Node, Scene};
 use std::alloc::{AllocError, Global};
-
-/// The node's box.
-fn box_of(node: &Node) -> Rect
-    requires { IsNode node.now }
-    ensures { result ≡ box node.now }
-{
-    Rect {
-        left: moved_back(node.x, node.half_w),
-        top: moved_back(node.y, node.half_h),
-        right: moved(node.x, node.half_w),
-        bottom: moved(node.y, node.half_h),
-    }
-}
 
 /// Whether a task takes the same of both nodes.
 fn look_same(one: &Node, other: &Node) -> bool
@@ -30,7 +16,7 @@ fn look_same(one: &Node, other: &Node) -> bool
     requires other { IsNode other.now }
     ensures { IsTrue result ↔ (shape_of one.now ≡ shape_of other.now) }
 {
-    box_of(one) == box_of(other)
+    one.rect() == other.rect()
         && one.group == other.group
         && one.pins.as_slice() == other.pins.as_slice()
 }
@@ -57,21 +43,6 @@ pub(crate) fn ask_same(one: &Edge, other: &Edge) -> bool
         && one.via.as_slice() == other.via.as_slice()
 }
 
-/// The solid of the node.
-fn solid_of(settings: Settings, node: &Node) -> Option<Solid>
-    requires settings { AreSettings settings }
-    requires node { IsNode node.now }
-    ensures { option_to_list result ≡ solid_of settings.buffer node.now }
-{
-    if node.group {
-        return None;
-    }
-    Some(Solid {
-        node: node.id,
-        rect: box_of(node).grow(settings.buffer),
-    })
-}
-
 /// Whether the scene has the solid.
 fn has_solid(scene: &Scene, solid: Solid) -> bool
     ensures { IsTrue result ↔ Contains (solids scene.now) solid }
@@ -80,7 +51,7 @@ fn has_solid(scene: &Scene, solid: Solid) -> bool
     let Some(node) = scene.node(solid.node) else {
         return false;
     };
-    let Some(own) = solid_of(settings, node) else {
+    let Some(own) = node.solid(settings) else {
         return false;
     };
     own == solid
@@ -94,7 +65,7 @@ pub(crate) fn removed(alloc: Global, old: &Scene, new: &Scene) -> Result<Vec<Sol
     let mut removed = Vec::new(alloc);
     let mut place = 0;
     while let Some(node) = old.node_at(place) {
-        if let Some(solid) = solid_of(settings, node) {
+        if let Some(solid) = node.solid(settings) {
             if !has_solid(new, solid) {
                 removed.push(solid)?;
             }

@@ -313,12 +313,7 @@ const EAST: Pin = Pin {
     class: 1,
     dx: 10_000,
     dy: 0,
-    dirs: Dirs {
-        east: true,
-        south: false,
-        west: false,
-        north: false,
-    },
+    dirs: Dirs::EAST,
     cost: 60_000,
 };
 
@@ -326,12 +321,7 @@ const NORTH: Pin = Pin {
     class: 1,
     dx: 0,
     dy: -10_000,
-    dirs: Dirs {
-        east: false,
-        south: false,
-        west: false,
-        north: true,
-    },
+    dirs: Dirs::NORTH,
     cost: 20_000,
 };
 

@@ -4,12 +4,11 @@ use Rattle.std.proofs.lemmas.List.Elements.{All-nil}
 use Rattle.plane_geom.specs.declared.floor.Floor.{Floor}
 use Rattle.line_arena.specs.Arena.{Arena}
 use Rattle.line_arena.specs.Stands.{StandsFor}
-use Rattle.walk_model.specs.declared.task.Task.{Task}
+use Rattle.walk_model.specs.Legal.{idle_task}
 use Rattle.move_model.specs.Problems.{IsProblem}
 
-pub idle_is_problem : (floor : Floor) (arena : Arena) (task : Task) → floor.solids ≡ [] → floor.anchors ≡ [] → StandsFor floor arena
-    → task.starts ≡ [] → task.ends ≡ [] → task.via ≡ [] → task.penalty ≡ 0 → IsProblem floor arena [] task
-idle_is_problem floor arena task solids anchors stands starts ends via penalty = record {
+pub idle_is_problem : (floor : Floor) (arena : Arena) → floor.solids ≡ [] → floor.anchors ≡ [] → StandsFor floor arena → IsProblem floor arena [] idle_task
+idle_is_problem floor arena solids anchors stands = record {
   same_solids = solids;
   stands = stands;
   is_floor = record {
@@ -19,17 +18,17 @@ idle_is_problem floor arena task solids anchors stands starts ends via penalty =
     coordinates = λ way. ([], omega arith, record { first_sides = rw solids (All-nil _); last_sides = rw solids (All-nil _); anchors = rw anchors (All-nil _) });
   };
   is_task = record {
-    starts = rw starts (record { each = All-nil _; one_node = λ i j d lt within. absurd (omega (arith, within)); one_port = λ i j d lt within. absurd (omega (arith, within)) });
-    ends = rw ends (record { each = All-nil _; one_node = λ i j d lt within. absurd (omega (arith, within)); one_port = λ i j d lt within. absurd (omega (arith, within)) });
-    few_starts = rw starts (omega arith);
-    few_ends = rw ends (omega arith);
-    via = rw via (All-nil _);
-    few = rw via (omega arith);
-    penalty = rw penalty (omega arith);
+    starts = record { each = All-nil _; one_node = λ i j d lt within. absurd (omega (arith, within)); one_port = λ i j d lt within. absurd (omega (arith, within)) };
+    ends = record { each = All-nil _; one_node = λ i j d lt within. absurd (omega (arith, within)); one_port = λ i j d lt within. absurd (omega (arith, within)) };
+    few_starts = omega arith;
+    few_ends = omega arith;
+    via = All-nil _;
+    few = omega arith;
+    penalty = omega arith;
   };
   is_floor_of = record {
     solids = rw solids (All-nil _);
-    anchors = record { starts = rw starts (All-nil _); ends = rw ends (All-nil _); via = rw via (All-nil _) };
-    outside = rw ends (All-nil _);
+    anchors = record { starts = All-nil _; ends = All-nil _; via = All-nil _ };
+    outside = All-nil _;
   };
 }

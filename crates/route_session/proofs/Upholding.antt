@@ -1,16 +1,15 @@
 -- What a session upholds through its calls.
-use Rattle.std.proofs.Common.{◌≡◌, ℕ, zero, suc, ◌≤◌, Bool, true, false, not, List, [], ◌∷◌, length, take, drop, filter, slice_get, Option, None, Some, Ok, Err, Result, refl, sym, ap, subst, ◌∙◌, arith}
+use Rattle.std.proofs.Common.{◌≡◌, ℕ, zero, suc, ◌≤◌, Bool, true, false, not, List, [], ◌∷◌, length, take, drop, slice_get, Option, None, Some, Ok, Err, Result, refl, sym, ap, subst, arith}
 use Rattle.std.proofs.lemmas.List.Filters.{length-filter_both}
-use Rattle.std.specs.Prelude.{IsOk, OnErr, is_err, is_ok, is_some, option_map, IfSome}
+use Rattle.std.specs.Prelude.{IsOk, OnErr, is_err, is_ok, is_some, option_map}
 use Rattle.plane_geom.specs.declared.floor.Floor.{Floor}
 use Rattle.plane_geom.specs.Floor.{IsFloor}
 use Rattle.walk_model.specs.declared.route.Answer.{Answer}
 use Rattle.visibility_graph.specs.Drawing.{Drawing}
 use Rattle.visibility_graph.specs.Meeting.{counted_by as written_by}
 use Rattle.line_arena.specs.Arena.{counted}
-use Rattle.graph_repair.specs.Change.{IsWriteCount}
+use Rattle.graph_repair.specs.Change.{CountsWrites, IsWriteCount}
 use Rattle.route_search.specs.Finds.{counted_by}
-use Rattle.scene_model.specs.declared.edit.Edit.{Edit}
 use Rattle.scene_model.specs.declared.edit.Command.TheVariants as commands
 use Rattle.scene_model.specs.declared.fault.SessionFault.TheVariants as faults
 use Rattle.scene_model.specs.Scene.{Scene, connectors, is_loop}
@@ -18,14 +17,14 @@ use Rattle.scene_model.specs.Valid.{IsValid}
 use Rattle.scene_model.specs.Routing.{floor_of}
 use Rattle.scene_model.specs.Inverses.{taken_back, redone}
 use Rattle.scene_model.specs.Answers.{AreAnswers}
-use Rattle.scene_model.specs.World.{World, step, refused}
+use Rattle.scene_model.specs.World.{step, refused}
 use Rattle.scene_model.proofs.OneList.{one_list}
 use Rattle.edit_txn.specs.Txn.{Transaction, BeganOn}
 use Rattle.undo_log.specs.declared.step.Step.{Step}
 use Rattle.undo_log.specs.Log.{Log}
 use Rattle.undo_log.specs.Lending.{gone_back, gone_forth}
 use Rattle.history_laws.specs.History.{IsStep, IsHistory, IsTurned, LeadBack, LeadOn, world_of, pushed}
-use Rattle.history_laws.proofs.Turning.{puts_behind, goes_back, goes_on, step_leads_on, step_stays_valid}
+use Rattle.history_laws.proofs.Turning.{puts_behind, goes_back, goes_on, step_stays_valid}
 use Rattle.route_book.specs.Exchange.{Exchange, turned}
 use Rattle.route_session.specs.Upheld.{IsUpheld, AreRestorable, AreFree, turned_step}
 use Rattle.route_session.proofs.Steps.{restorable, free}
@@ -167,8 +166,7 @@ module _ (scene : Scene) (graph : Drawing) (book : List Answer) (log : Log Excha
   with_transaction t began = record { valid = up.valid; floor = up.floor; fits = up.fits; right = up.right; history = up.history; begun = began }
 
 -- what a repair writes between the floors of scenes
-pub scenes_written : (f g : Floor) (s t : Scene) (before after : ℕ) → f ≡ floor_of s → g ≡ floor_of t → (n : ℕ) × IsWriteCount f g n × (after ≡ written_by n before)
-    → (n : ℕ) × IsWriteCount (floor_of s) (floor_of t) n × (after ≡ written_by n before)
+pub scenes_written : (f g : Floor) (s t : Scene) (before after : ℕ) → f ≡ floor_of s → g ≡ floor_of t → CountsWrites f g before after → CountsWrites (floor_of s) (floor_of t) before after
 scenes_written f g s t before after is_f is_g h = (h.0, subst (λ x. IsWriteCount x (floor_of t) h.0) is_f (subst (λ x. IsWriteCount f x h.0) is_g h.1), h.2)
 
 twice_not : (b : Bool) → b ≡ not (not b)

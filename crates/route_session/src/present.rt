@@ -1,12 +1,11 @@
 //! The present scene with its graph and its book.
-ghost use Rattle.std.specs.Prelude.{◌≡◌, ◌≤◌, ℕ, List, true, IfOk, OnErr, OnOk, length};
+ghost use Rattle.std.specs.Prelude.{◌≡◌, ◌≤◌, ℕ, true, IfOk, OnErr, OnOk};
 ghost use Rattle.plane_geom.specs.Floor.{IsFloor};
-ghost use Rattle.graph_repair.specs.Change.{IsWriteCount, LeadsFrom};
-ghost use Rattle.route_book.specs.Exchange.{turned};
+ghost use Rattle.graph_repair.specs.Change.{CountsWrites, LeadsFrom};
+ghost use Rattle.route_book.specs.Exchange.{CountsStale, turned};
 ghost use Rattle.route_search.specs.Finds.{counted_by};
 ghost use Rattle.scene_model.specs.Answers.{AreAnswers};
 ghost use Rattle.scene_model.specs.Routing.{floor_of};
-ghost use Rattle.scene_model.specs.Stale.{AreStale};
 ghost use Rattle.visibility_graph.specs.Meeting.{counted_by as written_by};
 
 use graph_repair::{Repair, apply, plan, revert};
@@ -37,7 +36,7 @@ impl Present {
         ensures tally { self.new.tally ≡ self.old.tally }
         ensures floor { OnOk result (self.new.graph.floor ≡ floor_of other.now) }
         ensures fits { IsFloor self.new.graph.floor }
-        ensures written { OnOk result ((n : ℕ) × IsWriteCount self.old.graph.floor self.new.graph.floor n × (self.new.graph.arena.written ≡ written_by n self.old.graph.arena.written)) }
+        ensures written { OnOk result (CountsWrites self.old.graph.floor self.new.graph.floor self.old.graph.arena.written self.new.graph.arena.written) }
         ensures leads { IfOk result (λ r. LeadsFrom self.new.graph r) }
         ensures applied { IfOk result (λ r. r.applied ≡ true) }
         ensures back { IfOk result (λ r. r.floor ≡ self.old.graph.floor) }
@@ -69,8 +68,8 @@ impl Present {
         ensures there { IfOk result (λ c. AreAnswers other.now c.there) }
         ensures fits { IsFloor self.new.graph.floor }
         ensures floor { OnOk result (self.new.graph.floor ≡ floor_of other.now) }
-        ensures written { OnOk result ((n : ℕ) × IsWriteCount self.old.graph.floor self.new.graph.floor n × (self.new.graph.arena.written ≡ written_by n self.old.graph.arena.written)) }
-        ensures tally { OnOk result ((numbers : List ℕ) × AreStale self.old.scene self.old.book other.now numbers × (self.new.tally ≡ counted_by (length numbers) self.old.tally)) }
+        ensures written { OnOk result (CountsWrites self.old.graph.floor self.new.graph.floor self.old.graph.arena.written self.new.graph.arena.written) }
+        ensures tally { OnOk result (CountsStale self.old.scene self.old.book other.now self.old.tally self.new.tally) }
         ensures err_floor { OnErr result (self.new.graph.floor ≡ self.old.graph.floor) }
         ensures err_written { OnErr result ((n : ℕ) × (self.new.graph.arena.written ≡ written_by n self.old.graph.arena.written)) }
         ensures err_tally { OnErr result ((n : ℕ) × (self.new.tally ≡ counted_by n self.old.tally)) }

@@ -1,12 +1,13 @@
 //! The session: what an editor embeds.
-ghost use Rattle.std.specs.Prelude.{◌≡◌, ◌≢◌, ◌+◌, ◌≤◌, ℕ, List, Err, Ok, IfErr, IfOk, IfSome, IsErrOf, IsSome, OnErr, OnOk, is_some, length, map, slice_get};
+ghost use Rattle.std.specs.Prelude.{◌≡◌, ◌≢◌, ◌+◌, ◌≤◌, ℕ, Err, Ok, IfErr, IfOk, IfSome, IsErrOf, IsSome, OnErr, OnOk, is_some, length, map, slice_get};
 ghost use Rattle.std.specs.FinMap.{len};
 ghost use Rattle.line_arena.specs.Arena.{Arena};
 ghost use Rattle.line_arena.specs.Stands.{StandsFor};
-ghost use Rattle.graph_repair.specs.Change.{IsWriteCount};
+ghost use Rattle.graph_repair.specs.Change.{CountsWrites};
 ghost use Rattle.nudge_laws.specs.Apart.{KeepsApart};
 ghost use Rattle.nudge_phases.specs.Nudged.{AreLegalLines, IsNudgedScene};
 ghost use Rattle.nudge_phases.specs.Raw.{routed};
+ghost use Rattle.route_book.specs.Exchange.{CountsStale};
 ghost use Rattle.route_search.specs.Finds.{counted_by};
 ghost use Rattle.history_laws.specs.Calls.{IsFaultOf};
 ghost use Rattle.route_session.specs.Upheld.{turned_step};
@@ -14,7 +15,6 @@ ghost use Rattle.scene_model.specs.Answers.{AreAnswers};
 ghost use Rattle.scene_model.specs.Edits.{IsDirected};
 ghost use Rattle.scene_model.specs.Routing.{floor_of};
 ghost use Rattle.scene_model.specs.Scene.{connectors};
-ghost use Rattle.scene_model.specs.Stale.{AreStale};
 ghost use Rattle.scene_model.specs.World.{given_up, opened, refused, step};
 ghost use Rattle.scene_model.specs.declared.edit.Command.TheVariants as commands;
 ghost use Rattle.scene_model.specs.declared.fault.SceneFault.TheVariants as scene_faults;
@@ -168,8 +168,8 @@ impl Session {
         ensures err { OnErr result (self.new.world ≡ given_up self.old.world) }
         ensures right { AreAnswers self.new.world.present self.new.book }
         ensures book { OnErr result (self.new.book ≡ self.old.book) }
-        ensures searched { OnOk result ((numbers : List ℕ) × AreStale self.old.world.present self.old.book self.new.world.present numbers × (self.new.searched ≡ counted_by (length numbers) self.old.searched)) }
-        ensures written { OnOk result ((n : ℕ) × IsWriteCount (floor_of self.old.world.present) (floor_of self.new.world.present) n × (self.new.written ≡ written_by n self.old.written)) }
+        ensures searched { OnOk result (CountsStale self.old.world.present self.old.book self.new.world.present self.old.searched self.new.searched) }
+        ensures written { OnOk result (CountsWrites (floor_of self.old.world.present) (floor_of self.new.world.present) self.old.written self.new.written) }
         ensures refused_searched { IsErrOf result faults.NoTransaction → self.new.searched ≡ self.old.searched }
         ensures refused_written { IsErrOf result faults.NoTransaction → self.new.written ≡ self.old.written }
         ensures memory_searched { IsErrOf result faults.Memory → (n : ℕ) × (self.new.searched ≡ counted_by n self.old.searched) }
@@ -218,7 +218,7 @@ impl Session {
         ensures right { AreAnswers self.new.world.present self.new.book }
         ensures book { OnErr result (self.new.book ≡ self.old.book) }
         ensures searched { self.new.searched ≡ self.old.searched }
-        ensures written { OnOk result ((n : ℕ) × IsWriteCount (floor_of self.old.world.present) (floor_of self.new.world.present) n × (self.new.written ≡ written_by n self.old.written)) }
+        ensures written { OnOk result (CountsWrites (floor_of self.old.world.present) (floor_of self.new.world.present) self.old.written self.new.written) }
         ensures err_written { OnErr result (self.new.written ≡ self.old.written) }
     {
         if self.txn.take().is_some() {
@@ -249,7 +249,7 @@ impl Session {
         ensures right { AreAnswers self.new.world.present self.new.book }
         ensures book { OnErr result (self.new.book ≡ self.old.book) }
         ensures searched { self.new.searched ≡ self.old.searched }
-        ensures written { OnOk result ((n : ℕ) × IsWriteCount (floor_of self.old.world.present) (floor_of self.new.world.present) n × (self.new.written ≡ written_by n self.old.written)) }
+        ensures written { OnOk result (CountsWrites (floor_of self.old.world.present) (floor_of self.new.world.present) self.old.written self.new.written) }
         ensures err_written { OnErr result (self.new.written ≡ self.old.written) }
     {
         if self.txn.take().is_some() {

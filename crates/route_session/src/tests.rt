@@ -11,13 +11,6 @@ use std::thread::Threads;
 
 mod nudging;
 
-const EAST: Dirs = Dirs {
-    east: true,
-    south: false,
-    west: false,
-    north: false,
-};
-
 /// What is compared: whether a transaction is open, where the second box stands, the next edge number, the cost of the
 /// first connector's route, and both counts.
 #[derive(Clone, Copy, Debug, PartialEq, Eq)]
@@ -50,7 +43,7 @@ fn small_scene(alloc: Global) -> Result<Scene, SceneFault> {
     scene.add_node(1, 0, 0, 20_000, 20_000)?;
     scene.add_node(2, 100_000, 0, 20_000, 20_000)?;
     scene.add_node(3, 200_000, 0, 20_000, 20_000)?;
-    scene.add_pin(1, 7, 10_000, 0, EAST)?;
+    scene.add_pin(1, 7, 10_000, 0, Dirs::EAST)?;
     scene.add_edge(1, 2, 7, 0)?;
     scene.add_via(1, 1, 40_000, 0)?;
     scene.add_via(1, 2, 60_000, 0)?;
@@ -125,7 +118,7 @@ fn size(id: i64, w: i64) -> Edit
 fn pin(id: i64, class: u32, dx: i64) -> Edit
     ensures { IsDirected result }
 {
-    let (dy, dirs) = (0, EAST);
+    let (dy, dirs) = (0, Dirs::EAST);
     Edit::AddPin {
         id,
         class,

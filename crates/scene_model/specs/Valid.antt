@@ -35,6 +35,12 @@ pub record IsNode (n : Node) : Type 0 where
   pub y : unsigned_abs n.y + unsigned_abs n.half_h ≤ 10 ^ 9
   pub pins : All (IsPin n.half_w n.half_h) n.pins
 
+-- the pin lies on the node's box, and costs no more than a pin may
+pub record IsPlaced (n : Node) (p : Pin) : Type 0 where
+  pub x : unsigned_abs p.dx ≤ unsigned_abs n.half_w
+  pub y : unsigned_abs p.dy ≤ unsigned_abs n.half_h
+  pub cost : unsigned_abs p.cost ≤ 10 ^ 9
+
 -- nothing but its ends is said of a loop
 pub record IsPlain (e : Edge) : Type 0 where
   pub from_class : e.from_class ≡ 0

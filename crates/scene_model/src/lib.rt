@@ -11,6 +11,7 @@ mod limits;
 mod node;
 mod pin;
 mod settings;
+mod shape;
 
 pub use edge::{Edge, Via};
 pub use edit::{Command, Edit, Edits, Inverse, Inverses};

@@ -18,6 +18,46 @@ impl Dirs {
     ghost use Rattle.scene_model.specs.Letters.{dirs_of};
     ghost use Rattle.scene_model.specs.LetterSteps.{with_letter};
 
+    /// All four directions.
+    pub const ALL: Dirs = Dirs {
+        east: true,
+        south: true,
+        west: true,
+        north: true,
+    };
+
+    /// East alone.
+    pub const EAST: Dirs = Dirs {
+        east: true,
+        south: false,
+        west: false,
+        north: false,
+    };
+
+    /// South alone.
+    pub const SOUTH: Dirs = Dirs {
+        east: false,
+        south: true,
+        west: false,
+        north: false,
+    };
+
+    /// West alone.
+    pub const WEST: Dirs = Dirs {
+        east: false,
+        south: false,
+        west: true,
+        north: false,
+    };
+
+    /// North alone.
+    pub const NORTH: Dirs = Dirs {
+        east: false,
+        south: false,
+        west: false,
+        north: true,
+    };
+
     /// The directions that one to four different letters of E, S, W and N spell; none where the letters are not of
     /// this form. It looks at no letter behind the first that is none of these or stands there twice.
     pub fn from_letters(letters: &[u8]) -> Option<Dirs>
@@ -67,6 +107,17 @@ pub struct Pin {
     pub dirs: Dirs,
     /// What using the pin adds to the cost of a route, at most 10^9.
     pub cost: i64,
+}
+
+impl Pin {
+    /// The pin of class 0, which each node has at its centre.
+    pub const CENTRE: Pin = Pin {
+        class: 0,
+        dx: 0,
+        dy: 0,
+        dirs: Dirs::ALL,
+        cost: 0,
+    };
 }
 
 /// One of the pins has the class.

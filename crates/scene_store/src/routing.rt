@@ -1,70 +1,15 @@
 //! What routing sees of a scene: its floor, and the tasks of its connectors.
-ghost use Rattle.std.specs.Prelude.{◌≡◌, ◌^◌, ◌≤◌, ◌+◌, ◌+ℤ◌, ◌-ℤ◌, ◌++◌, [], ◌∷◌, unsigned_abs, map, if◌then◌else◌, IsSome, IfSome, IfOk, OnOk};
+ghost use Rattle.std.specs.Prelude.{◌≡◌, ◌++◌, [], ◌∷◌, map, if◌then◌else◌, IsSome, IfSome, IfOk, OnOk};
 ghost use Rattle.std.specs.List.{flat_map};
-ghost use Rattle.scene_model.specs.Routing.{anchors, buffered_box, centre_pin, choice, choices_of, choices_with, directions, floor_of, pins_of_class, place_of, port, solids, task_of};
+ghost use Rattle.scene_model.specs.Routing.{anchors, centre_pin, choice, choices_of, choices_with, directions, floor_of, pins_of_class, port, solids, task_of};
 ghost use Rattle.scene_model.specs.Scene.{connectors, edge_with, node_with};
-ghost use Rattle.scene_model.specs.Valid.{AreSettings, IsNode, IsValid};
+ghost use Rattle.scene_model.specs.Valid.{AreSettings, IsNode, IsPlaced, IsValid};
 
 use crate::parts::Parts;
-use plane_geom::{Dir, Floor, Point, Points, Rect, Solid, Solids};
-use scene_model::{Dirs, Node, Pin, Settings};
+use plane_geom::{Dir, Floor, Point, Points, Rect, Solids};
+use scene_model::{Node, Pin, Settings};
 use std::alloc::{AllocError, Global};
 use walk_model::{Choice, Choices, Task};
-
-/// The lesser side of a box with this centre and half size, moved out by the buffer.
-fn low_side(centre: i64, half: i64, buffer: i64) -> i64
-    requires near { unsigned_abs centre + unsigned_abs half ≤ 10 ^ 9 }
-    requires small { unsigned_abs buffer ≤ 10 ^ 6 }
-    ensures { result ≡ (centre -ℤ half) -ℤ buffer }
-{
-    centre - half - buffer
-}
-
-/// The greater side.
-fn high_side(centre: i64, half: i64, buffer: i64) -> i64
-    requires near { unsigned_abs centre + unsigned_abs half ≤ 10 ^ 9 }
-    requires small { unsigned_abs buffer ≤ 10 ^ 6 }
-    ensures { result ≡ (centre +ℤ half) +ℤ buffer }
-{
-    centre + half + buffer
-}
-
-/// The node's box grown by the buffer.
-fn buffered_box(settings: Settings, node: &Node) -> Rect
-    requires settings { AreSettings settings }
-    requires node { IsNode node.now }
-    ensures { result ≡ buffered_box settings.buffer node.now }
-{
-    let buffer = settings.buffer;
-    Rect {
-        left: low_side(node.x, node.half_w, buffer),
-        top: low_side(node.y, node.half_h, buffer),
-        right: high_side(node.x, node.half_w, buffer),
-        bottom: high_side(node.y, node.half_h, buffer),
-    }
-}
-
-/// The coordinate moved by so much.
-fn moved(coordinate: i64, by: i64) -> i64
-    requires near { unsigned_abs coordinate ≤ 10 ^ 9 }
-    requires near_by { unsigned_abs by ≤ 10 ^ 9 }
-    ensures { result ≡ coordinate +ℤ by }
-{
-    coordinate + by
-}
-
-/// Where the pin of the node stands.
-fn place_of(node: &Node, pin: Pin) -> Point
-    requires node { IsNode node.now }
-    requires near_x { unsigned_abs pin.dx ≤ 10 ^ 9 }
-    requires near_y { unsigned_abs pin.dy ≤ 10 ^ 9 }
-    ensures { result ≡ place_of node.now pin }
-{
-    Point {
-        x: moved(node.x, pin.dx),
-        y: moved(node.y, pin.dy),
-    }
-}
 
 /// Where the straight line from the place meets the edge of the rectangle.
 fn port(rect: Rect, place: Point, dir: Dir) -> Point
@@ -90,38 +35,19 @@ fn port(rect: Rect, place: Point, dir: Dir) -> Point
     }
 }
 
-/// The pin of class 0.
-fn centre_pin() -> Pin
-    ensures { result ≡ centre_pin }
-{
-    Pin {
-        class: 0,
-        dx: 0,
-        dy: 0,
-        dirs: Dirs {
-            east: true,
-            south: true,
-            west: true,
-            north: true,
-        },
-        cost: 0,
-    }
-}
-
 /// A pin of the node with one of its directions.
 fn choice(settings: Settings, node: &Node, pin: Pin, dir: Dir) -> Choice
     requires settings { AreSettings settings }
     requires node { IsNode node.now }
-    requires near_x { unsigned_abs pin.dx ≤ 10 ^ 9 }
-    requires near_y { unsigned_abs pin.dy ≤ 10 ^ 9 }
+    requires pin { IsPlaced node.now pin }
     ensures { result ≡ choice settings.buffer node.now pin dir }
 {
-    let place = place_of(node, pin);
+    let place = node.place_of(pin);
     Choice {
         node: node.id,
         pin: place,
         dir,
-        port: port(buffered_box(settings, node), place, dir),
+        port: port(node.buffered_rect(settings), place, dir),
         cost: pin.cost.unsigned_abs(),
     }
 }
@@ -145,8 +71,7 @@ fn push_choices(
 ) -> Result<(), AllocError>
     requires settings { AreSettings settings }
     requires node { IsNode node.now }
-    requires near_x { unsigned_abs pin.dx ≤ 10 ^ 9 }
-    requires near_y { unsigned_abs pin.dy ≤ 10 ^ 9 }
+    requires pin { IsPlaced node.now pin }
     ensures { OnOk result (choices.new.items ≡ choices.old.items ++ map (choice settings.buffer node.now pin) (directions pin.dirs)) }
 {
     let east = choice(settings, node, pin, Dir::East);
@@ -172,11 +97,7 @@ fn choices_of_class(
     ensures { IfOk result (λ c. c ≡ choices_of settings.buffer node.now (pins_of_class node.now class)) }
 {
     let mut choices = Vec::new(alloc);
-    if class == 0 {
-        push_choices(settings, node, centre_pin(), &mut choices)?;
-        return Ok(Choices(choices));
-    }
-    for pin in node.pins.as_slice() {
+    for pin in node.pins_among(class) {
         if pin.class == class {
             push_choices(settings, node, *pin, &mut choices)?;
         }
@@ -194,7 +115,7 @@ fn push_all_choices(
     requires node { IsNode node.now }
     ensures { OnOk result (choices.new.items ≡ choices.old.items ++ choices_of settings.buffer node.now (centre_pin ∷ node.now.pins)) }
 {
-    push_choices(settings, node, centre_pin(), choices)?;
+    push_choices(settings, node, Pin::CENTRE, choices)?;
     for pin in node.pins.as_slice() {
         push_choices(settings, node, *pin, choices)?;
     }
@@ -209,12 +130,8 @@ impl Parts {
     {
         let mut solids = Vec::new(self.alloc);
         for node in self.nodes.as_slice() {
-            if !node.group {
-                let rect = buffered_box(self.settings, node);
-                solids.push(Solid {
-                    node: node.id,
-                    rect,
-                })?;
+            if let Some(solid) = node.solid(self.settings) {
+                solids.push(solid)?;
             }
         }
         Ok(Solids(solids))

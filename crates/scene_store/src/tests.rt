@@ -7,13 +7,6 @@ use plane_geom::{Dir, Point, Rect, Solid};
 use std::alloc::Global;
 use walk_model::{Choice, Task};
 
-const EAST: Dirs = Dirs {
-    east: true,
-    south: false,
-    west: false,
-    north: false,
-};
-
 /// Two boxes, three pins, two edges and a checkpoint.
 const SMALL: [Edit; 8] = [
     Edit::AddNode {
@@ -35,21 +28,21 @@ const SMALL: [Edit; 8] = [
         class: 7,
         dx: 10_000,
         dy: 0,
-        dirs: EAST,
+        dirs: Dirs::EAST,
     },
     Edit::AddPin {
         id: 1,
         class: 7,
         dx: 0,
         dy: 10_001,
-        dirs: EAST,
+        dirs: Dirs::EAST,
     },
     Edit::AddPin {
         id: 1,
         class: 8,
         dx: 0,
         dy: 0,
-        dirs: EAST,
+        dirs: Dirs::EAST,
     },
     Edit::AddEdge {
         from: 1,
@@ -230,7 +223,7 @@ const REFUSALS: [(Edit, Option<SceneFault>); 42] = [
             class: 65536,
             dx: 99999,
             dy: 0,
-            dirs: EAST,
+            dirs: Dirs::EAST,
         },
         Some(SceneFault::OutOfRange { word: 3 }),
     ),
@@ -240,7 +233,7 @@ const REFUSALS: [(Edit, Option<SceneFault>); 42] = [
             class: 65535,
             dx: 10000,
             dy: -10001,
-            dirs: EAST,
+            dirs: Dirs::EAST,
         },
         None,
     ),
@@ -250,7 +243,7 @@ const REFUSALS: [(Edit, Option<SceneFault>); 42] = [
             class: 1,
             dx: 0,
             dy: -10002,
-            dirs: EAST,
+            dirs: Dirs::EAST,
         },
         Some(SceneFault::PinOutside { place: 4 }),
     ),
@@ -440,7 +433,7 @@ const LIMITS: [(Edit, Option<SceneFault>); 5] = [
             class: 1,
             dx: 9,
             dy: 9,
-            dirs: EAST,
+            dirs: Dirs::EAST,
         },
         Some(SceneFault::TooMany { limit: 256 }),
     ),
@@ -628,7 +621,7 @@ fn edit_all_twice(scene: &mut Scene, edits: &[Edit]) -> Result<(), SceneFault> {
 fn add_nodes(scene: &mut Scene) -> Result<(), SceneFault> {
     for id in 0..256 {
         scene.add_node(id, id, 0, 0, 0)?;
-        scene.add_pin(id, 1, 0, 0, EAST)?;
+        scene.add_pin(id, 1, 0, 0, Dirs::EAST)?;
     }
     Ok(())
 }

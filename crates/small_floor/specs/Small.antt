@@ -1,5 +1,5 @@
 -- A floor made of plain numbers.
-use Rattle.std.specs.Prelude.{ℤ, pos, List, Option, Some, None, ◌&&◌, cond, filter_map, int_lt, map, take}
+use Rattle.std.specs.Prelude.{ℕ, ◌+◌, ◌*◌, ◌/◌, ◌%◌, ℤ, pos, List, Option, Some, None, ◌&&◌, cond, filter_map, int_lt, map, take}
 use Rattle.std.specs.Int.{int_max, int_min}
 use Rattle.plane_geom.specs.declared.point.Point.{Point}
 use Rattle.plane_geom.specs.declared.rect.Rect.{Rect}
@@ -30,3 +30,7 @@ clamped_point place = record { x = clamped place.0; y = clamped place.1 }
 -- the floor of the first 256 rectangles, as far as they have an inside, and of the first 256 anchors
 abbrev pub small_floor : List (ℤ × ℤ × ℤ × ℤ) → List (ℤ × ℤ) → Floor
 small_floor rects anchors = record { solids = filter_map solid_of_sides (take 256 rects); anchors = map clamped_point (take 256 anchors) }
+
+-- one of many rectangles that do not touch, in rows of sixteen and of different sizes
+abbrev pub tile : ℕ → ℤ × ℤ × ℤ × ℤ
+tile n = (pos (40 * (n % 16)), pos (30 * (n / 16)), pos (40 * (n % 16) + (20 + n % 7)), pos (30 * (n / 16) + (15 + n % 5)))

@@ -1,7 +1,7 @@
 //! The floor of a few rectangles and anchors.
 ghost use Rattle.std.specs.Prelude.{◌≡◌, IfOk, filter_map, map, take};
 ghost use Rattle.plane_geom.specs.Floor.{IsFloor};
-ghost use Rattle.small_floor.specs.Small.{clamped, clamped_point, small_floor, solid_of_sides};
+ghost use Rattle.small_floor.specs.Small.{clamped, clamped_point, small_floor, solid_of_sides, tile};
 
 use plane_geom::{Floor, Point, Points, Rect, SHEET_END, SHEET_START, Solid, Solids};
 use std::alloc::{AllocError, Global};
@@ -30,6 +30,17 @@ pub fn small_floor(
         solids: Solids(solids),
         anchors: Points(anchors),
     })
+}
+
+/// One of many rectangles that do not touch, in rows of sixteen and of different sizes.
+///
+/// Its left is 40 times its place in the row, its top 30 times its row; it is 20 to 26 wide and 15 to 19 high.
+pub fn tile(number: u8) -> Sides
+    ensures { result ≡ tile number }
+{
+    let (left, top) = (i64::from(number % 16) * 40, i64::from(number / 16) * 30);
+    let (width, height) = (20 + i64::from(number % 7), 15 + i64::from(number % 5));
+    (left, top, left + width, top + height)
 }
 
 /// The first 256, or all where there are fewer.
@@ -106,6 +117,13 @@ mod tests {
             bottom,
         };
         Solid { node: 0, rect }
+    }
+
+    #[test]
+    fn lays_tiles(rt: HostRuntime) {
+        assert_eq!(rt; tile(0), (0, 0, 20, 15));
+        assert_eq!(rt; tile(17), (40, 30, 63, 47));
+        assert_eq!(rt; tile(255), (600, 450, 623, 465));
     }
 
     #[test]

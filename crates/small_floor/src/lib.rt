@@ -5,4 +5,4 @@
 
 mod floor;
 
-pub use floor::{Sides, small_floor};
+pub use floor::{Sides, small_floor, tile};

@@ -1,7 +1,7 @@
 //! Counts of lines and crossings on small floors and a large one, and each public call once.
 use crate::{Graph, GraphParts};
 use plane_geom::{Line, Point, SHEET_END, SHEET_START, Way};
-use small_floor::{Sides, small_floor};
+use small_floor::{Sides, small_floor, tile};
 use std::alloc::{AllocError, Global};
 use std::test::Fail;
 
@@ -42,13 +42,6 @@ fn counts_lines_and_crossings(rt: HostRuntime) -> Result<(), Fail> {
     ];
     assert_eq!(rt; size(alloc, &rects, &[])?, 7 + 10);
     Ok(())
-}
-
-/// One of many solids in rows of sixteen, of different sizes.
-fn tile(number: u8) -> Sides {
-    let (left, top) = (i64::from(number % 16) * 40, i64::from(number / 16) * 30);
-    let (width, height) = (20 + i64::from(number % 7), 15 + i64::from(number % 5));
-    (left, top, left + width, top + height)
 }
 
 #[test]

@@ -13,20 +13,8 @@ ghost use Rattle.channel_bundles.specs.Fixtures.{IsMovable};
 ghost use Rattle.channel_bundles.specs.Links.{IsNudge};
 
 use crate::PhaseRoute;
-use plane_geom::{Dir, Point, Rect, SHEET_END, SHEET_START, Solid, Way};
+use plane_geom::{Dir, Point, Rect, Solid, Way, is_coordinate};
 use segment_order::Run;
-
-fn is_coordinate(z: i64) -> bool
-    ensures { IsTrue result → IsCoordinate z }
-{
-    SHEET_START <= z && z <= SHEET_END
-}
-
-fn is_on_sheet(p: Point) -> bool
-    ensures { IsTrue result → PointIsOnSheet p }
-{
-    is_coordinate(p.x) && is_coordinate(p.y)
-}
 
 fn are_coordinates(first: i64, last: i64) -> bool
     ensures first { IsTrue result → IsCoordinate first }
@@ -145,7 +133,7 @@ fn are_joined(runs: &[Run]) -> bool
 fn are_on_sheet(points: &[Point]) -> bool
     ensures { IsTrue result → All PointIsOnSheet points.now }
 {
-    points.iter().all(|p| is_on_sheet(*p))
+    points.iter().all(|p| p.is_on_sheet())
 }
 
 fn is_phase_route(route: &PhaseRoute) -> bool
@@ -156,8 +144,8 @@ fn is_phase_route(route: &PhaseRoute) -> bool
         && are_joined(&route.runs);
     let anchors = &route.anchors;
     let are_within = are_on_sheet(&anchors.via)
-        && is_on_sheet(anchors.source_port)
-        && is_on_sheet(anchors.target_port);
+        && anchors.source_port.is_on_sheet()
+        && anchors.target_port.is_on_sheet();
     are_runs && are_within && 1 <= route.weight && route.weight <= 4
 }
 

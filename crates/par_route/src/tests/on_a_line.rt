@@ -1,14 +1,14 @@
 //! Tasks whose ends lie along one line, where walks tie and stubs are under way past the ports of others.
 ghost use Rattle.std.specs.Prelude.{◌≡◌, ◌<◌, ◌≤◌, ◌^◌, [], All, Contains, IfOk, IsTrue, length};
 ghost use Rattle.plane_geom.specs.Floor.{IsFloor};
-ghost use Rattle.plane_geom.specs.Point.{IsCoordinate, PointIsOnSheet};
+ghost use Rattle.plane_geom.specs.Point.{PointIsOnSheet};
 ghost use Rattle.walk_model.specs.Choice.{AreChoices, IsChoice};
 ghost use Rattle.walk_model.specs.Floors.{HasAnchorsOf};
 ghost use Rattle.walk_model.specs.Legal.{IsTask};
 
 use super::{Corner, are_same, corners};
 use plane_geom::Dir::{East, North, South, West};
-use plane_geom::{Dir, Floor, Point, Points, SHEET_END, SHEET_START, Solids};
+use plane_geom::{Dir, Floor, Point, Points, Solids};
 use route_search::{Tally, find_first};
 use std::alloc::{AllocError, Global};
 use std::test::Fail;
@@ -332,22 +332,10 @@ fn floor(alloc: Global, task: &Task) -> Result<Floor, AllocError>
     })
 }
 
-fn is_coordinate(z: i64) -> bool
-    ensures { IsTrue result → IsCoordinate z }
-{
-    SHEET_START <= z && z <= SHEET_END
-}
-
-fn is_on_sheet(p: Point) -> bool
-    ensures { IsTrue result → PointIsOnSheet p }
-{
-    is_coordinate(p.x) && is_coordinate(p.y)
-}
-
 fn are_on_sheet(points: &[Point]) -> bool
     ensures { IsTrue result → All PointIsOnSheet points.now }
 {
-    points.iter().all(|p| is_on_sheet(*p))
+    points.iter().all(|p| p.is_on_sheet())
 }
 
 /// Whether the task is one that a search may be handed: it has few choices and checkpoints.

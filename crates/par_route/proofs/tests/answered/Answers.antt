@@ -1,13 +1,15 @@
 -- Each idle task may be searched on the empty graph.
-use Rattle.std.proofs.Common.{[]}
+use Rattle.std.proofs.Common.{◌≡◌, []}
 use Rattle.std.proofs.lemmas.List.Elements.{All-weaker}
-use Rattle.par_route.specs.Routes.{IsIdle, MayBeSearched}
+use Rattle.walk_model.specs.declared.task.Task.{Task}
+use Rattle.walk_model.specs.Legal.{idle_task}
+use Rattle.par_route.specs.Routes.{MayBeSearched}
 use Rattle.par_route.proofs.Idle.{idle_may_be_searched}
 use Rattle.par_route.proofs.tests.answered.Goals as goal
 
 pub route_all-requires-clause-tasks : goal.route_all-requires-clause-tasks
 route_all-requires-clause-tasks g c κs within =
     rw c.deref.ensures.value
-    (All-weaker IsIdle (MayBeSearched c.arena.result.now [])
+    (All-weaker (λ (t : Task). t ≡ idle_task) (MayBeSearched c.arena.result.now [])
     (λ t idle. idle_may_be_searched c.empty-graph.result.floor c.arena.result.now t c.empty-graph.ensures.solids c.empty-graph.ensures.anchors c.arena.ensures.stands idle)
     c.in_ok-tasks.tasks.items c.in_ok-tasks.ensures)

@@ -9,8 +9,8 @@ use Rattle.route_book.proofs.Same.{solid_same}
 use Rattle.route_book.proofs.Solids.{node_found, no_solid, solid_of_found}
 use Rattle.route_book.proofs.shapes.has_solid.Goals as goal
 
-pub solid_of-requires-clause-node : goal.solid_of-requires-clause-node
-solid_of-requires-clause-node c = node_found c.args.scene.now _ c.in-Some.node.now c.settings-settings.ensures.valid (sym c.in-Some.ensures)
+pub solid-requires-clause-node : goal.solid-requires-clause-node
+solid-requires-clause-node c = node_found c.args.scene.now _ c.in-Some.node.now c.settings-settings.ensures.valid (sym c.in-Some.ensures)
 
 pub returns-in_default : goal.returns-in_default
 returns-in_default c =
@@ -21,14 +21,14 @@ returns-in_default c =
       λ has. absurd (no_solid s x (ap (node_with s) same ∙ sym c.in_default.ensures) has),
     )
 
-pub returns-in_default-solid_of : goal.returns-in_default-solid_of
-returns-in_default-solid_of c =
+pub returns-in_default-solid : goal.returns-in_default-solid
+returns-in_default-solid c =
     let s = c.args.scene.now in
     let x = c.args.solid in
     let n = c.in-Some.node.now in
     let same : x.node ≡ to_z w64 (of_z w64 x.node) = omega (arith, ints) in
     let tells = solid_of_found s x n None c.settings-settings.ensures.valid (ap (node_with s) same ∙ sym c.in-Some.ensures)
-    (c.in_default-solid_of.ensures ∙ ap (λ (t : Settings). solid_of t.buffer n) c.settings-settings.ensures.value) in (
+    (c.in_default-solid.ensures ∙ ap (λ (t : Settings). solid_of t.buffer n) c.settings-settings.ensures.value) in (
       λ h. absurd (true≢false (sym h)),
       λ has. let none = tells.1 has in absurd (cc),
     )
@@ -38,10 +38,10 @@ returns c =
     let s = c.args.scene.now in
     let x = c.args.solid in
     let n = c.in-Some.node.now in
-    let own = c.in-Some-solid_of.own in
+    let own = c.in-Some-solid.own in
     let same : x.node ≡ to_z w64 (of_z w64 x.node) = omega (arith, ints) in
     let tells = solid_of_found s x n (Some own) c.settings-settings.ensures.valid (ap (node_with s) same ∙ sym c.in-Some.ensures)
-    (c.in-Some-solid_of.ensures ∙ ap (λ (t : Settings). solid_of t.buffer n) c.settings-settings.ensures.value) in
+    (c.in-Some-solid.ensures ∙ ap (λ (t : Settings). solid_of t.buffer n) c.settings-settings.ensures.value) in
     let test = Decides-at c.eq.result _ c.eq.ensures (solid_same own x) in (
       λ h. tells.0 (ap (λ z. Some z) (test.0 h)),
       λ has. let is = tells.1 has in test.1 (cc),

@@ -13,7 +13,7 @@ use Rattle.scene_model.specs.Stale.{IsRemoved}
 use Rattle.route_book.proofs.Picks.{past_end}
 use Rattle.route_book.proofs.Solids.{ListsRemoved, lists_more, lists_same, own_solid}
 use Rattle.route_book.proofs.shapes.removed.Goals as goal
-use Rattle.route_book.proofs.shapes.removed.Goals.{in-Some-solid_of+then-not-has_solid+in_ok-push, in-Some-solid_of+else-not-has_solid, in_default-solid_of}
+use Rattle.route_book.proofs.shapes.removed.Goals.{in-Some-solid+then-not-has_solid+in_ok-push, in-Some-solid+else-not-has_solid, in_default-solid}
 
 pub loop-node-preserved : goal.loop-node-preserved
 loop-node-preserved c =
@@ -26,24 +26,24 @@ loop-node-preserved c =
     let settings = sym c.settings-settings.ensures.value in
     let lt = slice_get_within old.nodes i n at in
     let more : i + 1 ≤ length old.nodes = omega arith in
-    elim c.match-solid_of.branch [
-      | in-Some-solid_of+then-not-has_solid+in_ok-push w ↦
-          let x : Solid = w.in-Some-solid_of.solid in
-          let own : solid_of old.settings.buffer n ≡ x ∷ [] = ap (λ (t : Settings). solid_of t.buffer n) settings ∙ sym w.in-Some-solid_of.ensures in
+    elim c.match-solid.branch [
+      | in-Some-solid+then-not-has_solid+in_ok-push w ↦
+          let x : Solid = w.in-Some-solid.solid in
+          let own : solid_of old.settings.buffer n ≡ x ∷ [] = ap (λ (t : Settings). solid_of t.buffer n) settings ∙ sym w.in-Some-solid.ensures in
           let went : IsRemoved old new x = record { was = own_solid old i n x at own; gone = λ has. true≢false (sym (w.has_solid.ensures.1 has) ∙ w.if-not-has_solid.true) } in
-          let e : c.match-solid_of.removed.items ≡ c.loop-node.removed.items ++ x ∷ [] = rw w.removed-is w.in_ok-push.ensures.items in (
+          let e : c.match-solid.removed.items ≡ c.loop-node.removed.items ++ x ∷ [] = rw w.removed-is w.in_ok-push.ensures.items in (
             subst (All (IsRemoved old new)) (sym e) (All-push (IsRemoved old new) c.loop-node.removed.items x kept.0 went),
             subst (ListsRemoved old new (take (i + 1) old.nodes)) (sym e) (lists_more old new i n x c.loop-node.removed.items at own kept.1),
             more,
           )
-      | in-Some-solid_of+else-not-has_solid w ↦
-          let x : Solid = w.in-Some-solid_of.solid in
-          let own : solid_of old.settings.buffer n ≡ x ∷ [] = ap (λ (t : Settings). solid_of t.buffer n) settings ∙ sym w.in-Some-solid_of.ensures in
+      | in-Some-solid+else-not-has_solid w ↦
+          let x : Solid = w.in-Some-solid.solid in
+          let own : solid_of old.settings.buffer n ≡ x ∷ [] = ap (λ (t : Settings). solid_of t.buffer n) settings ∙ sym w.in-Some-solid.ensures in
           let stays : (s : Solid) → Contains (solid_of old.settings.buffer n) s → Contains (solids new) s = λ s has.
           All-contains (Contains (solids new)) (x ∷ []) s (All-push (Contains (solids new)) [] x (All-nil (Contains (solids new))) (w.has_solid.ensures.0 w.if-not-has_solid.false)) (subst (λ (l : List Solid). Contains l s) own has) in
           (rw w.removed-is kept.0, rw w.removed-is (lists_same old new i n c.loop-node.removed.items at stays kept.1), more)
-      | in_default-solid_of w ↦
-          let none : solid_of old.settings.buffer n ≡ [] = ap (λ (t : Settings). solid_of t.buffer n) settings ∙ sym w.in_default-solid_of.ensures in
+      | in_default-solid w ↦
+          let none : solid_of old.settings.buffer n ≡ [] = ap (λ (t : Settings). solid_of t.buffer n) settings ∙ sym w.in_default-solid.ensures in
           let stays : (s : Solid) → Contains (solid_of old.settings.buffer n) s → Contains (solids new) s = λ s has.
           let some = subst (λ (l : List Solid). Contains l s) none has in let within : some.0 < 0 = some.1 in absurd (omega (arith, within)) in
           (rw w.removed-is kept.0, rw w.removed-is (lists_same old new i n c.loop-node.removed.items at stays kept.1), more)

@@ -1,10 +1,15 @@
 -- A task without choices may be searched on the empty graph.
+use Rattle.std.proofs.Common.{[], sym, subst}
+use Rattle.walk_model.specs.declared.task.Task.{Task}
+use Rattle.move_model.specs.Problems.{IsProblem}
 use Rattle.route_search.proofs.Idle.{idle_is_problem}
 use Rattle.route_search.proofs.tests.counts_a_search.Goals as goal
 
 pub find_first-requires : goal.find_first-requires
 find_first-requires g c =
     let floor = c.empty-graph.result.floor in
-    let graph = c.empty-graph.ensures in
-    let task = c.idle_task-task.ensures in
-    (floor, idle_is_problem floor c.arena.result.now c.idle_task-task.result graph.solids graph.anchors c.arena.ensures.stands task.starts task.ends task.via task.penalty)
+    let graph = c.empty-graph.ensures in (
+      floor,
+      subst (λ (t : Task). IsProblem floor c.arena.result.now [] t) (sym c.idle-task.ensures)
+          (idle_is_problem floor c.arena.result.now graph.solids graph.anchors c.arena.ensures.stands),
+    )

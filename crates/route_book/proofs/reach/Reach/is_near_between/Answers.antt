@@ -15,19 +15,19 @@ no_pin = record { class = 0; dx = pos 0; dy = pos 0; dirs = record { east = fals
 
 pub returns-then-is_near_from : goal.returns-then-is_near_from
 returns-then-is_near_from c =
-    let pins : List Pin = c.pins_with-start-items.result.now in
+    let pins : List Pin = c.pins_among-start-items.result.now in
     let i = c.loop-start.start-index in
     let class = c.args.self.now.edge.now.from_class in
     let p : Pin = get_or pins i no_pin in
     let lt : i < length pins = c.loop-start-test.true in
     let has : Contains (filter (λ q. q.class == class) pins) p = one_passing (λ q. q.class == class) pins i p lt (get_or_default pins i no_pin p lt) (eq-eqb p.class class c.if-start-class.true) in (
-      λ _. record { start = p; is_start = subst (λ (ps : List Pin). Contains ps p) c.pins_with-start-items.ensures.class has; near = c.is_near_from.ensures.0 c.if-is_near_from.true },
+      λ _. record { start = p; is_start = subst (λ (ps : List Pin). Contains ps p) c.pins_among-start-items.ensures.class has; near = c.is_near_from.ensures.0 c.if-is_near_from.true },
       λ _. refl,
     )
 
 pub loop-start-preserved : goal.loop-start-preserved
 loop-start-preserved c =
-    let pins : List Pin = c.pins_with-start-items.result.now in
+    let pins : List Pin = c.pins_among-start-items.result.now in
     let i = c.loop-start.start-index in
     let class = c.args.self.now.edge.now.from_class in
     let P : Pin → Type 0 = λ q. (q.class == class) ≡ true → IsNearFrom c.args.self.now.source.now c.args.self.now.target.now c.args.self.now.edge.now c.args.self.now.cost c.args.rect.now q → ⊥ in
@@ -39,11 +39,11 @@ loop-start-preserved c =
 
 pub returns : goal.returns
 returns c =
-    let pins : List Pin = c.pins_with-start-items.result.now in
+    let pins : List Pin = c.pins_among-start-items.result.now in
     let i = c.loop-start.start-index in
     let class = c.args.self.now.edge.now.from_class in
     let N : Pin → Type 0 = λ q. IsNearFrom c.args.self.now.source.now c.args.self.now.target.now c.args.self.now.edge.now c.args.self.now.cost c.args.rect.now q in
     let all : All (λ q. (q.class == class) ≡ true → N q → ⊥) pins = subst (All (λ q. (q.class == class) ≡ true → N q → ⊥)) (take_all i pins c.loop-start-test.false) c.loop-start.invariant in (
       λ h. absurd (true≢false (sym h)),
-      λ near. absurd (none_passing (λ q. q.class == class) N pins all near.start (subst (λ (ps : List Pin). Contains ps near.start) (sym c.pins_with-start-items.ensures.class) near.is_start) near.near),
+      λ near. absurd (none_passing (λ q. q.class == class) N pins all near.start (subst (λ (ps : List Pin). Contains ps near.start) (sym c.pins_among-start-items.ensures.class) near.is_start) near.near),
     )

@@ -15,19 +15,19 @@ no_pin = record { class = 0; dx = pos 0; dy = pos 0; dirs = record { east = fals
 
 pub returns-then-is_near : goal.returns-then-is_near
 returns-then-is_near c =
-    let pins : List Pin = c.pins_with-end-items.result.now in
+    let pins : List Pin = c.pins_among-end-items.result.now in
     let i = c.loop-end.end-index in
     let class = c.args.self.now.edge.now.to_class in
     let p : Pin = get_or pins i no_pin in
     let lt : i < length pins = c.loop-end-test.true in
     let has : Contains (filter (λ q. q.class == class) pins) p = one_passing (λ q. q.class == class) pins i p lt (get_or_default pins i no_pin p lt) (eq-eqb p.class class c.if-end-class.true) in (
-      λ _. record { end = p; is_end = subst (λ (ps : List Pin). Contains ps p) c.pins_with-end-items.ensures.class has; near = c.is_near.ensures.0 c.if-is_near.true },
+      λ _. record { end = p; is_end = subst (λ (ps : List Pin). Contains ps p) c.pins_among-end-items.ensures.class has; near = c.is_near.ensures.0 c.if-is_near.true },
       λ _. refl,
     )
 
 pub loop-end-preserved : goal.loop-end-preserved
 loop-end-preserved c =
-    let pins : List Pin = c.pins_with-end-items.result.now in
+    let pins : List Pin = c.pins_among-end-items.result.now in
     let i = c.loop-end.end-index in
     let class = c.args.self.now.edge.now.to_class in
     let P : Pin → Type 0 = λ q. (q.class == class) ≡ true → IsNear c.args.self.now.source.now c.args.self.now.target.now c.args.self.now.edge.now c.args.self.now.cost c.args.rect.now c.args.start q → ⊥ in
@@ -39,11 +39,11 @@ loop-end-preserved c =
 
 pub returns : goal.returns
 returns c =
-    let pins : List Pin = c.pins_with-end-items.result.now in
+    let pins : List Pin = c.pins_among-end-items.result.now in
     let i = c.loop-end.end-index in
     let class = c.args.self.now.edge.now.to_class in
     let N : Pin → Type 0 = λ q. IsNear c.args.self.now.source.now c.args.self.now.target.now c.args.self.now.edge.now c.args.self.now.cost c.args.rect.now c.args.start q in
     let all : All (λ q. (q.class == class) ≡ true → N q → ⊥) pins = subst (All (λ q. (q.class == class) ≡ true → N q → ⊥)) (take_all i pins c.loop-end-test.false) c.loop-end.invariant in (
       λ h. absurd (true≢false (sym h)),
-      λ near. absurd (none_passing (λ q. q.class == class) N pins all near.end (subst (λ (ps : List Pin). Contains ps near.end) (sym c.pins_with-end-items.ensures.class) near.is_end) near.near),
+      λ near. absurd (none_passing (λ q. q.class == class) N pins all near.end (subst (λ (ps : List Pin). Contains ps near.end) (sym c.pins_among-end-items.ensures.class) near.is_end) near.near),
     )

@@ -1,9 +1,9 @@
 -- What `commit` leaves.
-use Rattle.std.proofs.Common.{◌≡◌, ℕ, List, [], ◌∷◌, length, take, None, Some, Ok, sym, ap, subst, ◌∙◌}
+use Rattle.std.proofs.Common.{◌≡◌, ℕ, ◌∷◌, take, None, Some, Ok, sym, ap, subst, ◌∙◌}
 use Rattle.plane_geom.specs.Floor.{IsFloor}
 use Rattle.visibility_graph.specs.Drawing.{Drawing}
 use Rattle.visibility_graph.specs.Meeting.{counted_by}
-use Rattle.graph_repair.specs.Change.{IsWriteCount}
+use Rattle.graph_repair.specs.Change.{CountsWrites}
 use Rattle.route_search.specs.Finds.{counted_by as searched_by}
 use Rattle.scene_model.specs.declared.edit.Command.TheVariants.{Commit}
 use Rattle.scene_model.specs.Answers.{AreAnswers}
@@ -54,11 +54,10 @@ pub returns-clause-written : goal.returns-clause-written
 returns-clause-written g c =
     let floor : c.exchange.new.self.graph.floor ≡ floor_of c.exchange.new.self.scene =
     ap (λ (g : Drawing). g.floor) c.exchange.ensures.graph ∙ c.in-Ok.ensures.floor ∙ ap floor_of (sym c.exchange.ensures.scene) in
-    let count : (n : ℕ) × IsWriteCount c.self.inside.present.graph.floor c.exchange.new.self.graph.floor n
-    × (c.exchange.new.self.graph.arena.written ≡ counted_by n c.self.inside.present.graph.arena.written) =
-    subst (λ (d : Drawing). (n : ℕ) × IsWriteCount c.self.inside.present.graph.floor d.floor n × (d.arena.written ≡ counted_by n c.self.inside.present.graph.arena.written))
+    let count : CountsWrites c.self.inside.present.graph.floor c.exchange.new.self.graph.floor c.self.inside.present.graph.arena.written c.exchange.new.self.graph.arena.written =
+    subst (λ (d : Drawing). CountsWrites c.self.inside.present.graph.floor d.floor c.self.inside.present.graph.arena.written d.arena.written)
     (sym c.exchange.ensures.graph) c.in-Ok.ensures.written in
-    subst (λ (s : State). (n : ℕ) × IsWriteCount (floor_of s.world.present) (floor_of c.exchange.new.self.scene) n × (c.exchange.new.self.graph.arena.written ≡ counted_by n s.written))
+    subst (λ (s : State). CountsWrites (floor_of s.world.present) (floor_of c.exchange.new.self.scene) s.written c.exchange.new.self.graph.arena.written)
     c.self.view_is
     (scenes_written c.self.inside.present.graph.floor c.exchange.new.self.graph.floor c.self.inside.present.scene c.exchange.new.self.scene
     c.self.inside.present.graph.arena.written c.exchange.new.self.graph.arena.written c.self.invariant.floor floor count)
