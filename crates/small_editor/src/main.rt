@@ -60,13 +60,18 @@ fn refused() -> io::Error {
     io::ErrorKind::InvalidInput.into()
 }
 
+/// Prints the lines, and once more without the last move.
+fn print_undone(rt: &HostRuntime, session: &mut Session) -> io::Result<()> {
+    print_lines(rt, "Box 3 between the others", session)?;
+    session.undo().map_err(|_| refused())?;
+    print_lines(rt, "Box 3 back", session)
+}
+
 fn main(rt: HostRuntime) -> io::Result<()> {
     let alloc = rt.alloc();
     let scene = drawing(alloc).map_err(|_| refused())?;
     let mut session = Session::open(&rt, alloc, scene, WORKERS, &OpenGate)?;
     print_lines(&rt, "Box 3 out of the way", &session)?;
     move_box(&rt, &mut session, 3, 50_000, 0).map_err(|_| refused())?;
-    print_lines(&rt, "Box 3 between the others", &session)?;
-    session.undo().map_err(|_| refused())?;
-    print_lines(&rt, "Box 3 back", &session)
+    print_undone(&rt, &mut session)
 }
