@@ -1,5 +1,5 @@
 -- Pairs that may stand inside some open lists, and the changes that keep them so.
-use Rattle.std.proofs.Common.{◌≡◌, ℕ, suc, ◌≤◌, Bool, true, false, List, [], ◌∷◌, arith, refl}
+use Rattle.std.proofs.Common.{ℕ, suc, ◌≤◌, Bool, true, false, List, [], ◌∷◌, arith}
 use Rattle.std.specs.Prelude.{◌&&◌, bytes_eq, if◌then◌else◌}
 use Rattle.fixed_milli.specs.Number.{IsNumber}
 use Rattle.gml_text.specs.Bytes.{quote}

@@ -1,5 +1,5 @@
 -- What is written is of the grammar: numbers, and the letters of directions.
-use Rattle.std.proofs.Common.{◌≡◌, ℕ, zero, suc, ◌+◌, ◌/◌, ◌%◌, ◌<◌, ◌≤◌, Bool, true, false, List, [], ◌∷◌, ◌++◌, length, ℤ, pos, refl, sym, ap, arith, inl, inr}
+use Rattle.std.proofs.Common.{ℕ, zero, suc, ◌+◌, ◌/◌, ◌%◌, ◌<◌, ◌≤◌, Bool, true, false, List, [], ◌∷◌, ◌++◌, length, ℤ, pos, refl, sym, ap, arith, inl, inr}
 use Rattle.std.specs.Prelude.{negsuc, ◌==◌, if◌then◌else◌}
 use Rattle.std.specs.Char.{digit_value}
 use Rattle.std.specs.Fmt.{digits, digits_onto, digit_glyph, decimal, signed_decimal}
@@ -7,7 +7,7 @@ use Rattle.std.specs.Str.Parse.{AllDigits, IsNumeral}
 use Rattle.std.proofs.lemmas.Bool.{lt-ltb}
 use Rattle.std.proofs.lemmas.Str.{digit_value_digit}
 use Rattle.std.proofs.lemmas.List.{append_assoc, append-nil}
-use Rattle.fixed_milli.specs.Number.{Number, IsSign, Spells, IsNumber}
+use Rattle.fixed_milli.specs.Number.{IsSign, IsNumber}
 use Rattle.fixed_milli.specs.Milli.{three_digits, size_text, milli_text}
 use Rattle.gml_text.specs.Bytes.{quote}
 use Rattle.gml_text.specs.Grammar.{Lacks}

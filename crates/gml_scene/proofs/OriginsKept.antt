@@ -1,6 +1,6 @@
 -- Nodes and edges that come from a diagram, before edits and after them.
-use Rattle.std.proofs.Common.{◌≡◌, ◌≢◌, ℕ, zero, suc, ◌<◌, Bool, true, false, Option, Some, None, List, [], ◌∷◌, length, get_or, refl, sym, subst, arith, int_eq, eqb}
-use Rattle.std.specs.Prelude.{ℤ, ◌==◌, find, map, filter, not, All, Decides, IsSomeAnd, if◌then◌else◌}
+use Rattle.std.proofs.Common.{◌≡◌, ◌≢◌, ℕ, zero, suc, ◌<◌, Bool, true, false, Some, List, [], ◌∷◌, length, get_or, refl, sym, subst, arith, int_eq, eqb}
+use Rattle.std.specs.Prelude.{ℤ, ◌==◌, find, not, Decides, IsSomeAnd, if◌then◌else◌}
 use Rattle.std.proofs.lemmas.Bool.{false≢true}
 use Rattle.std.proofs.lemmas.Bool.Decides.{Decides-int_eq, Decides-eqb}
 use Rattle.std.proofs.lemmas.List.Elements.{All-from_recursion, All-map, All-filter, All-push, All-weaker}
@@ -8,7 +8,7 @@ use Rattle.scene_model.specs.declared.node.Node.{Node}
 use Rattle.scene_model.specs.declared.edge.Edge.{Edge}
 use Rattle.scene_model.specs.declared.edit.Edit.{Edit}
 use Rattle.scene_model.specs.declared.edit.Edit.TheVariants.{AddNode, MoveNode, SizeNode, DropNode, AddPin, DropPin, AddEdge, CutEdge, SetClasses, AddVia, DropVia, Set}
-use Rattle.scene_model.specs.Scene.{Scene, node_with, edge_with}
+use Rattle.scene_model.specs.Scene.{Scene}
 use Rattle.scene_model.specs.Valid.{IsValid}
 use Rattle.scene_model.specs.Edits.{changed, new_node, new_edge, half, change_node, change_edge}
 use Rattle.scene_model.proofs.Entries.{Differ, pairs_from}

@@ -14,7 +14,7 @@ use Rattle.gml_text.specs.declared.tree.Pair.{Pair, roll-Pair}
 use Rattle.gml_text.proofs.Views.{entry_key}
 use Rattle.scene_model.proofs.Directions.{told}
 use Rattle.scene_model.proofs.Directions.Told.{yes, no}
-use Rattle.diagram_read.specs.Values.{as_list, lists_at, list_at}
+use Rattle.diagram_read.specs.Values.{list_at}
 use Rattle.gml_scene.proofs.Places.{refuted}
 use Rattle.gml_scene.specs.Changes.{one, put, without, put_only, is_list, change_inside, list_place, change_list}
 

@@ -1,11 +1,11 @@
 -- The tree of a scene and its routes may be printed where the diagram's may.
-use Rattle.std.proofs.Common.{◌≡◌, ℕ, suc, ◌≤◌, Bool, true, false, List, [], ◌∷◌, Option, Some, None, refl, arith}
-use Rattle.std.specs.Prelude.{ℤ, pos, ◌*ℤ◌, ◌==◌, codes, bytes_eq, is_none, is_some, filter, if◌then◌else◌}
+use Rattle.std.proofs.Common.{ℕ, suc, Bool, List, Option, Some, None, refl, arith}
+use Rattle.std.specs.Prelude.{ℤ, pos, ◌*ℤ◌, ◌==◌, codes, bytes_eq, is_none, is_some, filter}
 use Rattle.std.specs.Cmp.Lexicographic.{pointwise}
 use Rattle.std.specs.Ordering.{int_eq}
 use Rattle.plane_geom.specs.declared.point.Point.{Point}
 use Rattle.gml_text.specs.Grammar.{IsKey}
-use Rattle.gml_text.specs.Tree.{Content, number, text, list, Pairs, no_pairs, pair, ◌then◌}
+use Rattle.gml_text.specs.Tree.{Content, number, text, list, Pairs, no_pairs, pair}
 use Rattle.gml_text.specs.Printed.{IsPrintable}
 use Rattle.walk_model.specs.declared.route.WrittenRoute.{WrittenRoute}
 use Rattle.scene_model.specs.declared.node.Node.{Node}
@@ -15,13 +15,13 @@ use Rattle.scene_model.specs.declared.settings.Settings.{Settings}
 use Rattle.scene_model.specs.Scene.{Scene, default_settings, is_loop}
 use Rattle.scene_model.specs.Letters.{letters}
 use Rattle.diagram_read.specs.Values.{list_at}
-use Rattle.gml_scene.specs.Changes.{one, all_of, put, without, put_only, change_list}
+use Rattle.gml_scene.specs.Changes.{one}
 use Rattle.gml_scene.specs.Forms.{length_of, class_of, id_of, point_pairs, cost_pairs, pin_pairs, pin_pair, via_pair, line_point, line_content, line_pairs, box_pairs, node_pair, node_pairs, class_pairs, edge_pairs, edge_pair, settings_pairs}
 use Rattle.gml_scene.specs.Nodes.{pin_eq, put_length, put_box, put_pins, node_again}
 use Rattle.gml_scene.specs.Edges.{point_eq, put_class, put_via, put_line_in, put_line, edge_again}
-use Rattle.gml_scene.specs.Tree.{line_for, node_from, edge_from, kept_node, kept_edge, kept, kept_from, put_settings, settings_eq, router_pairs, new_nodes, new_edges, appended, graph_again, tree_of}
+use Rattle.gml_scene.specs.Tree.{line_for, node_from, edge_from, kept_node, kept_edge, kept, kept_from, put_settings, settings_eq, router_pairs, appended, graph_again, tree_of}
 use Rattle.gml_scene.proofs.Numerals.{decimal_number, signed_decimal_number, milli_number, letters_lack}
-use Rattle.gml_scene.proofs.Fitting.{Fits, FitsValue, Keeps, none_fit, pair_fits, one_fits, number_fits, text_fits, list_fits, then_fits, all_fit, choice_fits, put_fits, without_fits, put_only_fits, change_fits}
+use Rattle.gml_scene.proofs.Fitting.{Fits, FitsValue, Keeps, none_fit, one_fits, number_fits, text_fits, list_fits, then_fits, all_fit, choice_fits, put_fits, without_fits, put_only_fits, change_fits}
 
 length_fits : (d : ℕ) (key : List ℕ) (z : ℤ) → IsKey key → Fits d (one key (length_of z))
 length_fits d key z is_key = one_fits d key (length_of z) is_key (number_fits d _ (milli_number z))

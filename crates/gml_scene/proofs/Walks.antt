@@ -1,8 +1,8 @@
 -- What is written while a list is gone through: one element more.
-use Rattle.std.proofs.Common.{◌≡◌, ℕ, zero, suc, ◌+◌, ◌-◌, ◌<◌, ◌≤◌, Bool, true, false, Option, Some, None, Result, Ok, Err, List, [], ◌∷◌, ◌++◌, length, get_or, take, drop, refl, sym, ap, ◌∙◌, arith, add-one, length-drop}
+use Rattle.std.proofs.Common.{◌≡◌, ℕ, zero, suc, ◌+◌, ◌-◌, ◌<◌, ◌≤◌, Bool, true, false, Some, None, Result, Ok, Err, List, [], ◌∷◌, ◌++◌, length, get_or, take, drop, refl, sym, ap, ◌∙◌, arith, add-one, length-drop}
 use Rattle.std.specs.Prelude.{OnOk, cond, filter, slice_get}
 use Rattle.std.proofs.lemmas.List.{take_more, length-take}
-use Rattle.gml_text.specs.Tree.{Content, Pairs, no_pairs, pair, ◌then◌}
+use Rattle.gml_text.specs.Tree.{Content, Pairs, no_pairs, ◌then◌}
 use Rattle.gml_text.specs.View.{content, entry, pairs}
 use Rattle.gml_text.specs.declared.tree.Pair.{Pair}
 use Rattle.gml_text.proofs.Accepting.{then_assoc, then-none}

@@ -1,8 +1,8 @@
 -- The steps of a phase make the phase, and its routes may be handed on.
-use Rattle.std.proofs.Common.{◌≡◌, ◌≢◌, ℕ, suc, ◌+◌, ◌-◌, ◌<◌, ℤ, pos, ◌<ℤ◌, Bool, true, false, Some, List, [], ◌∷◌, map, length, get_or, inl, inr, refl, sym, ap, subst, subst₂, ◌∙◌, arith, if◌then◌else◌, true≢false}
+use Rattle.std.proofs.Common.{◌≡◌, ◌≢◌, ℕ, ◌+◌, ◌-◌, ◌<◌, ℤ, pos, ◌<ℤ◌, true, false, Some, List, length, get_or, inl, inr, sym, ap, subst, subst₂, ◌∙◌, arith, if◌then◌else◌, true≢false}
 use Rattle.std.specs.Prelude.{slice_get, All, AllPairs}
 use Rattle.std.proofs.lemmas.Bool.{cases_Bool, cases_lt}
-use Rattle.std.proofs.lemmas.List.{get_or-map, length-map, length-append}
+use Rattle.std.proofs.lemmas.List.{get_or-map}
 use Rattle.std.proofs.lemmas.Option.{slice_get_within, slice_get_past, slice_get-get_or}
 use Rattle.plane_geom.specs.declared.point.Way.{Way}
 use Rattle.plane_geom.specs.declared.point.Way.TheVariants.{Vertical, Horizontal}
@@ -14,7 +14,7 @@ use Rattle.separation_model.specs.declared.bundle.Solution.{Solution}
 use Rattle.separation_model.specs.Bundle.{int_at}
 use Rattle.channel_bundles.specs.declared.route.PhaseRoute.{PhaseRoute}
 use Rattle.channel_bundles.specs.declared.channel.RunBundle.{RunBundle}
-use Rattle.channel_bundles.specs.Route.{is_way, of_way, runs_of_way}
+use Rattle.channel_bundles.specs.Route.{is_way}
 use Rattle.channel_bundles.specs.Limits.{MayMove}
 use Rattle.channel_bundles.specs.Bundles.{AreBundles}
 use Rattle.channel_bundles.proofs.Placing.{is_own}
@@ -26,7 +26,6 @@ use Rattle.nudge_laws.proofs.AfterX.{both_may_move, x_edges, x_ready, x_vertical
 use Rattle.nudge_laws.proofs.Corners.{may_stay, short_may_stay}
 use Rattle.nudge_laws.proofs.PhaseKept.{phase_ready}
 use Rattle.run_laws.proofs.FromTheWalk.{from_walk}
-use Rattle.nudge_laws.proofs.Ends.{stretch_way}
 use Rattle.nudge_laws.specs.Ready.{HasLegalWalk}
 use Rattle.nudge_lines.specs.Rising.{EdgesRise}
 use Rattle.nudge_lines.specs.Steps.{AreBundlesIn, AreEach, AreSolutionsOf, HasFollowed, IsPut, coordinates}

@@ -1,4 +1,4 @@
-//! Gates that see pieces pass: for tests, and for callers that show how far searches are.
+//! Gates that count pieces and hold them, for tests. What they tell no clause says, since atomics have none.
 
 use crate::gate::Gate;
 use std::sync::atomic::{AtomicBool, AtomicU32, Ordering};

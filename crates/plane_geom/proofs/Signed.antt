@@ -1,7 +1,7 @@
 -- Coordinates fit their type.
 use Rattle.std.proofs.Common.{◌≡◌, ℤ, ◌≤ℤ◌, false, ◌≤◌, arith, w64}
 use lib.Signed.{lt_z}
-use Rattle.std.proofs.lemmas.Int.{ints, to_z-of_z, fits_signed_from_abs}
+use Rattle.std.proofs.lemmas.Int.{ints, to_z-of_z}
 use Rattle.std.specs.Int.RustNames.{FitsSigned}
 use Rattle.plane_geom.specs.declared.point.Point.{Point}
 use Rattle.plane_geom.specs.Point.{IsCoordinate, PointIsOnSheet, distance}

@@ -21,7 +21,7 @@ use Rattle.scene_model.specs.Scene.{Scene, node_with, edge_with, connectors, is_
 use Rattle.scene_model.specs.Valid.{IsValid}
 use Rattle.scene_model.specs.Routing.{box, solids, centre_pin, pins_of_class, place_of, port, choice, directions, choices_of, choices_with, task_of}
 use Rattle.scene_model.specs.Answers.{IsAnswerOf, AreAnswers}
-use Rattle.scene_model.specs.Stale.{IsRemoved, Shape, shape, Looks, looks, answer_of, IsPinOf, IsOpen, IsCurrent, IsLengthBy}
+use Rattle.scene_model.specs.Stale.{Shape, shape, looks, answer_of, IsPinOf, IsOpen, IsLengthBy}
 use Rattle.scene_model.specs.Stale as scene
 use Rattle.scene_model.proofs.Entries.{found_cases, found_has, key_found, only_found, each_filter, each_weaker, found_passes, none_passes}
 use Rattle.scene_model.proofs.Nodes.{id_of}

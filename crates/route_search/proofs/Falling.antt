@@ -1,5 +1,5 @@
 -- Offers one after another.
-use Rattle.std.proofs.Common.{◌≡◌, ◌≢◌, ◌⊎◌, ℕ, ◌+◌, ◌*◌, ◌<◌, ◌≤◌, ◌==◌, Bool, true, false, if◌then◌else◌, ℤ, pos, ◌+ℤ◌, Some, unsigned_abs, refl, sym, ap, subst, ◌∙◌, arith}
+use Rattle.std.proofs.Common.{ℕ, ◌+◌, ◌*◌, ◌≤◌, ◌==◌, Bool, true, false, if◌then◌else◌, ℤ, pos, ◌+ℤ◌, unsigned_abs, arith}
 use Rattle.std.proofs.lemmas.Int.{ints}
 use Rattle.std.proofs.Math.Nat.{mul-le-mul_left}
 use Rattle.plane_geom.specs.declared.point.Dir.{Dir}
@@ -12,11 +12,10 @@ use Rattle.move_model.specs.declared.ahead.Ahead.{Ahead}
 use Rattle.move_model.specs.declared.ahead.Stretch.{Stretch}
 use Rattle.move_model.specs.declared.place.Place.{Place}
 use Rattle.move_model.specs.Ahead.{with_stretch}
-use Rattle.search_labels.specs.Labels.{ahead_in}
 use Rattle.search_labels.specs.declared.problem.Problem.{Problem}
 use Rattle.search_labels.specs.declared.queue.Queue.{Queue}
 use Rattle.route_search.specs.declared.labels.Labels.{Labels}
-use Rattle.route_search.specs.Labels.{Falls, IsKnown, IsOfferable, IsOffered, IsSmallAhead, Spreads, label_at}
+use Rattle.route_search.specs.Labels.{Falls, IsOfferable, IsOffered, IsSmallAhead, Spreads}
 use Rattle.route_search.proofs.AheadOrder.{no_greater_both, not_greater}
 use Rattle.route_search.proofs.Offering.{still_offered}
 use Rattle.route_search.proofs.Sizes.{across_small}

@@ -1,5 +1,5 @@
 -- What lies ahead of a place is handed on to those from whom a move leads to it.
-use Rattle.std.proofs.Common.{◌≡◌, ℕ, ◌+◌, ◌<◌, ◌≤◌, Option, None, Some, ◌∷◌, refl, sym, ap, subst, ◌∙◌, inl, inr, arith}
+use Rattle.std.proofs.Common.{◌≡◌, ℕ, ◌+◌, ◌<◌, ◌≤◌, Option, None, ◌∷◌, refl, sym, ap, subst, ◌∙◌, inl, inr, arith}
 use Rattle.std.proofs.lemmas.Bool.{cases_lt}
 use Rattle.plane_geom.specs.declared.point.Point.{Point}
 use Rattle.plane_geom.specs.declared.point.Dir.{Dir}
@@ -11,15 +11,14 @@ use Rattle.move_model.specs.declared.ahead.Ahead.{Ahead}
 use Rattle.move_model.specs.declared.ahead.Stretch.{Stretch}
 use Rattle.move_model.specs.declared.place.Place.{Place}
 use Rattle.move_model.specs.Ahead.{ahead, with_stretch}
-use Rattle.move_model.specs.Places.{ComesTo, IsMove}
+use Rattle.move_model.specs.Places.{ComesTo}
 use Rattle.move_model.specs.Ways.{steps_of_way}
 use Rattle.move_model.proofs.Crossings.{nearest_back, one_nearest}
 use Rattle.move_model.proofs.Stretching.{stretch_ahead}
-use Rattle.search_labels.specs.Labels.{ahead_in}
 use Rattle.search_labels.specs.Problems.{IsReady}
 use Rattle.search_labels.specs.declared.problem.Problem.{Problem}
 use Rattle.route_search.specs.declared.labels.Labels.{Labels}
-use Rattle.route_search.specs.Labels.{IsHandedOn, IsOffered, IsSearching, IsWayAhead, Spreads, label_at, weight}
+use Rattle.route_search.specs.Labels.{IsHandedOn, IsOffered, IsSearching, IsWayAhead, Spreads, weight}
 use Rattle.route_search.proofs.Falling.{by_heading, offered_still, spreads_both}
 use Rattle.route_search.proofs.Known.{moved}
 use Rattle.route_search.proofs.TheMoves.{the_move}

@@ -1,28 +1,24 @@
 -- A label is opened: what holds of the labels still holds.
-use Rattle.std.proofs.Common.{◌≡◌, ◌≢◌, ◌⊎◌, ℕ, ◌+◌, ◌*◌, ◌<◌, ◌≤◌, Bool, true, false, List, [], ◌∷◌, Option, Some, None, length, refl, sym, ap, subst, ◌∙◌, inl, inr, arith}
+use Rattle.std.proofs.Common.{◌≡◌, ◌≢◌, ◌⊎◌, ◌+◌, ◌<◌, ◌≤◌, Option, Some, None, sym, ap, subst, ◌∙◌, inl, inr, arith}
 use Rattle.std.specs.Prelude.{All, Contains}
 use Rattle.std.specs.BinaryHeap.{heap_items}
 use Rattle.std.specs.declared.cmp.Ordering.TheVariants.{Greater}
 use Rattle.std.proofs.lemmas.Bool.{cases_eq}
 use Rattle.plane_geom.specs.declared.point.Point.{Point}
-use Rattle.plane_geom.specs.declared.point.Dir.{Dir}
-use Rattle.plane_geom.specs.declared.point.Dir.TheVariants.{East, South, West, North}
 use Rattle.line_arena.specs.Arena.{StandsAt}
 use Rattle.line_arena.proofs.ArenaLaws.{one_point}
 use Rattle.walk_model.specs.Cost.{turn}
 use Rattle.walk_model.proofs.Bends.{one_direction, turn_same}
 use Rattle.move_model.specs.declared.place.Place.{Place}
 use Rattle.move_model.specs.declared.ahead.Ahead.{Ahead}
-use Rattle.move_model.specs.Ahead.{ahead_cmp, with_stretch}
-use Rattle.move_model.specs.Places.{IsMove}
+use Rattle.move_model.specs.Ahead.{ahead_cmp}
 use Rattle.search_labels.specs.Labels.{ahead_in}
 use Rattle.search_labels.specs.Problems.{IsReady}
-use Rattle.search_labels.specs.Tables.{IsMarked, Puts, SameRooms}
-use Rattle.search_labels.specs.declared.label.Label.{Label}
-use Rattle.search_labels.specs.declared.label.Label.TheVariants.{Absent, Open, Closed}
+use Rattle.search_labels.specs.Tables.{IsMarked, Puts}
+use Rattle.search_labels.specs.declared.label.Label.TheVariants.{Open, Closed}
 use Rattle.search_labels.specs.declared.problem.Problem.{Problem}
 use Rattle.route_search.specs.declared.labels.Labels.{Labels}
-use Rattle.route_search.specs.Labels.{HasRooms, IsBest, IsHandedOn, IsKnown, IsLeftOut, IsOffered, IsPlace, IsQueued, IsSearching, IsSmallAhead, IsWayAhead, bound_at, label_at}
+use Rattle.route_search.specs.Labels.{IsBest, IsHandedOn, IsKnown, IsOffered, IsPlace, IsQueued, IsSearching, IsSmallAhead, IsWayAhead, bound_at, label_at}
 use Rattle.route_search.proofs.AheadOrder.{no_greater_both, not_greater}
 
 -- two places are one or they differ

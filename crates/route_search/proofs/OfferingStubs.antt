@@ -1,5 +1,5 @@
 -- The stub of an ending is a way from its port.
-use Rattle.std.proofs.Common.{◌≡◌, [], length, refl, sym, subst, ◌∙◌}
+use Rattle.std.proofs.Common.{[], length, refl, sym, subst, ◌∙◌}
 use Rattle.plane_geom.specs.declared.point.Dir.{Dir}
 use Rattle.plane_geom.specs.Point.{opposite}
 use Rattle.line_arena.specs.Arena.{StandsAt}

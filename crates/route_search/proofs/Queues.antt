@@ -1,5 +1,5 @@
 -- What a queue has once a candidate is put in.
-use Rattle.std.proofs.Common.{◌≡◌, ◌⊎◌, ℕ, zero, suc, ◌<◌, List, [], ◌∷◌, length, get_or, refl, sym, subst, inl, inr, arith}
+use Rattle.std.proofs.Common.{◌≡◌, ◌⊎◌, zero, suc, List, [], ◌∷◌, get_or, refl, sym, subst, inl, inr, arith}
 use Rattle.std.proofs.lemmas.List.{get_or_default}
 use Rattle.std.specs.Prelude.{All, Contains, IsPermutation}
 use Rattle.std.proofs.lemmas.List.Elements.{All-contains, Contains-append_right}

@@ -1,17 +1,16 @@
 -- Endings and crossings of a problem lie on the sheet, and what is added there is small.
-use Rattle.std.proofs.Common.{◌≡◌, ℕ, ◌+◌, ◌*◌, ◌<◌, ◌≤◌, ◌^◌, Some, Contains, length, sym, ap, subst, ◌∙◌, arith, unsigned_abs}
+use Rattle.std.proofs.Common.{ℕ, ◌<◌, ◌≤◌, Contains, length, sym, subst, arith, unsigned_abs}
 use Rattle.std.proofs.lemmas.Int.{ints}
 use Rattle.std.proofs.lemmas.List.Elements.{All-contains}
 use Rattle.plane_geom.specs.declared.point.Point.{Point}
 use Rattle.plane_geom.specs.declared.point.Dir.{Dir}
 use Rattle.plane_geom.specs.declared.point.Dir.TheVariants.{East, South, West, North}
-use Rattle.plane_geom.specs.declared.floor.Floor.{Floor}
 use Rattle.plane_geom.specs.Along.{across, way_of}
 use Rattle.plane_geom.specs.Point.{IsCoordinate, PointIsOnSheet, distance}
 use Rattle.line_arena.specs.Arena.{StandsAt}
 use Rattle.line_arena.proofs.ArenaLaws.{placed}
 use Rattle.walk_model.specs.declared.task.Choice.{Choice}
-use Rattle.walk_model.specs.Choice.{IsChoice, stub_length}
+use Rattle.walk_model.specs.Choice.{IsChoice}
 use Rattle.walk_laws.proofs.Lines.{chosen}
 use Rattle.search_labels.proofs.Legs.{distance_small}
 use Rattle.search_labels.specs.Ends.{IsEndingOf}

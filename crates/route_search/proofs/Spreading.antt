@@ -14,15 +14,14 @@ use Rattle.move_model.specs.declared.ahead.Ahead.{Ahead}
 use Rattle.move_model.specs.declared.place.Place.{Place}
 use Rattle.search_labels.specs.Labels.{ahead_in, empty_row, label_in}
 use Rattle.search_labels.specs.Tables.{row_of}
-use Rattle.search_labels.specs.declared.ends.Ending.{Ending}
 use Rattle.search_labels.specs.declared.label.Label.{Label}
-use Rattle.search_labels.specs.declared.label.Label.TheVariants.{Absent, Open, Closed}
+use Rattle.search_labels.specs.declared.label.Label.TheVariants.{Absent, Open}
 use Rattle.search_labels.specs.declared.label.Row.{Row}
 use Rattle.search_labels.specs.declared.problem.Problem.{Problem}
 use Rattle.search_labels.specs.declared.queue.Candidate.{Candidate}
 use Rattle.search_labels.specs.declared.queue.Queue.{Queue}
 use Rattle.route_search.specs.declared.labels.Labels.{Labels}
-use Rattle.route_search.specs.Labels.{AreNone, Falls, HasRooms, IsPlace, IsSearching, IsSpread, IsStubOffered, bound_at, label_at, weight}
+use Rattle.route_search.specs.Labels.{AreNone, HasRooms, IsPlace, IsSearching, IsSpread, IsStubOffered, bound_at, label_at, weight}
 use Rattle.route_search.proofs.Falling.{by_heading, offered_still, queue_falls, with_queue}
 use Rattle.route_search.proofs.Offering.{still_handed}
 use Rattle.route_search.proofs.Queues.{first_or_rest}

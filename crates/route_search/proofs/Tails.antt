@@ -1,11 +1,10 @@
 -- The earliest of the tails in a direction, and how a walk goes on that has a tail and a move there.
-use Rattle.std.proofs.Common.{◌≡◌, ◌⊎◌, ◌↔◌, ℕ, ◌<◌, ◌≤◌, Option, Some, None, IfSome, IsNone, List, [], ◌∷◌, ◌++◌, Contains, inl, inr, refl, sym, ap, subst, ◌∙◌, arith}
+use Rattle.std.proofs.Common.{◌≡◌, ◌⊎◌, ◌↔◌, ℕ, ◌≤◌, Option, Some, None, IfSome, IsNone, List, [], ◌∷◌, ◌++◌, Contains, inl, inr, refl, sym, ap, subst, ◌∙◌, arith}
 use Rattle.std.proofs.lemmas.List.Elements.{Contains-append_left, Contains-push, Contains-push_cases}
-use Rattle.plane_geom.specs.declared.point.Point.{Point}
 use Rattle.plane_geom.specs.declared.point.Dir.{Dir}
 use Rattle.move_model.specs.declared.place.Place.{Place}
 use Rattle.move_model.specs.Places.{IsMove}
-use Rattle.line_arena.specs.Arena.{IsArena, StandsAt}
+use Rattle.line_arena.specs.Arena.{IsArena}
 use Rattle.line_arena.proofs.ArenaLaws.{one_point}
 use Rattle.move_model.proofs.Moves.{one_move}
 use Rattle.search_labels.specs.declared.ends.Ending.{Ending}
@@ -16,7 +15,7 @@ use Rattle.route_search.specs.declared.follow.Next.TheVariants.{Stop, Go}
 use Rattle.route_search.specs.declared.follow.Standing.{Standing}
 use Rattle.route_search.specs.declared.follow.Tail.{Tail}
 use Rattle.route_search.specs.declared.labels.Labels.{Labels}
-use Rattle.route_search.specs.Following.{IsEarliest, IsJoined, IsMoveIn, IsNextIn, IsNoLater, IsNoneIn, IsTailIn, MayEnd, StopsIn, GoesIn}
+use Rattle.route_search.specs.Following.{IsEarliest, IsJoined, IsMoveIn, IsNextIn, IsNoLater, IsNoneIn, IsTailIn, MayEnd}
 
 pub no_later_itself : (b : Tail) → IsNoLater b b
 no_later_itself b = record { steps = omega arith; end = λ _. omega arith }

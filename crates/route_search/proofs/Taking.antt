@@ -1,12 +1,11 @@
 -- A place is taken: its label is closed, and what lies ahead of it is handed on.
-use Rattle.std.proofs.Common.{◌≡◌, ◌≢◌, ◌⊎◌, ℕ, ◌+◌, ◌<◌, ◌≤◌, min, Option, None, Some, refl, sym, ap, subst, ◌∙◌, inl, inr, arith}
+use Rattle.std.proofs.Common.{◌≡◌, ◌≢◌, ◌⊎◌, ℕ, ◌+◌, ◌<◌, ◌≤◌, min, Option, None, Some, sym, ap, subst, ◌∙◌, inl, inr, arith}
 use Rattle.std.specs.Prelude.{All, Any, Contains}
 use Rattle.std.specs.BinaryHeap.{heap_items}
 use Rattle.std.specs.declared.cmp.Reverse.{Reverse}
 use Rattle.std.proofs.Math.Nat.{min-eq_left, min-eq_right, min-le_left}
 use Rattle.std.proofs.lemmas.Bool.{cases_lt}
 use Rattle.plane_geom.specs.declared.point.Point.{Point}
-use Rattle.line_arena.specs.Arena.{StandsAt}
 use Rattle.walk_model.specs.Choice.{stub_length}
 use Rattle.walk_model.specs.Order.{IsLegalTriple, Triple, triple_cost}
 use Rattle.move_model.specs.declared.ahead.Ahead.{Ahead}
@@ -16,7 +15,6 @@ use Rattle.search_labels.specs.Labels.{ahead_in}
 use Rattle.search_labels.specs.Problems.{IsReady}
 use Rattle.search_labels.specs.Tables.{IsMarked, Puts}
 use Rattle.search_labels.specs.declared.ends.Entry.{Entry}
-use Rattle.search_labels.specs.declared.label.Label.{Label}
 use Rattle.search_labels.specs.declared.label.Label.TheVariants.{Open, Closed}
 use Rattle.search_labels.specs.declared.problem.Problem.{Problem}
 use Rattle.search_labels.specs.declared.queue.Queue.{Queue}

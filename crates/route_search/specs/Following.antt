@@ -1,16 +1,11 @@
 -- How the first walk is followed along labels. No public clause cites this module.
-use Rattle.std.specs.Prelude.{ℕ, ◌≡◌, ◌⊎◌, ◌-◌, ◌<◌, ◌≤◌, List, ◌++◌, length, Option, Some, None, Contains, IfSome}
-use Rattle.plane_geom.specs.declared.point.Point.{Point}
+use Rattle.std.specs.Prelude.{ℕ, ◌≡◌, ◌⊎◌, ◌-◌, ◌<◌, ◌≤◌, List, length, Option, Some, None, Contains, IfSome}
 use Rattle.plane_geom.specs.declared.point.Dir.{Dir}
-use Rattle.walk_model.specs.Order.{Triple, IsFirst, rank}
-use Rattle.move_model.specs.declared.place.Place.{Place}
-use Rattle.move_model.specs.declared.ahead.Ahead.{Ahead}
+use Rattle.walk_model.specs.Order.{rank}
 use Rattle.move_model.specs.Ahead.{ahead, nothing, with_stretch}
 use Rattle.move_model.specs.Places.{IsMove}
-use Rattle.move_model.specs.Ways.{GoesAlongWay, Leads, Leg, steps_of_way}
 use Rattle.search_labels.specs.Labels.{ahead_in}
 use Rattle.search_labels.specs.declared.ends.Ending.{Ending}
-use Rattle.search_labels.specs.declared.ends.Entry.{Entry}
 use Rattle.search_labels.specs.declared.problem.Problem.{Problem}
 use Rattle.route_search.specs.declared.follow.Move.{Move}
 use Rattle.route_search.specs.declared.follow.Next.{Next}

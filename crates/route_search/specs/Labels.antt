@@ -15,7 +15,7 @@ use Rattle.move_model.specs.Places.{IsMove}
 use Rattle.move_model.specs.Ways.{IsWay, Leg, steps_of_way}
 use Rattle.search_labels.specs.Bounds.{bound_of, most_cost}
 use Rattle.search_labels.specs.Labels.{ahead_in}
-use Rattle.search_labels.specs.Tables.{IsClear, IsMarked, SameRooms, label_of}
+use Rattle.search_labels.specs.Tables.{IsClear, IsMarked, label_of}
 use Rattle.search_labels.specs.declared.ends.Ending.{Ending}
 use Rattle.search_labels.specs.declared.label.Label.{Label}
 use Rattle.search_labels.specs.declared.label.Label.TheVariants.{Absent, Open, Closed}

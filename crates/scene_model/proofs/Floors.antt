@@ -29,8 +29,8 @@ use Rattle.scene_model.specs.declared.edge.Edge.{Edge}
 use Rattle.scene_model.specs.declared.pin.Pin.{Pin}
 use Rattle.scene_model.specs.declared.pin.Dirs.{Dirs}
 use Rattle.scene_model.specs.Scene.{Scene, node_with, connectors, is_loop}
-use Rattle.scene_model.specs.Valid.{IsNode, IsEdge, IsValid, IsPin, IsOnField}
-use Rattle.scene_model.specs.Routing.{buffered_box, solid_of, solids, centre_pin, pins_of_class, place_of, port, choice, directions, choices_of, choices_with, task_of, anchors, floor_of}
+use Rattle.scene_model.specs.Valid.{IsNode, IsEdge, IsValid, IsPin, IsPlaced, IsOnField}
+use Rattle.scene_model.specs.Routing.{box, buffered_box, solid_of, solids, centre_pin, pins_of_class, place_of, port, choice, directions, choices_of, choices_with, task_of, anchors, floor_of}
 use Rattle.scene_model.specs.Floors.{HoldsTask, FloorsHoldTasks, FloorsFit}
 use Rattle.scene_model.proofs.Entries.{Pairs, pairs_to, pairs_from, each_weaker, each_filter, found_has, key_found, only_found}
 use Rattle.scene_model.proofs.Nodes.{id_of, few_pins}
@@ -69,19 +69,23 @@ pairs_of : {X : Type 0} (P : X → Type 0) (R : X → X → Type 0) → ((x y : 
 pairs_of P R h [] e = tt
 pairs_of P R h (x ∷ xs) e = (each_weaker P (R x) (λ y p. h x y e.0 p) xs e.1, pairs_of P R h xs e.1)
 
--- the pin lies in the box, and does not cost too much
-record IsPinned (n : Node) (p : Pin) : Type 0 where
-  x : unsigned_abs p.dx ≤ unsigned_abs n.half_w
-  y : unsigned_abs p.dy ≤ unsigned_abs n.half_h
-  cost : unsigned_abs p.cost ≤ 10 ^ 9
-
 -- how far the buffer reaches
-record IsBuffer (b : ℤ) : Type 0 where
-  low : pos 1 ≤ℤ b
-  high : b ≤ℤ pos (10 ^ 6)
+pub record IsBuffer (b : ℤ) : Type 0 where
+  pub low : pos 1 ≤ℤ b
+  pub high : b ≤ℤ pos (10 ^ 6)
 
-box_on_sheet : (b : ℤ) (n : Node) → IsNode n → IsBuffer b → RectIsOnSheet (buffered_box b n)
-box_on_sheet b n v l =
+pub box_on_sheet : (n : Node) → IsNode n → RectIsOnSheet (box n)
+box_on_sheet n v =
+    let x = v.x in let y = v.y in let w = v.half_w in let h = v.half_h in
+    record {
+      left = record { low = omega (arith, ints, x, w); high = omega (arith, ints, x, w) };
+      top = record { low = omega (arith, ints, y, h); high = omega (arith, ints, y, h) };
+      right = record { low = omega (arith, ints, x, w); high = omega (arith, ints, x, w) };
+      bottom = record { low = omega (arith, ints, y, h); high = omega (arith, ints, y, h) };
+    }
+
+pub buffered_on_sheet : (b : ℤ) (n : Node) → IsNode n → IsBuffer b → RectIsOnSheet (buffered_box b n)
+buffered_on_sheet b n v l =
     let x = v.x in let y = v.y in let w = v.half_w in let h = v.half_h in let low = l.low in let high = l.high in
     record {
       left = record { low = omega (arith, ints, x, w, low, high); high = omega (arith, ints, x, w, low, high) };
@@ -90,7 +94,7 @@ box_on_sheet b n v l =
       bottom = record { low = omega (arith, ints, y, h, low, high); high = omega (arith, ints, y, h, low, high) };
     }
 
-pin_on_sheet : (n : Node) (p : Pin) → IsNode n → IsPinned n p → PointIsOnSheet (place_of n p)
+pin_on_sheet : (n : Node) (p : Pin) → IsNode n → IsPlaced n p → PointIsOnSheet (place_of n p)
 pin_on_sheet n p v q =
     let x = v.x in let y = v.y in let w = v.half_w in let h = v.half_h in let dx = q.x in let dy = q.y in
     record {
@@ -135,9 +139,9 @@ below a b l = omega (arith, ints, l)
 never_below_itself : (a : ℤ) → a <ℤ a → ⊥
 never_below_itself a l = absurd (omega (arith, ints, l))
 
-is_choice : (b : ℤ) (n : Node) (p : Pin) (d : Dir) → IsNode n → IsBuffer b → IsPinned n p → IsChoice (choice b n p d)
+is_choice : (b : ℤ) (n : Node) (p : Pin) (d : Dir) → IsNode n → IsBuffer b → IsPlaced n p → IsChoice (choice b n p d)
 is_choice b n p East v l q =
-    let sheet = box_on_sheet b n v l in
+    let sheet = buffered_on_sheet b n v l in
     let pin = pin_on_sheet n p v q in
     let over = high_side n.x n.half_w p.dx b v.half_w q.x l.low in
     record {
@@ -148,7 +152,7 @@ is_choice b n p East v l q =
       cost = q.cost;
     }
 is_choice b n p South v l q =
-    let sheet = box_on_sheet b n v l in
+    let sheet = buffered_on_sheet b n v l in
     let pin = pin_on_sheet n p v q in
     let over = high_side n.y n.half_h p.dy b v.half_h q.y l.low in
     record {
@@ -159,7 +163,7 @@ is_choice b n p South v l q =
       cost = q.cost;
     }
 is_choice b n p West v l q =
-    let sheet = box_on_sheet b n v l in
+    let sheet = buffered_on_sheet b n v l in
     let pin = pin_on_sheet n p v q in
     let over = low_side n.x n.half_w p.dx b v.half_w q.x l.low in
     record {
@@ -170,7 +174,7 @@ is_choice b n p West v l q =
       cost = q.cost;
     }
 is_choice b n p North v l q =
-    let sheet = box_on_sheet b n v l in
+    let sheet = buffered_on_sheet b n v l in
     let pin = pin_on_sheet n p v q in
     let over = low_side n.y n.half_h p.dy b v.half_h q.y l.low in
     record {
@@ -191,10 +195,10 @@ port_outside r p South h = never_below_itself r.bottom h.y.1
 port_outside r p West h = never_below_itself r.left h.x.0
 port_outside r p North h = never_below_itself r.top h.y.0
 
-all_pinned : (n : Node) → IsNode n → Each (IsPinned n) (centre_pin ∷ n.pins)
-all_pinned n v = (
+all_placed : (n : Node) → IsNode n → Each (IsPlaced n) (centre_pin ∷ n.pins)
+all_placed n v = (
   record { x = omega arith; y = omega arith; cost = omega arith },
-  each_weaker (IsPin n.half_w n.half_h) (IsPinned n)
+  each_weaker (IsPin n.half_w n.half_h) (IsPlaced n)
       (λ p h. let cost = h.cost in let low = h.low_cost in record { x = h.x; y = h.y; cost = omega (arith, ints, cost, low) })
       n.pins (recursion_from_All (IsPin n.half_w n.half_h) n.pins v.pins),
 )
@@ -211,12 +215,12 @@ each_choice P b n class e =
     (split_flat P (λ p. map (choice b n p) (directions p.dirs)) (centre_pin ∷ n.pins) e))
 
 -- a fact of each pin in each of its directions
-each_made : (P : Choice → Type 0) (b : ℤ) (n : Node) → ((p : Pin) (d : Dir) → IsPinned n p → P (choice b n p d)) → IsNode n → Each P (choices_of b n (centre_pin ∷ n.pins))
+each_made : (P : Choice → Type 0) (b : ℤ) (n : Node) → ((p : Pin) (d : Dir) → IsPlaced n p → P (choice b n p d)) → IsNode n → Each P (choices_of b n (centre_pin ∷ n.pins))
 each_made P b n h v =
     join_flat P (λ p. map (choice b n p) (directions p.dirs)) (centre_pin ∷ n.pins)
-    (each_weaker (IsPinned n) (λ p. Each P (map (choice b n p) (directions p.dirs)))
+    (each_weaker (IsPlaced n) (λ p. Each P (map (choice b n p) (directions p.dirs)))
     (λ p q. join_map P (choice b n p) (directions p.dirs) (each_of (λ d. P (choice b n p d)) (λ d. h p d q) (directions p.dirs)))
-    (centre_pin ∷ n.pins) (all_pinned n v))
+    (centre_pin ∷ n.pins) (all_placed n v))
 
 are_choices : (b : ℤ) (n : Node) (class : ℕ) → IsNode n → IsBuffer b → AreChoices (choices_of b n (pins_of_class n class))
 are_choices b n class v l =
@@ -324,7 +328,7 @@ module _ (s : Scene) (v : IsValid s) where
   solids_on_sheet : Each (λ t. RectIsOnSheet t.rect) (solids s)
   solids_on_sheet =
       each_solid (λ t. RectIsOnSheet t.rect)
-      (each_weaker IsNode (λ n. RectIsOnSheet (buffered_box s.settings.buffer n)) (λ n h. box_on_sheet s.settings.buffer n h is_buffer) s.nodes (recursion_from_All IsNode s.nodes v.nodes))
+      (each_weaker IsNode (λ n. RectIsOnSheet (buffered_box s.settings.buffer n)) (λ n h. buffered_on_sheet s.settings.buffer n h is_buffer) s.nodes (recursion_from_All IsNode s.nodes v.nodes))
 
   -- the solids of a node are its buffered box
   own_solid : (id : ℤ) (n : Node) → node_with s id ≡ Some n → Each (λ t. t.node ≡ n.id → t.rect ≡ buffered_box s.settings.buffer n) (solids s)
@@ -395,7 +399,7 @@ module _ (s : Scene) (v : IsValid s) where
   is_solid n h =
       let w = h.half_w in let height = h.half_h in let low = v.settings.buffer in
       record {
-        on_sheet = box_on_sheet s.settings.buffer n h is_buffer;
+        on_sheet = buffered_on_sheet s.settings.buffer n h is_buffer;
         wide = wide n.x n.half_w s.settings.buffer w low;
         high = wide n.y n.half_h s.settings.buffer height low;
       }

@@ -31,7 +31,7 @@ fn moved_back(coordinate: i64, by: i64) -> i64
 }
 
 impl Node {
-    /// The node's box.
+    /// The node's box. The node is valid, as each node of a valid scene is.
     pub fn rect(&self) -> Rect
         requires { IsNode self.now }
         ensures { result ≡ box self.now }
@@ -44,7 +44,7 @@ impl Node {
         }
     }
 
-    /// The node's box grown by the buffer.
+    /// The node's box grown by the buffer. Node and settings are valid.
     pub fn buffered_rect(&self, settings: Settings) -> Rect
         requires node { IsNode self.now }
         requires settings { AreSettings settings }
@@ -53,7 +53,7 @@ impl Node {
         self.rect().grow(settings.buffer)
     }
 
-    /// The node's solid; a group has none.
+    /// The node's solid: its box grown by the buffer. A group has none. Node and settings are valid.
     pub fn solid(&self, settings: Settings) -> Option<Solid>
         requires node { IsNode self.now }
         requires settings { AreSettings settings }
@@ -68,7 +68,7 @@ impl Node {
         })
     }
 
-    /// Where the pin stands.
+    /// Where the pin stands. The node is valid, and the pin lies in its closed box.
     pub fn place_of(&self, pin: Pin) -> Point
         requires node { IsNode self.now }
         requires pin { IsPlaced self.now pin }
@@ -82,7 +82,7 @@ impl Node {
     }
 
     /// Pins of the node among which all those of the class are: the centre's alone for class 0, else those that were
-    /// added to it.
+    /// added to it. The node is valid.
     pub fn pins_among(&self, class: u32) -> &[Pin]
         requires { IsNode self.now }
         ensures class { filter (λ p. p.class == class) result.now ≡ pins_of_class self.now class }

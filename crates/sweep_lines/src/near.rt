@@ -18,7 +18,7 @@ pub fn is_near(near: &Rect, line: &Line) -> bool
 }
 
 /// Whether the coordinate is one from the first to the last.
-pub fn is_within(first: i64, last: i64, at: i64) -> bool
+pub(crate) fn is_within(first: i64, last: i64, at: i64) -> bool
     ensures { result ≡ is_within first last at }
 {
     first <= at && at <= last

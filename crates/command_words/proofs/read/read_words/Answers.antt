@@ -1,3 +1,4 @@
+-- A first word that is none of the three commands' names.
 use Rattle.command_words.proofs.Commands.{no_command}
 use Rattle.command_words.proofs.read.read_words.Goals as goal
 

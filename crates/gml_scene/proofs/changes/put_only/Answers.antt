@@ -3,7 +3,6 @@ use Rattle.std.proofs.Common.{◌≡◌, ◌≢◌, ℕ, length, Some, refl, sym
 use Rattle.std.specs.Prelude.{slice_get, insert, OnOk}
 use Rattle.gml_text.specs.Tree.{keys}
 use Rattle.gml_text.specs.View.{content, pairs}
-use Rattle.gml_text.specs.declared.tree.Pair.{Pair}
 use Rattle.gml_scene.proofs.PairLists.{IsFirst, made, others, room, put_only_here, put_only_missing}
 use Rattle.gml_scene.proofs.changes.put_only.Goals as goal
 

@@ -1,8 +1,8 @@
 -- The line is put into the first `graphics`, or into one that goes last.
-use Rattle.std.proofs.Common.{◌≡◌, Some, refl, sym, ap, ◌∙◌, arith}
-use Rattle.std.specs.Prelude.{codes, is_some, option_map}
-use Rattle.gml_text.specs.View.{content, pairs}
-use Rattle.gml_scene.specs.Changes.{change_inside, list_place}
+use Rattle.std.proofs.Common.{sym, ap, ◌∙◌, arith}
+use Rattle.std.specs.Prelude.{codes, option_map}
+use Rattle.gml_text.specs.View.{pairs}
+use Rattle.gml_scene.specs.Changes.{list_place}
 use Rattle.gml_scene.specs.Edges.{put_line_in}
 use Rattle.gml_scene.proofs.PairLists.{place_within, changed_here}
 use Rattle.gml_scene.proofs.LinesPut.{line_here, line_last}

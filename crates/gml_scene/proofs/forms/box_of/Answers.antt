@@ -1,7 +1,7 @@
 -- The four lengths stand one behind the other.
 use Rattle.std.proofs.Common.{◌≡◌, ap, ◌∙◌, rules}
 use Rattle.std.specs.Prelude.{codes, pos, ◌*ℤ◌}
-use Rattle.gml_text.specs.Tree.{list, no_pairs, ◌then◌}
+use Rattle.gml_text.specs.Tree.{list, ◌then◌}
 use Rattle.gml_text.specs.View.{pairs}
 use Rattle.gml_scene.specs.Changes.{one}
 use Rattle.gml_scene.specs.Forms.{length_of}

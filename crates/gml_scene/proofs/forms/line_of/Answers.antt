@@ -1,5 +1,5 @@
 -- One more point is written, and at the end all are.
-use Rattle.std.proofs.Common.{◌≡◌, take, ap, ◌∙◌, arith}
+use Rattle.std.proofs.Common.{ap, ◌∙◌}
 use Rattle.std.specs.Prelude.{pos, codes}
 use Rattle.plane_geom.specs.declared.point.Point.{Point}
 use Rattle.gml_text.specs.Tree.{no_pairs, list}

@@ -1,5 +1,5 @@
 -- One more is written.
-use Rattle.std.proofs.Common.{sym, ap, false}
+use Rattle.std.proofs.Common.{sym, ap}
 use Rattle.std.specs.Prelude.{pos, codes}
 use Rattle.plane_geom.specs.declared.point.Point.{Point}
 use Rattle.gml_text.specs.View.{content, pairs}

@@ -1,10 +1,10 @@
 -- The first list of the key is changed in its place, if there is one.
-use Rattle.std.proofs.Common.{◌≡◌, Some, refl, sym, ap, ◌∙◌, arith}
+use Rattle.std.proofs.Common.{sym, ap, ◌∙◌, arith}
 use Rattle.std.specs.Prelude.{codes}
-use Rattle.gml_text.specs.View.{content, pairs}
-use Rattle.gml_scene.specs.Changes.{change_inside, list_place}
+use Rattle.gml_text.specs.View.{pairs}
+use Rattle.gml_scene.specs.Changes.{list_place}
 use Rattle.gml_scene.specs.Nodes.{put_box}
-use Rattle.gml_scene.proofs.PairLists.{made, place_within, changed_here, no_place}
+use Rattle.gml_scene.proofs.PairLists.{place_within, changed_here, no_place}
 use Rattle.gml_scene.proofs.Walks.{on_ok}
 use Rattle.gml_scene.proofs.nodes.put_graphics.Goals as goal
 

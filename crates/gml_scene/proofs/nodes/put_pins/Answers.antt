@@ -1,6 +1,6 @@
 -- Pins are written anew where they are not as they were.
 use Rattle.std.proofs.Common.{◌≡◌, sym, ap, ◌∙◌}
-use Rattle.std.specs.Prelude.{OnOk, codes, if◌then◌else◌}
+use Rattle.std.specs.Prelude.{codes, if◌then◌else◌}
 use Rattle.std.specs.Cmp.Lexicographic.{pointwise}
 use Rattle.gml_text.specs.Tree.{◌then◌}
 use Rattle.gml_text.specs.View.{pairs}

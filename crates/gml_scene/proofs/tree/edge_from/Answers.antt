@@ -1,9 +1,8 @@
 -- One edge after another is looked at.
 use Rattle.std.proofs.Common.{ap, sym, ◌∙◌, arith}
 use Rattle.std.specs.Option.{option_copied}
-use Rattle.scene_model.specs.Valid.{IsNode}
 use Rattle.gml_scene.specs.Tree.{is_at}
-use Rattle.gml_scene.proofs.Looking.{found_here, found_later, found_none, held_here, place_fits, place_smaller}
+use Rattle.gml_scene.proofs.Looking.{found_here, found_later, found_none, place_fits, place_smaller}
 use Rattle.gml_scene.proofs.tree.edge_from.Goals as goal
 
 pub returns-then-is_at : goal.returns-then-is_at

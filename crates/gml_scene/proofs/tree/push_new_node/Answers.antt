@@ -2,7 +2,6 @@
 use Rattle.std.proofs.Common.{[], ◌∷◌, sym, ap, ◌∙◌}
 use Rattle.std.specs.Prelude.{cond}
 use Rattle.gml_text.specs.View.{pairs}
-use Rattle.scene_model.specs.declared.node.Node.{Node}
 use Rattle.gml_scene.specs.Changes.{all_of}
 use Rattle.gml_scene.specs.Forms.{node_pair}
 use Rattle.gml_scene.proofs.KeptParts.{not_new}

@@ -1,3 +1,4 @@
+-- A key that was taken out is no longer there.
 use Rattle.interval_index.proofs.Listed.{has_key_without}
 use Rattle.interval_index.proofs.tests.put.Goals as goal
 

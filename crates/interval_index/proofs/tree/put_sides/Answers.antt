@@ -1,3 +1,4 @@
+-- The size and the greatest end of a tree come from its sides and its node.
 use Rattle.std.proofs.Common.{◌≡◌, ◌+◌, ◌∷◌, ◌++◌, length, refl, sym, ◌∙◌, arith, rules, length-append, w64}
 use Rattle.std.proofs.lemmas.Int.{to_z-of_z}
 use Rattle.std.specs.Int.RustNames.{FitsSigned}

@@ -1,3 +1,4 @@
+-- The law is proved in `ArenaLaws`.
 use Rattle.line_arena.proofs.ArenaLaws.{crossings_of_floor}
 use Rattle.line_arena.proofs.laws.crossings_of_floor.Goals as goal
 

@@ -1,3 +1,4 @@
+-- A row and a dot meet, and the line under the dot shares no point with either.
 use Rattle.std.proofs.Common.{◌≡◌, ◌≢◌, ℕ, pos, Some, None, cond, inl, inr, refl, sym, ap, subst, ◌∙◌, arith}
 use Rattle.std.specs.Prelude.{is_some}
 use Rattle.std.specs.Ordering.{nat_cmp}

@@ -1,3 +1,4 @@
+-- A line of the grid runs apart from those before it.
 use Rattle.std.proofs.Common.{◌+◌, pos, ◌<ℤ◌, inl, inr, sym, ap, subst, ◌∙◌, arith}
 use Rattle.std.proofs.lemmas.Int.{ints}
 use Rattle.std.specs.FinMap.{get}

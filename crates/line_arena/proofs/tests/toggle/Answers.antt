@@ -1,3 +1,4 @@
+-- A column and a row of the grid meet, and where no crossing was found they have none.
 use Rattle.std.proofs.Common.{◌≡◌, ◌∙◌, Some, ap, sym, subst}
 use Rattle.std.specs.Prelude.{IfSome, is_some}
 use Rattle.std.specs.FinMap.{get}

@@ -1,3 +1,4 @@
+-- Three draws make a move: its node, and where it goes.
 use Rattle.std.proofs.Common.{rules, ◌+◌, ◌*◌, w64, to_z, of_z}
 use Rattle.std.specs.Prelude.{pos}
 use mir.Val.{SFits}

@@ -1,3 +1,4 @@
+-- One transaction more, with an undo after each third one.
 use Rattle.std.proofs.Common.{◌≡◌, ◌+◌, List, ◌++◌, sym, ap, ◌∙◌, append-nil}
 use Rattle.std.specs.Prelude.{flat_map}
 use Rattle.scene_model.specs.declared.edit.Command.{Command}

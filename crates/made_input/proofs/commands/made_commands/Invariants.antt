@@ -1,3 +1,4 @@
+-- The transactions so far are there, of three draws each.
 use Rattle.std.proofs.Common.{◌≡◌, ◌*◌}
 use Rattle.std.specs.Prelude.{flat_map}
 use Rattle.made_input.specs.Draws.{first, state_after}

@@ -1,3 +1,4 @@
+-- The draw is computed.
 use Rattle.std.proofs.Common.{refl}
 use Rattle.made_input.specs.Draws.{state_after}
 use Rattle.made_input.proofs.laws.first_draw_of_one.Goals as goal

@@ -1,3 +1,4 @@
+-- The made edges so far are there, of two draws each.
 use Rattle.std.proofs.Common.{◌≡◌, ◌+◌, ◌*◌}
 use Rattle.made_input.specs.Draws.{first, state_after}
 use Rattle.made_input.specs.Made.{made_edge}

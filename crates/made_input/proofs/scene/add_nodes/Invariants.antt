@@ -1,3 +1,4 @@
+-- The made nodes so far are there, of four draws each.
 use Rattle.std.proofs.Common.{◌≡◌, ◌*◌}
 use Rattle.scene_model.specs.Scene.{empty_scene}
 use Rattle.made_input.specs.Draws.{first, state_after}

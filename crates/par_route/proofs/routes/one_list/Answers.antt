@@ -1,3 +1,4 @@
+-- The law that tasks have one list of right answers.
 use Rattle.par_route.proofs.OneList as laws
 use Rattle.par_route.proofs.routes.one_list.Goals as goal
 

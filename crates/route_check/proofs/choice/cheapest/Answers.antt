@@ -1,3 +1,4 @@
+-- One choice more, which fits or not.
 use Rattle.std.proofs.Common.{take, subst}
 use Rattle.std.proofs.lemmas.Bool.{iff_false}
 use Rattle.std.proofs.lemmas.List.{take_more, take_all}

@@ -1,3 +1,4 @@
+-- The best is a cheapest of the choices so far that fit.
 use Rattle.std.proofs.Common.{take}
 use Rattle.route_check.specs.Choices.{FitsRun, IsCheapestIfAny}
 use Rattle.route_check.proofs.choice.cheapest.Given as goal

@@ -1,3 +1,4 @@
+-- The choices that fit the last run are those with whose reversed stub the line ends.
 use Rattle.std.proofs.Common.{◌≡◌, ◌≤◌, min, Option, unwrap_or, sym, ap, ◌∙◌}
 use Rattle.std.proofs.lemmas.List.Elements.{All-contains}
 use Rattle.plane_geom.specs.declared.point.Point.{Point}

@@ -1,3 +1,4 @@
+-- The choices that fit the first run are those with whose stub the line begins.
 use Rattle.std.proofs.lemmas.List.Elements.{All-contains}
 use Rattle.walk_model.specs.Choice.{IsChoice}
 use Rattle.walk_model.specs.Legal.{Leaves}

@@ -1,3 +1,4 @@
+-- The steps that may not meet the node's solid follow the stub from the node and end before the stub to it.
 use Rattle.std.proofs.Common.{◌≡◌, ◌-◌, ◌⊎◌, ℕ, ap, of_z, w64, ◌∙◌, inl, inr, arith}
 use Rattle.std.proofs.lemmas.Int.{ints}
 use Rattle.walk_model.specs.Choice.{stub_length}

@@ -1,3 +1,4 @@
+-- The hit is the first of the solids so far; the limit is its step.
 use Rattle.std.proofs.Common.{take}
 use Rattle.route_check.proofs.Hits.{HitSoFar}
 use Rattle.route_check.proofs.hit.first_hit.Given as goal

@@ -1,3 +1,4 @@
+-- One segment more: its first step that meets the rectangle is the first of all, or it has none.
 use Rattle.std.proofs.Common.{◌↔◌, ℕ, ◌+◌, ◌<◌, arith}
 use Rattle.plane_geom.specs.Point.{distance, forward, heading}
 use Rattle.plane_geom.specs.Rect.{StepMeets}

@@ -1,3 +1,4 @@
+-- No step of the segments so far meets the rectangle.
 use Rattle.route_check.proofs.Meetings.{MeetsNoneSoFar}
 use Rattle.route_check.proofs.hit.first_meeting.Given as goal
 

@@ -1,3 +1,4 @@
+-- One segment more goes on in the direction of the first run, or ends it.
 use Rattle.std.proofs.Common.{sym, ◌∙◌, inl, inr, arith, rules}
 use denote.Enum.Bare.{differs_true, differs_false}
 use Rattle.plane_geom.specs.contracts.point.Dir.{the_type}

@@ -1,3 +1,4 @@
+-- All the segments so far are of the first run.
 use Rattle.route_check.proofs.Runs.{FirstSoFar}
 use Rattle.route_check.proofs.run.first_run.Given as goal
 

@@ -1,3 +1,4 @@
+-- One segment more goes on in the direction of the last run, or begins a new one.
 use Rattle.std.proofs.Common.{◌+◌, sym, ◌∙◌, arith, rules, zero-add}
 use denote.Enum.Bare.{same_true, same_false}
 use Rattle.plane_geom.specs.contracts.point.Dir.{the_type}

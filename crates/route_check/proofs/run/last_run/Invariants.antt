@@ -1,3 +1,4 @@
+-- The run is the last one of the segments so far.
 use Rattle.std.proofs.Common.{ℕ}
 use Rattle.route_check.proofs.Runs.{LastSoFar}
 use Rattle.route_check.proofs.run.last_run.Given as goal

@@ -1,3 +1,4 @@
+-- One segment more, which is straight, or the first that is not.
 use Rattle.std.proofs.Common.{ap, of_z, w64, inl, inr, arith}
 use Rattle.std.proofs.lemmas.Int.{ints}
 use Rattle.route_check.proofs.Slants.{straight_none, straight_more, straight_stop, straight_all}

@@ -1,3 +1,4 @@
+-- The segments so far are straight.
 use Rattle.route_check.proofs.Slants.{StraightSoFar}
 use Rattle.route_check.proofs.straight.first_slanted.Given as goal
 

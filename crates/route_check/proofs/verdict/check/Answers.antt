@@ -1,3 +1,4 @@
+-- The rules are tried in their order: the verdict is the first that is broken, and else the cost.
 use Rattle.std.proofs.Common.{◌≡◌, ◌↔◌, ℕ, ◌+◌, ◌-◌, ◌≤◌, ◌∷◌, List, length, take, Option, Some, None, Err, refl, sym, ap, to_z, of_z, w64, ◌∙◌, subst, arith, All}
 use Rattle.std.proofs.lemmas.Int.{ints}
 use Rattle.std.proofs.lemmas.List.{take_all}

@@ -1,3 +1,4 @@
+-- The law is proved by the stubs and the runs between them.
 use Rattle.run_laws.proofs.ToTheWalk.{legal_by_stubs}
 use Rattle.run_laws.proofs.laws.legal_runs_make_legal_walks.Goals as goal
 

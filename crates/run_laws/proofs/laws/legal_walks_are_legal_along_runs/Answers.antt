@@ -1,3 +1,4 @@
+-- The law is proved from the walk that the runs make.
 use Rattle.run_laws.proofs.FromTheWalk.{from_walk}
 use Rattle.run_laws.proofs.laws.legal_walks_are_legal_along_runs.Goals as goal
 

@@ -4,10 +4,9 @@ use Rattle.std.specs.Prelude.{is_none}
 use Rattle.std.specs.Option.{option_copied}
 use Rattle.gml_text.specs.View.{pairs}
 use Rattle.scene_model.specs.declared.edge.Edge.{Edge}
-use Rattle.scene_model.specs.Valid.{IsNode}
 use Rattle.gml_scene.specs.Forms.{edge_pair}
-use Rattle.gml_scene.specs.Tree.{line_for, new_edges}
-use Rattle.gml_scene.proofs.Looking.{held_here, place_fits, place_smaller}
+use Rattle.gml_scene.specs.Tree.{line_for}
+use Rattle.gml_scene.proofs.Looking.{place_fits, place_smaller}
 use Rattle.gml_scene.proofs.Walks.{passed_more, passed_all}
 use Rattle.gml_scene.proofs.tree.Change.push_new_edges.Goals as goal
 

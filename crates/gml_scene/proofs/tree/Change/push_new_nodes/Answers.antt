@@ -6,7 +6,6 @@ use Rattle.gml_text.specs.View.{pairs}
 use Rattle.scene_model.specs.declared.node.Node.{Node}
 use Rattle.scene_model.specs.Valid.{IsNode}
 use Rattle.gml_scene.specs.Forms.{node_pair}
-use Rattle.gml_scene.specs.Tree.{line_for, new_nodes}
 use Rattle.gml_scene.proofs.Looking.{held_here, place_fits, place_smaller}
 use Rattle.gml_scene.proofs.Walks.{passed_more, passed_all}
 use Rattle.gml_scene.proofs.tree.Change.push_new_nodes.Goals as goal

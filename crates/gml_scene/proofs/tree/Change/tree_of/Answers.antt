@@ -1,9 +1,9 @@
 -- The graph is changed in its place.
-use Rattle.std.proofs.Common.{◌≡◌, ◌<◌, ◌≤◌, ◌+◌, length, take, drop, Some, sym, ap, subst, ◌∙◌, arith, rules}
+use Rattle.std.proofs.Common.{◌≡◌, take, sym, ap, subst, ◌∙◌, arith, rules}
 use Rattle.std.specs.Prelude.{codes, IfOk}
 use Rattle.std.proofs.lemmas.List.{length-take}
 use Rattle.gml_text.specs.Tree.{◌then◌}
-use Rattle.gml_text.specs.View.{content, pairs}
+use Rattle.gml_text.specs.View.{pairs}
 use Rattle.gml_scene.specs.Tree.{graph_again}
 use Rattle.gml_scene.proofs.PairLists.{place_within, no_place}
 use Rattle.gml_scene.proofs.Walks.{written_around}

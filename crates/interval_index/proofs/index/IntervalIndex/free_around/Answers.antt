@@ -1,3 +1,4 @@
+-- The place is inside a span where the greatest end before it lies beyond it.
 use Rattle.std.proofs.Common.{◌≤ℤ◌, sym, ◌∙◌, arith, rules, w64}
 use Rattle.std.proofs.lemmas.Int.{ints, to_z-of_z}
 use Rattle.std.specs.Int.RustNames.{FitsSigned}

@@ -1,3 +1,4 @@
+-- The span goes into the tree and into the table by keys, and the two agree again.
 use Rattle.std.proofs.Common.{◌≡◌, ◌<◌, ◌^◌, false, refl, ◌∙◌, rules}
 use Rattle.interval_index.specs.Order.{inserted}
 use Rattle.interval_index.specs.Index.{IsSpan, has_key}

@@ -1,3 +1,4 @@
+-- A key that is absent changes nothing; else its span goes from the tree and from the table by keys.
 use Rattle.std.proofs.Common.{◌≡◌, Some, None, is_some, ap, sym, ◌∙◌}
 use Rattle.std.specs.Prelude.{◌==◌, find}
 use Rattle.std.specs.Ordering.{nat_cmp}

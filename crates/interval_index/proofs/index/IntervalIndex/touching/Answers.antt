@@ -1,3 +1,4 @@
+-- The keys that the tree collects are those of the spans that are touched; an empty range touches none.
 use Rattle.std.proofs.Common.{◌≤ℤ◌, ◌<ℤ◌, sym, arith, w64}
 use Rattle.std.proofs.lemmas.Int.{ints, to_z-of_z}
 use Rattle.std.specs.Int.RustNames.{FitsSigned}

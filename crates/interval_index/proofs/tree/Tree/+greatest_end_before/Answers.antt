@@ -1,3 +1,4 @@
+-- What begins before the place: some of the left side, or all of it with the node and some of the right side.
 use Rattle.std.proofs.Common.{◌≡◌, true, false, rules, w64}
 use Rattle.std.proofs.lemmas.Int.{to_z-of_z}
 use Rattle.std.specs.Int.RustNames.{FitsSigned}

@@ -1,3 +1,4 @@
+-- The span goes into the side where its place is, and the tree is balanced again.
 use Rattle.std.proofs.Common.{◌≡◌, ◌+◌, ◌∙◌, true, false, ap, length, arith, rules}
 use Rattle.interval_index.specs.Order.{is_before}
 use Rattle.interval_index.proofs.AtNode.{at_node}

@@ -1,3 +1,4 @@
+-- The span goes from the side where it stands, or it is the node's and the sides are joined; the tree is balanced again.
 use Rattle.std.proofs.Common.{◌≡◌, ◌≤◌, true, false, length, arith, rules}
 use Rattle.interval_index.specs.Order.{is_before}
 use Rattle.interval_index.proofs.AtNode.{at_node}

@@ -1,3 +1,4 @@
+-- The first start from the place on is one of the left side, the node's, or one of the right side.
 use Rattle.std.proofs.Common.{◌≡◌, true, false, rules, w64}
 use Rattle.std.proofs.lemmas.Int.{to_z-of_z}
 use Rattle.std.specs.Int.RustNames.{FitsSigned}

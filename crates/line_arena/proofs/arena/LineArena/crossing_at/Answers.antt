@@ -1,3 +1,4 @@
+-- A crossing at the point stands on the column through it; without a column none does.
 use Rattle.std.proofs.Common.{◌≡◌, ℕ, None, Some, sym, subst}
 use Rattle.std.specs.Prelude.{Contains}
 use Rattle.line_arena.specs.Lists.{Spot, spot_at}

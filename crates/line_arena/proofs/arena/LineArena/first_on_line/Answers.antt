@@ -1,3 +1,4 @@
+-- Where a line's list begins, its crossing with the least coordinate stands.
 use Rattle.std.proofs.Common.{◌≡◌, ◌≢◌, ◌∙◌, None, Some, ap, sym, subst}
 use Rattle.std.specs.Prelude.{option_and_then}
 use Rattle.std.specs.Option.{option_map}

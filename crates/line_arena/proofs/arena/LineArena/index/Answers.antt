@@ -1,3 +1,4 @@
+-- A crossing that is there has an entry.
 use Rattle.std.proofs.Common.{◌≢◌, None, sym, subst}
 use Rattle.line_arena.specs.Entries.{entry_at}
 use Rattle.line_arena.proofs.ArenaLemmas.{live_entry}

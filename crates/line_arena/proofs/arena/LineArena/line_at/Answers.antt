@@ -1,3 +1,4 @@
+-- A line is there where it stands among the lines in order, and nowhere else.
 use Rattle.std.proofs.Common.{refl, sym, subst}
 use Rattle.std.specs.Prelude.{Contains}
 use Rattle.line_arena.proofs.ArenaLemmas.{is_arena}

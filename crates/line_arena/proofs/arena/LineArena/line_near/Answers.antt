@@ -1,3 +1,4 @@
+-- A line is there where it stands among the lines in order, whichever place was looked at first.
 use Rattle.std.proofs.Common.{sym, subst}
 use Rattle.std.specs.Prelude.{Contains}
 use Rattle.std.proofs.lemmas.Option.{IfSome_then}

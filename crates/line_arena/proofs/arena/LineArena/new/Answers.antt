@@ -1,3 +1,4 @@
+-- Without entries there are no lines and no crossings.
 use Rattle.line_arena.specs.View.{pair_of}
 use Rattle.line_arena.proofs.ArenaLaws.{empty_arena}
 use Rattle.line_arena.proofs.Seen.{seen_empty}

@@ -1,3 +1,4 @@
+-- The link of a crossing in a direction leads to the nearest one further on.
 use Rattle.std.proofs.Common.{◌≡◌, ◌≢◌, ◌∙◌, None, Some, ap, sym, subst}
 use Rattle.std.specs.Prelude.{option_and_then}
 use Rattle.std.specs.Option.{option_map}

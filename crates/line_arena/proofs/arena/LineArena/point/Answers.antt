@@ -1,3 +1,4 @@
+-- The entry of a crossing has the point where its lines meet.
 use Rattle.std.proofs.Common.{◌≡◌, ◌≢◌, None, Some, ap, sym, subst}
 use Rattle.std.specs.Option.{option_map}
 use Rattle.line_arena.specs.Entries.{entry_at}

@@ -1,3 +1,4 @@
+-- The crossing is one more in the lists, and the order of the lines stays.
 use Rattle.std.proofs.Common.{arith, refl, ◌≡◌, ◌∙◌, ◌-◌, ap, subst, rules}
 use Rattle.std.specs.Option.{option_map}
 use Rattle.std.specs.FinMap.{insert}

@@ -1,3 +1,4 @@
+-- The line is one more in the lists, and one more at its place in the order.
 use Rattle.std.proofs.Common.{refl, ◌≡◌, ◌∙◌, ◌-◌, ◌<◌, sym, subst, arith, rules}
 use Rattle.slab.specs.Slab.{slab_len}
 use Rattle.std.specs.FinMap.{insert}

@@ -1,3 +1,4 @@
+-- The crossing is one less in the lists, and the order of the lines stays.
 use Rattle.std.proofs.Common.{refl, arith, ◌≡◌, ◌∙◌, ◌+◌, sym, subst}
 use Rattle.std.specs.FinMap.{remove}
 use Rattle.line_arena.specs.View.{arena_of}

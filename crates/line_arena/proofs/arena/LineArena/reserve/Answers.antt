@@ -1,3 +1,4 @@
+-- Room is made in the order, for lines and for crossings; what was made stays where a later one fails.
 use Rattle.std.proofs.Common.{◌≤◌, ◌-◌, ◌∙◌, ap, refl, sym, subst, arith}
 use Rattle.slab.specs.Slab.{slab_len}
 use Rattle.line_arena.specs.declared.lists.Lists.{Lists}

@@ -1,3 +1,4 @@
+-- Where there was room enough, none is made.
 use Rattle.std.proofs.Common.{◌≡◌, ◌+◌, ◌≤◌, ℕ, sym, ap, subst, ◌∙◌, arith}
 use Rattle.slab.specs.Slab.{Slab, slab_len, HasRoomFor}
 use Rattle.line_arena.specs.Entries.{Entered}

@@ -1,3 +1,4 @@
+-- The first crossing that the point does not lie beyond stands at the point, or none does.
 use Rattle.std.proofs.Common.{◌≡◌, ◌≢◌, ◌∙◌, None, Some, ap, sym, subst}
 use Rattle.std.specs.Option.{option_map}
 use Rattle.plane_geom.specs.Along.{reach}

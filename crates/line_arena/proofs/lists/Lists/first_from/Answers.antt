@@ -1,3 +1,4 @@
+-- The walk goes on from a crossing before the point to the next one, and so it ends.
 use Rattle.std.proofs.Common.{◌≡◌, ◌<◌, ◌∙◌, Some, subst, sym}
 use Rattle.plane_geom.specs.Along.{IsFurther, reach}
 use Rattle.line_arena.specs.Entries.{entry_at}

@@ -1,3 +1,4 @@
+-- All crossings before the next one stand before the point.
 use Rattle.line_arena.proofs.Walk.{IsComing, left_at}
 use Rattle.line_arena.proofs.lists.Lists.first_from.Given as goal
 

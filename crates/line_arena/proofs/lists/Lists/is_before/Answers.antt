@@ -1,3 +1,4 @@
+-- A crossing that names the line stands on it.
 use Rattle.std.proofs.Common.{◌≡◌, ◌∙◌, ℕ, Some, arith, subst, sym}
 use Rattle.line_arena.specs.Entries.{entry_at}
 use Rattle.line_arena.specs.Lists.{IsShortOf, spot_at}

@@ -1,3 +1,4 @@
+-- A link in one direction changes nothing in the other three.
 use Rattle.std.proofs.Common.{◌∙◌, refl, sym}
 use Rattle.plane_geom.specs.declared.point.Dir.TheVariants.{East, South, West, North}
 use Rattle.line_arena.specs.Lists.{without}

@@ -1,3 +1,4 @@
+-- Lines that meet do so at the vertical one's x and the horizontal one's y.
 use Rattle.std.proofs.Common.{◌≡◌, Some, ap, subst, rules, w64}
 use Rattle.std.specs.Option.{option_map}
 use Rattle.std.proofs.lemmas.Int.{to_z-of_z}

@@ -1,3 +1,4 @@
+-- A line that runs along a direction runs along the one against it.
 use Rattle.std.proofs.Common.{sym, subst}
 use Rattle.line_arena.specs.Lists.{RunsAlong}
 use Rattle.line_arena.proofs.Walk.{runs_back}

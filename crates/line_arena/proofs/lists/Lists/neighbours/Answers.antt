@@ -1,3 +1,4 @@
+-- Of two crossings next to each other, the point lies beyond the one and not beyond the other.
 use Rattle.std.proofs.Common.{◌∙◌, None, Some, ap, sym, subst}
 use Rattle.plane_geom.specs.Point.{opposite}
 use Rattle.plane_geom.specs.Along.{reach}

@@ -1,3 +1,4 @@
+-- The new crossing knows its neighbours, and they come to know it.
 use Rattle.std.proofs.Common.{Some, ap, refl, sym, subst}
 use Rattle.std.specs.Option.{option_map}
 use Rattle.plane_geom.specs.Along.{reach}

@@ -1,3 +1,4 @@
+-- A new line has no crossings, and so no links.
 use Rattle.std.proofs.Common.{None, Some, ap, refl, subst}
 use Rattle.std.specs.Option.{option_map}
 use Rattle.slab.specs.Slab.{Updates}

@@ -1,3 +1,4 @@
+-- The crossing knows its neighbours, and they come to know each other.
 use Rattle.std.proofs.Common.{None, refl, subst}
 use Rattle.slab.specs.Slab.{Updates}
 use Rattle.line_arena.specs.Lists.{spot_at}

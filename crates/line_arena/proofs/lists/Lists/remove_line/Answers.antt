@@ -1,3 +1,4 @@
+-- No link leads to or from a line without crossings.
 use Rattle.std.proofs.Common.{None, refl, subst}
 use Rattle.slab.specs.Slab.{Updates}
 use Rattle.line_arena.proofs.Put.{lists_without_line}

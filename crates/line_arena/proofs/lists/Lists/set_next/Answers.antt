@@ -1,3 +1,4 @@
+-- One link is changed, at the line's end or at a crossing, and no other.
 use Rattle.std.proofs.Common.{◌≡◌, ◌∙◌, Some, sym, subst}
 use Rattle.slab.specs.Slab.{Updates}
 use Rattle.line_arena.specs.Entries.{entry_at}

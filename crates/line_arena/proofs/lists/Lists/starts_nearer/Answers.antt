@@ -1,3 +1,4 @@
+-- The crossings at which a list begins and ends are there.
 use Rattle.std.proofs.Common.{◌≢◌, ◌∙◌, None, ap, sym, subst}
 use Rattle.plane_geom.specs.Point.{opposite}
 use Rattle.line_arena.specs.Entries.{entry_at}

@@ -1,3 +1,4 @@
+-- What follows a crossing in a direction is there.
 use Rattle.std.proofs.Common.{◌≡◌, Some, subst}
 use Rattle.line_arena.specs.Entries.{entry_at}
 use Rattle.line_arena.proofs.Walk.{step_live}

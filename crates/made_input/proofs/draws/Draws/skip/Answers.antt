@@ -1,3 +1,4 @@
+-- One draw more is skipped.
 use Rattle.std.proofs.Common.{refl, sym, ◌+◌}
 use Rattle.made_input.proofs.DrawLemmas.{next_is, state_after-zero}
 use Rattle.made_input.proofs.draws.Draws.skip.Goals as goal

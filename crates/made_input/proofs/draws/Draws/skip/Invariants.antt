@@ -1,3 +1,4 @@
+-- The state is that after the draws skipped so far.
 use Rattle.std.proofs.Common.{◌≡◌}
 use Rattle.made_input.specs.Draws.{state_after}
 use Rattle.made_input.proofs.draws.Draws.skip.Given as goal

@@ -3,7 +3,6 @@ use Rattle.std.proofs.Common.{FitsSigned, rules, w64}
 use Rattle.std.proofs.lemmas.Int.{to_z-of_z}
 use Rattle.plane_geom.proofs.Ways.{nearest_on_sheet}
 use Rattle.plane_geom.proofs.rect.Rect.nearest_to.Goals as goal
-use Rattle.plane_geom.proofs.rect.Rect.nearest_to.Goals.{After-nearest-2}
 
 pub returns-clause-on_the_way : goal.returns-clause-on_the_way
 returns-clause-on_the_way c =

@@ -1,3 +1,4 @@
+-- A stub of 14 steps makes a choice.
 use Rattle.std.proofs.Common.{◌≡◌, ℕ, sym, ap, ◌∙◌, arith}
 use Rattle.std.proofs.lemmas.Int.{to_z-of_z}
 use Rattle.plane_geom.specs.Point.{distance, forward}

@@ -1,3 +1,4 @@
+-- One choice more of the node.
 use Rattle.std.proofs.Common.{arith, to_z, of_z, w64}
 use Rattle.std.proofs.lemmas.List.Elements.{All-push}
 use Rattle.route_check.proofs.Fixtures.{IsOfNode}

@@ -1,3 +1,4 @@
+-- The choices so far are of the node, one for each coordinate.
 use Rattle.std.proofs.Common.{◌≡◌, All, vec_len}
 use Rattle.route_check.proofs.Fixtures.{IsOfNode}
 use Rattle.route_check.proofs.verdict.tests.choices.Given as goal

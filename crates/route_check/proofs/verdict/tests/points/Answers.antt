@@ -1,3 +1,4 @@
+-- One point more, which is on the sheet.
 use Rattle.std.proofs.Common.{arith}
 use Rattle.std.proofs.lemmas.List.Elements.{All-push}
 use Rattle.plane_geom.specs.Point.{PointIsOnSheet}

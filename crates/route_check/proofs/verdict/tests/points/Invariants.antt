@@ -1,3 +1,4 @@
+-- The points so far are on the sheet, one for each coordinate.
 use Rattle.std.proofs.Common.{◌≡◌, All, vec_len}
 use Rattle.plane_geom.specs.Point.{PointIsOnSheet}
 use Rattle.route_check.proofs.verdict.tests.points.Given as goal

@@ -1,3 +1,4 @@
+-- The solids so far are on the sheet.
 use Rattle.std.proofs.Common.{All}
 use Rattle.plane_geom.specs.declared.rect.Solid.{Solid}
 use Rattle.plane_geom.specs.Rect.{RectIsOnSheet}

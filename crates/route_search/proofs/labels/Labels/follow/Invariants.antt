@@ -1,5 +1,4 @@
 -- The first walk has been followed to where it stands, and each step leaves less ahead.
-use Rattle.std.proofs.Common.{◌≡◌, ℕ}
 use Rattle.walk_model.specs.Order.{Triple}
 use Rattle.route_search.specs.Starting.{EntersAt}
 use Rattle.route_search.proofs.Following.{IsFollowing}

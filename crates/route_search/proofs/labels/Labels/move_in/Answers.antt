@@ -1,8 +1,7 @@
 -- The move to the nearest crossing is the only one, and its label says whether it fits.
-use Rattle.std.proofs.Common.{◌≡◌, ◌≤◌, ◌+◌, ◌*◌, ◌<◌, Some, None, refl, sym, ap, subst, ◌∙◌, arith, unsigned_abs, rules}
+use Rattle.std.proofs.Common.{◌≡◌, Some, None, refl, sym, ap, subst, ◌∙◌, arith, rules}
 use Rattle.plane_geom.specs.declared.point.Dir.{Dir}
 use Rattle.plane_geom.specs.declared.point.Point.{Point}
-use Rattle.plane_geom.specs.Along.{across, way_of}
 use Rattle.line_arena.specs.Arena.{LiesFurther}
 use Rattle.move_model.specs.declared.place.Place.{Place}
 use Rattle.move_model.specs.Ahead.{with_stretch}

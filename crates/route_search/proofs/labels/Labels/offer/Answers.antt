@@ -1,3 +1,4 @@
+-- A label that is no cheaper than what is known changes nothing; another one is known from then on, and queued up.
 use Rattle.std.proofs.Common.{◌≡◌, ◌≢◌, ◌<◌, ◌≤◌, ℕ, ◌+◌, ◌*◌, Bool, if◌then◌else◌, Some, length, get_or, heap_items, sym, ap, subst, ◌∙◌, inl, inr, arith}
 use Rattle.std.specs.Prelude.{Contains, sum_by}
 use Rattle.std.proofs.Math.ListN.{set}

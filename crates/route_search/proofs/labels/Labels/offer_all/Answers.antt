@@ -1,3 +1,4 @@
+-- What holds after one direction's offer holds before the next one's.
 use Rattle.std.proofs.Common.{subst}
 use Rattle.plane_geom.specs.declared.point.Dir.{Dir}
 use Rattle.move_model.specs.Ahead.{with_stretch}

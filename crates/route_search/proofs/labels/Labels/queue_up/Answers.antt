@@ -1,3 +1,4 @@
+-- The queue has the candidate and what it had before.
 use Rattle.std.proofs.Common.{◌∷◌, heap_items, arith}
 use Rattle.std.proofs.lemmas.List.Sorted.{length_permutation}
 use Rattle.route_search.proofs.Queues.{push_has, push_keeps, push_only}

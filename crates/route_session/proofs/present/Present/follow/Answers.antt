@@ -1,5 +1,5 @@
 -- What `follow` writes where memory is wanting.
-use Rattle.std.proofs.Common.{◌≡◌, ℕ, false, sym, ap, ◌∙◌}
+use Rattle.std.proofs.Common.{◌≡◌, false, ap, ◌∙◌}
 use Rattle.std.specs.Prelude.{is_err}
 use Rattle.visibility_graph.specs.Meeting.{counted_by}
 use Rattle.route_session.specs.declared.present.Present.{Present}

@@ -16,7 +16,7 @@ use Rattle.separation_solve.proofs.Searches.Pushing.{IsSettled, pushed, rest_is,
 use Rattle.separation_solve.proofs.Searches.Sending.{amount_size, change_fits}
 use Rattle.separation_solve.proofs.LightFractions.Spots.{cast_is}
 use Rattle.separation_solve.proofs.network.Network.push.Goals as goal
-use Rattle.separation_solve.proofs.network.Network.push.Goals.{After-send, After-index_mut, Then-end-wall, Else-end-wall, After-index_mut-then-end-wall}
+use Rattle.separation_solve.proofs.network.Network.push.Goals.{After-send, Then-end-wall, Else-end-wall, After-index_mut-then-end-wall}
 
 -- the list with the amount added at the index, and taken away there, as the code does it
 abbrev raised_at : List ℤ → ℕ → ℤ → ℤ → List ℤ
