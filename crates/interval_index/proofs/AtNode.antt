@@ -25,3 +25,16 @@ at_node {root} {tree} {b} view at sorted =
       round = sorted_round _ _ _ same;
       size = ap length is ∙ omega (arith, length-append n.left.0 (n.span ∷ n.right.0));
     }
+
+-- the sides of a sorted tree's root are sorted, and have all its spans but one
+pub record AreSides (spans : List Span) (sides : (List Span × ℕ) × (List Span × ℕ)) : Type 0 where
+  pub left_sorted : IsSorted sides.0.0
+  pub right_sorted : IsSorted sides.1.0
+  pub size : length spans ≡ length sides.0.0 + length sides.1.0 + 1
+
+pub sides_taken : {spans : List Span} {n : Node} {sides : (List Span × ℕ) × (List Span × ℕ)} → IsAtNode spans n → sides.0 ≡ n.left → sides.1 ≡ n.right → AreSides spans sides
+sides_taken at left right = record {
+  left_sorted = rw left at.round.left;
+  right_sorted = rw right at.round.right;
+  size = rw (left, right) at.size;
+}

@@ -1,5 +1,5 @@
 -- A label that falls weighs less.
-use Rattle.std.proofs.Common.{◌≡◌, ◌⊎◌, ℕ, ◌+◌, ◌<◌, ◌≤◌, ℤ, pos, ◌-ℤ◌, ◌<ℤ◌, ◌≤ℤ◌, List, Some, length, get_or, refl, sym, inl, inr, arith}
+use Rattle.std.proofs.Common.{◌≡◌, ◌⊎◌, ℕ, ◌+◌, ◌<◌, ◌≤◌, pos, ◌-ℤ◌, ◌<ℤ◌, ◌≤ℤ◌, List, Some, length, get_or, refl, sym, inl, inr, arith}
 use Rattle.std.proofs.Math.IntN.{negsuc}
 use Rattle.std.proofs.Math.ListN.{set}
 use Rattle.std.specs.Int.{int_gap}

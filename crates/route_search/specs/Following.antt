@@ -2,7 +2,7 @@
 use Rattle.std.specs.Prelude.{ℕ, ◌≡◌, ◌⊎◌, ◌-◌, ◌<◌, ◌≤◌, List, length, Option, Some, None, Contains, IfSome}
 use Rattle.plane_geom.specs.declared.point.Dir.{Dir}
 use Rattle.walk_model.specs.Order.{rank}
-use Rattle.move_model.specs.Ahead.{ahead, nothing, with_stretch}
+use Rattle.move_model.specs.Ahead.{nothing, with_stretch}
 use Rattle.move_model.specs.Places.{IsMove}
 use Rattle.search_labels.specs.Labels.{ahead_in}
 use Rattle.search_labels.specs.declared.ends.Ending.{Ending}

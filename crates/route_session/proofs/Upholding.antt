@@ -49,7 +49,7 @@ none_by None h = refl
 none_by (Some x) h = cc
 
 -- the working scene of an open transaction
-abbrev working_of : Option Transaction → Option Scene
+abbrev pub working_of : Option Transaction → Option Scene
 working_of txn = option_map (λ t. t.working) txn
 
 turned_is : (t : Step Exchange) → IsTurned here_of there_of t (turned_step t)

@@ -10,6 +10,7 @@ use Rattle.channel_bundles.specs.Links.{IsLink}
 use Rattle.channel_bundles.specs.Bundles.{members_at}
 use Rattle.channel_bundles.proofs.Bundling.{bundling_begins, bundling_ends, bundling_more}
 use Rattle.channel_bundles.proofs.channel.bundles_of.Goals as goal
+use Rattle.channel_bundles.proofs.channel.bundles_of.Goals.{After-deref-class-items, After-deref}
 
 abbrev Lists : Type 0
 Lists = List (Vec ℕ Global)
@@ -37,21 +38,23 @@ class_at connected members lists i list places are h is e =
 abbrev linked : ℤ → List Member → ℕ → ℕ → Type 0
 linked nudge members = Connected (IsLink nudge members)
 
-pub class_bundle-requires-clause-within : goal.class_bundle-requires-clause-within
-class_bundle-requires-clause-within c =
+-- the classes that the loop goes through
+classes_here : (c : After-deref-class-items) → AreClasses (linked c.args.nudge c.args.members.now) (length c.args.members.now) (items_of c.deref-class-items.result.now)
+classes_here c =
     let fits : FitsSigned w64 c.args.nudge = search rules in
-    let members = c.args.members.now in
     let found = simp to_z-of_z at c.in_ok-classes.ensures in
-    let are = subst (λ xs. AreClasses (linked c.args.nudge members) (length members) (items_of xs)) (sym c.deref-class-items.ensures.value) found in
-    (class_at (linked c.args.nudge members) members c.deref-class-items.result.now c.loop-class.class-index c.class-item.result c.deref.result.now are c.loop-class-test.true c.class-item.is c.deref.ensures.value).1.within
+    subst (λ xs. AreClasses (linked c.args.nudge c.args.members.now) (length c.args.members.now) (items_of xs)) (sym c.deref-class-items.ensures.value) found
+
+-- the class of one turn
+class_here : (c : After-deref) → (c.deref.result.now ≡ get_or (items_of c.deref-class-items.result.now) c.loop-class.class-index []) × IsClass c.args.members.now c.deref.result.now
+class_here c = class_at (linked c.args.nudge c.args.members.now) c.args.members.now c.deref-class-items.result.now c.loop-class.class-index c.class-item.result c.deref.result.now
+    (classes_here (goal.at.After-deref c).After-deref-class-items) c.loop-class-test.true c.class-item.is c.deref.ensures.value
+
+pub class_bundle-requires-clause-within : goal.class_bundle-requires-clause-within
+class_bundle-requires-clause-within c = (class_here (goal.at.class_bundle-requires-clause-within c).After-deref).1.within
 
 pub class_bundle-requires-clause-places : goal.class_bundle-requires-clause-places
-class_bundle-requires-clause-places c =
-    let fits : FitsSigned w64 c.args.nudge = search rules in
-    let members = c.args.members.now in
-    let found = simp to_z-of_z at c.in_ok-classes.ensures in
-    let are = subst (λ xs. AreClasses (linked c.args.nudge members) (length members) (items_of xs)) (sym c.deref-class-items.ensures.value) found in
-    (class_at (linked c.args.nudge members) members c.deref-class-items.result.now c.loop-class.class-index c.class-item.result c.deref.result.now are c.loop-class-test.true c.class-item.is c.deref.ensures.value).1.rising
+class_bundle-requires-clause-places c = (class_here (goal.at.class_bundle-requires-clause-places c).After-deref).1.rising
 
 pub loop-class-init : goal.loop-class-init
 loop-class-init c =
@@ -60,12 +63,10 @@ loop-class-init c =
 
 pub loop-class-preserved : goal.loop-class-preserved
 loop-class-preserved c =
-    let fits : FitsSigned w64 c.args.nudge = search rules in
     let members = c.args.members.now in
+    let same = (class_here (goal.at.loop-class-preserved c).After-deref).0 in
+    let fits : FitsSigned w64 c.args.nudge = search rules in
     let is = simp to_z-of_z at c.loop-class.invariant in
-    let found = simp to_z-of_z at c.in_ok-classes.ensures in
-    let are = subst (λ xs. AreClasses (linked c.args.nudge members) (length members) (items_of xs)) (sym c.deref-class-items.ensures.value) found in
-    let same = (class_at (linked c.args.nudge members) members c.deref-class-items.result.now c.loop-class.class-index c.class-item.result c.deref.result.now are c.loop-class-test.true c.class-item.is c.deref.ensures.value).0 in
     let of = simp to_z-of_z at c.in_ok-class_bundle.ensures.bundle in
     simp to_z-of_z (bundling_more c.args.nudge members (items_of c.deref-class-items.result.now) c.loop-class.found.items _ c.loop-class.class-index c.in_ok-class_bundle.field-0 (members_at members c.deref.result.now)
     is (ap (members_at members) same) of c.in_ok-class_bundle.ensures.good c.in_ok-push.ensures.items)
@@ -73,12 +74,9 @@ loop-class-preserved c =
 pub returns : goal.returns
 returns c =
     let fits : FitsSigned w64 c.args.nudge = search rules in
-    let members = c.args.members.now in
     let is = simp to_z-of_z at c.loop-class.invariant in
-    let found = simp to_z-of_z at c.in_ok-classes.ensures in
-    let are = subst (λ xs. AreClasses (linked c.args.nudge members) (length members) (items_of xs)) (sym c.deref-class-items.ensures.value) found in
     record {
-      bundles = bundling_ends c.args.nudge members (items_of c.deref-class-items.result.now) c.loop-class.found.items c.loop-class.class-index is
-          (omega (arith, length-map {B = List ℕ} c.deref-class-items.result.now (λ l. l.items), c.loop-class-test.false, c.loop-class.auto.class-index-end)) are;
+      bundles = bundling_ends c.args.nudge c.args.members.now (items_of c.deref-class-items.result.now) c.loop-class.found.items c.loop-class.class-index is
+          (omega (arith, length-map {B = List ℕ} c.deref-class-items.result.now (λ l. l.items), c.loop-class-test.false, c.loop-class.auto.class-index-end)) (classes_here (goal.at.returns c).After-deref-class-items);
       each = is.good;
     }

@@ -1,5 +1,5 @@
 -- The last leg, or the first one and the others.
-use Rattle.std.proofs.Common.{◌≡◌, List, [], ◌∷◌, ◌++◌, get_or, sym, ap, ◌∙◌, arith}
+use Rattle.std.proofs.Common.{◌≡◌, ℕ, ◌+◌, ◌*◌, ◌^◌, ◌≤◌, List, [], ◌∷◌, ◌++◌, length, get_or, sym, ap, ◌∙◌, arith}
 use Rattle.std.specs.Prelude.{pos, unsigned_abs}
 use Rattle.std.proofs.lemmas.Int.{ints}
 use Rattle.std.proofs.lemmas.List.Elements.{All-get_or}
@@ -9,31 +9,30 @@ use Rattle.plane_geom.proofs.Signed.{distance_bound}
 use Rattle.scene_model.specs.Stale.{way_length}
 use Rattle.route_book.proofs.Lengths.{last_by, leg_by, no_points, rest_length, through_bound}
 use Rattle.route_book.proofs.reach.+way_lengths.Goals as goal
+use Rattle.route_book.proofs.reach.+way_lengths.Goals.{After-way_lengths-rest}
 
 abbrev origin : Point
 origin = record { x = pos 0; y = pos 0 }
 
+-- the first leg is short
+leg_short : (t : ℕ) (c : After-way_lengths-rest t) → c.distance-step.result ≤ 8000000000
+leg_short t c =
+    let next = All-get_or PointIsOnSheet c.args.via.now 0 origin (omega (arith, c.in-len1-up.len_at_least)) c.requires.via in
+    omega (arith, c.distance-step.ensures, distance_bound c.args.from (get_or c.args.via.now 0 origin) c.requires.from next)
+
+-- so the way is short
+straight_short : (t : ℕ) (c : After-way_lengths-rest t) → c.distance-step.result + c.way_lengths-rest.result.straight ≤ 8 * 10 ^ 9 * (length c.args.via.now + 1)
+straight_short t c = omega (arith, leg_short t c, rest_length c.args.via.now origin c.in-len1-up.len_at_least, c.way_lengths-rest.ensures.short)
+
+-- and so is the way by the rectangle
+by_short : (t : ℕ) (c : After-way_lengths-rest t) → c.distance-step.result + c.way_lengths-rest.result.by ≤ 8 * 10 ^ 9 * (length c.args.via.now + 2)
+by_short t c = omega (arith, leg_short t c, rest_length c.args.via.now origin c.in-len1-up.len_at_least, c.way_lengths-rest.ensures.short_by)
+
 pub overflow_add-result : goal.overflow_add-result
-overflow_add-result t c =
-    let lt = c.in-len1-up.len_at_least in
-    let few = c.requires.few in
-    let rest = rest_length c.args.via.now origin lt in
-    let next : PointIsOnSheet (get_or c.args.via.now 0 origin) = All-get_or PointIsOnSheet c.args.via.now 0 origin (omega (arith, lt)) c.requires.via in
-    let step = distance_bound c.args.from (get_or c.args.via.now 0 origin) c.requires.from next in
-    let short = c.way_lengths-rest.ensures.short in
-    let is = c.distance-step.ensures in
-    omega (arith, lt, few, rest, step, short, is)
+overflow_add-result t c = omega (arith, straight_short t (goal.at.overflow_add-result t c).After-way_lengths-rest, c.requires.few)
 
 pub overflow_add-step : goal.overflow_add-step
-overflow_add-step t c =
-    let lt = c.in-len1-up.len_at_least in
-    let few = c.requires.few in
-    let rest = rest_length c.args.via.now origin lt in
-    let next : PointIsOnSheet (get_or c.args.via.now 0 origin) = All-get_or PointIsOnSheet c.args.via.now 0 origin (omega (arith, lt)) c.requires.via in
-    let step = distance_bound c.args.from (get_or c.args.via.now 0 origin) c.requires.from next in
-    let short = c.way_lengths-rest.ensures.short_by in
-    let is = c.distance-step.ensures in
-    omega (arith, lt, few, rest, step, short, is)
+overflow_add-step t c = omega (arith, by_short t (goal.at.overflow_add-step t c).After-way_lengths-rest, c.requires.few)
 
 pub returns-in-empty-clause-straight : goal.returns-in-empty-clause-straight
 returns-in-empty-clause-straight t c =
@@ -66,22 +65,7 @@ returns-in-len1-up-clause-by t c =
     c.in-len1-up.len_at_least c.l1_through-in-len1-up.ensures (omega (arith, ints)) c.way_lengths-rest.ensures.straight c.distance-step.ensures c.way_lengths-rest.ensures.by c.min.ensures
 
 pub returns-in-len1-up-clause-short : goal.returns-in-len1-up-clause-short
-returns-in-len1-up-clause-short t c =
-    let lt = c.in-len1-up.len_at_least in
-    let rest = rest_length c.args.via.now origin lt in
-    let next : PointIsOnSheet (get_or c.args.via.now 0 origin) = All-get_or PointIsOnSheet c.args.via.now 0 origin (omega (arith, lt)) c.requires.via in
-    let step = distance_bound c.args.from (get_or c.args.via.now 0 origin) c.requires.from next in
-    let short = c.way_lengths-rest.ensures.short in
-    let is = c.distance-step.ensures in
-    omega (arith, lt, rest, step, short, is)
+returns-in-len1-up-clause-short t c = straight_short t (goal.at.returns-in-len1-up-clause-short t c).After-way_lengths-rest
 
 pub returns-in-len1-up-clause-short_by : goal.returns-in-len1-up-clause-short_by
-returns-in-len1-up-clause-short_by t c =
-    let lt = c.in-len1-up.len_at_least in
-    let rest = rest_length c.args.via.now origin lt in
-    let next : PointIsOnSheet (get_or c.args.via.now 0 origin) = All-get_or PointIsOnSheet c.args.via.now 0 origin (omega (arith, lt)) c.requires.via in
-    let step = distance_bound c.args.from (get_or c.args.via.now 0 origin) c.requires.from next in
-    let short = c.way_lengths-rest.ensures.short_by in
-    let is = c.distance-step.ensures in
-    let least = c.min.ensures in
-    omega (arith, lt, rest, step, short, is, least)
+returns-in-len1-up-clause-short_by t c = omega (arith, by_short t (goal.at.returns-in-len1-up-clause-short_by t c).After-way_lengths-rest, c.min.ensures)

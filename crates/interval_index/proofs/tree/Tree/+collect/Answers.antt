@@ -1,18 +1,23 @@
 -- A tree whose ends are all too low meets nothing; else what meets stands in its left side, its node and its right side.
-use Rattle.std.proofs.Common.{◌≡◌, ◌≤ℤ◌, [], ◌∷◌, ◌++◌, sym, subst, arith, rules, w64}
+use Rattle.std.proofs.Common.{◌≡◌, ℕ, ◌≤ℤ◌, [], ◌∷◌, ◌++◌, sym, subst, arith, rules, w64}
 use Rattle.std.proofs.lemmas.Int.{ints, to_z-of_z}
 use Rattle.std.proofs.lemmas.List.{append-nil}
 use Rattle.std.proofs.lemmas.Result.{on_ok_weaker}
 use Rattle.std.specs.Int.RustNames.{FitsSigned}
 use Rattle.interval_index.specs.Ends.{greatest_end, keys_met}
 use Rattle.interval_index.specs.Tree.{IsSound, IsSoundNode}
-use Rattle.interval_index.proofs.AtNode.{at_node}
+use Rattle.interval_index.proofs.AtNode.{IsAtNode, at_node}
 use Rattle.interval_index.proofs.GreatestEnds.{meets_none, meets_short, keys_met_round}
 use Rattle.interval_index.proofs.tree.Tree.+collect.Goals as goal
+use Rattle.interval_index.proofs.tree.Tree.+collect.Goals.{In-Some}
+
+-- the tree at its root
+at_here : (t : ℕ) (c : In-Some t) → IsAtNode c.args.self.now.0 c.in-Some.node.value
+at_here t c = at_node c.self.view_is c.in-Some.is c.requires.sorted
 
 pub returns-then-deref-lo : goal.returns-then-deref-lo
 returns-then-deref-lo t c =
-    let at = at_node c.self.view_is c.in-Some.is c.requires.sorted in
+    let at = at_here t (goal.at.returns-then-deref-lo t c).In-Some in
     let n = c.in-Some.node.value in
     let sound : IsSoundNode n = subst IsSound c.in-Some.is c.self.invariant in
     let lo_fits : FitsSigned w64 c.args.lo = search rules in
@@ -25,12 +30,12 @@ returns-then-deref-lo t c =
 
 pub collect-requires : goal.collect-requires
 collect-requires t c =
-    let at = at_node c.self.view_is c.in-Some.is c.requires.sorted in
+    let at = at_here t (goal.at.collect-requires t c).In-Some in
     (search rules, rw c.deref-2.ensures at.round.left)
 
 pub returns-then-deref-hi : goal.returns-then-deref-hi
 returns-then-deref-hi t c =
-    let at = at_node c.self.view_is c.in-Some.is c.requires.sorted in
+    let at = at_here t (goal.at.returns-then-deref-hi t c).In-Some in
     let n = c.in-Some.node.value in
     let lo_fits : FitsSigned w64 c.args.lo = search rules in
     let hi_fits : FitsSigned w64 c.args.hi = search rules in
@@ -44,12 +49,12 @@ returns-then-deref-hi t c =
 
 pub collect-requires-2 : goal.collect-requires-2
 collect-requires-2 t c =
-    let at = at_node c.self.view_is c.in-Some.is c.requires.sorted in
+    let at = at_here t (goal.at.collect-requires-2 t c).In-Some in
     (search rules, rw c.deref-5.ensures at.round.right)
 
 pub returns : goal.returns
 returns t c =
-    let at = at_node c.self.view_is c.in-Some.is c.requires.sorted in
+    let at = at_here t (goal.at.returns t c).In-Some in
     let n = c.in-Some.node.value in
     let lo_fits : FitsSigned w64 c.args.lo = search rules in
     let hi_fits : FitsSigned w64 c.args.hi = search rules in

@@ -1,43 +1,39 @@
 -- The span goes from the side where it stands, or it is the node's and the sides are joined; the tree is balanced again.
-use Rattle.std.proofs.Common.{◌≡◌, ◌≤◌, true, false, length, arith, rules}
+use Rattle.std.proofs.Common.{◌≡◌, ℕ, true, false, ap, length, arith, rules}
 use Rattle.interval_index.specs.Order.{is_before}
-use Rattle.interval_index.proofs.AtNode.{at_node}
+use Rattle.interval_index.proofs.AtNode.{AreSides, at_node, sides_taken}
 use Rattle.interval_index.proofs.Placed.{without_left, without_right, without_middle, length-without}
 use Rattle.interval_index.proofs.tree.Tree.+remove.Goals as goal
+use Rattle.interval_index.proofs.tree.Tree.+remove.Goals.{After-take_sides-left}
+
+-- the sides that were taken
+sides_here : (t : ℕ) (c : After-take_sides-left t) → AreSides c.args.self.0 c.take_sides-left.result
+sides_here t c =
+    let left : c.take_sides-left.result.0 ≡ c.in-Some.node.value.left = cc in
+    let right : c.take_sides-left.result.1 ≡ c.in-Some.node.value.right = cc in
+    sides_taken (at_node c.self.view_is c.in-Some.is c.requires.sorted) left right
 
 pub remove-requires : goal.remove-requires
 remove-requires t c =
-    let at = at_node c.self.view_is c.in-Some.is c.requires.sorted in
-    let n = c.in-Some.node.value in
-    let left : c.take_sides-left.result.0 ≡ n.left = cc in
-    let right : c.take_sides-left.result.1 ≡ n.right = cc in
-    (search rules, (rw left at.round.left, rw left (omega (arith, at.size, c.requires.fits))))
+    let sides = sides_here t (goal.at.remove-requires t c).After-take_sides-left in
+    (search rules, (sides.left_sorted, omega (arith, sides.size, c.requires.fits)))
 
 pub remove-requires-then-is_before-2 : goal.remove-requires-then-is_before-2
 remove-requires-then-is_before-2 t c =
-    let at = at_node c.self.view_is c.in-Some.is c.requires.sorted in
-    let n = c.in-Some.node.value in
-    let left : c.take_sides-left.result.0 ≡ n.left = cc in
-    let right : c.take_sides-left.result.1 ≡ n.right = cc in
-    (search rules, (rw right at.round.right, rw right (omega (arith, at.size, c.requires.fits))))
+    let sides = sides_here t (goal.at.remove-requires-then-is_before-2 t c).After-take_sides-left in
+    (search rules, (sides.right_sorted, omega (arith, sides.size, c.requires.fits)))
 
 pub balanced-requires-clause-fits : goal.balanced-requires-clause-fits
 balanced-requires-clause-fits t c =
-    let at = at_node c.self.view_is c.in-Some.is c.requires.sorted in
-    let n = c.in-Some.node.value in
-    let left : c.take_sides-left.result.0 ≡ n.left = cc in
-    let right : c.take_sides-left.result.1 ≡ n.right = cc in
-    let fewer : length c.remove.result.0 ≤ length n.left.0 = rw (c.remove.ensures.spans, left) (length-without c.args.span.now n.left.0) in
-    rw right (omega (arith, at.size, fewer, c.requires.fits))
+    let sides = sides_here t (goal.at.balanced-requires-clause-fits t c).After-take_sides-left in
+    let fewer = length-without c.args.span.now c.take_sides-left.result.0.0 in
+    omega (arith, sides.size, ap length c.remove.ensures.spans, fewer, c.requires.fits)
 
 pub balanced-requires-then-is_before-2-clause-fits : goal.balanced-requires-then-is_before-2-clause-fits
 balanced-requires-then-is_before-2-clause-fits t c =
-    let at = at_node c.self.view_is c.in-Some.is c.requires.sorted in
-    let n = c.in-Some.node.value in
-    let left : c.take_sides-left.result.0 ≡ n.left = cc in
-    let right : c.take_sides-left.result.1 ≡ n.right = cc in
-    let fewer : length c.remove-then-is_before-2.result.0 ≤ length n.right.0 = rw (c.remove-then-is_before-2.ensures.spans, right) (length-without c.args.span.now n.right.0) in
-    rw left (omega (arith, at.size, fewer, c.requires.fits))
+    let sides = sides_here t (goal.at.balanced-requires-then-is_before-2-clause-fits t c).After-take_sides-left in
+    let fewer = length-without c.args.span.now c.take_sides-left.result.1.0 in
+    omega (arith, sides.size, ap length c.remove-then-is_before-2.ensures.spans, fewer, c.requires.fits)
 
 pub returns-then-is_before-clause-spans : goal.returns-then-is_before-clause-spans
 returns-then-is_before-clause-spans t c =

@@ -1,6 +1,6 @@
 -- Stub by stub.
 use Rattle.std.proofs.Common.{◌≡◌, ◌≤◌, ◌+◌, None, List, [], ◌∷◌, ◌++◌, length, take, sym, ap, subst, ◌∙◌}
-use Rattle.std.specs.Prelude.{All, Contains}
+use Rattle.std.specs.Prelude.{All}
 use Rattle.std.proofs.lemmas.List.{take_all, take_more}
 use Rattle.std.proofs.lemmas.List.Elements.{All-push}
 use Rattle.plane_geom.specs.declared.point.Point.{Point}
@@ -10,34 +10,29 @@ use Rattle.search_labels.specs.declared.ends.Ending.{Ending}
 use Rattle.route_search.specs.Labels.{IsOffered, IsStubOffered, IsWayAhead}
 use Rattle.route_search.proofs.Falling.{offered_still}
 use Rattle.route_search.proofs.OfferingStubs.{way_by_stub}
-use Rattle.route_search.proofs.Sizes.{small_ending}
+use Rattle.route_search.proofs.Sizes.{IsSmallEnding, small_ending}
 use Rattle.route_search.proofs.labels.Labels.offer_endings.Goals as goal
+use Rattle.route_search.proofs.labels.Labels.offer_endings.Goals.{After-ending-item}
+
+-- the ending of a step is one of the problem's
+small_here : (c : After-ending-item) → IsSmallEnding c.args.problem.now c.ending-item.result
+small_here c =
+    let value = c.deref-ending-items.ensures.value in
+    small_ending c.args.problem.now c.ending-item.result c.requires.ready (c.loop-ending.ending-index, rw value at c.loop-ending-test.true, sym (rw value at c.ending-item.is))
 
 pub offer_all-requires-clause-within : goal.offer_all-requires-clause-within
-offer_all-requires-clause-within c =
-    let p = c.args.problem.now in
-    let e = c.ending-item.result in
-    let value = c.deref-ending-items.ensures.value in
-    let inside : Contains p.endings.items e = (c.loop-ending.ending-index, rw value at c.loop-ending-test.true, sym (rw value at c.ending-item.is)) in
-    (small_ending p e c.requires.ready inside).port
+offer_all-requires-clause-within c = (small_here (goal.at.offer_all-requires-clause-within c).After-ending-item).port
 
 pub offer_all-requires-clause-ways : goal.offer_all-requires-clause-ways
 offer_all-requires-clause-ways c = λ h.
     let p = c.args.problem.now in
     let e = c.ending-item.result in
-    let value = c.deref-ending-items.ensures.value in
-    let inside : Contains p.endings.items e = (c.loop-ending.ending-index, rw value at c.loop-ending-test.true, sym (rw value at c.ending-item.is)) in
     subst (λ (via : List Point). IsWayAhead p (record { crossing = e.crossing; stage = length via; heading = h }) e.port
     (with_stretch p.task.now.penalty h (record { from = e.port; dir = e.dir; steps = e.rest }) nothing)) (sym c.as_slice.ensures)
-    (way_by_stub p e (small_ending p e c.requires.ready inside) h)
+    (way_by_stub p e (small_here (goal.at.offer_all-requires-clause-ways c).After-ending-item) h)
 
 pub offer_all-requires-clause-steps : goal.offer_all-requires-clause-steps
-offer_all-requires-clause-steps c =
-    let p = c.args.problem.now in
-    let e = c.ending-item.result in
-    let value = c.deref-ending-items.ensures.value in
-    let inside : Contains p.endings.items e = (c.loop-ending.ending-index, rw value at c.loop-ending-test.true, sym (rw value at c.ending-item.is)) in
-    (small_ending p e c.requires.ready inside).rest
+offer_all-requires-clause-steps c = (small_here (goal.at.offer_all-requires-clause-steps c).After-ending-item).rest
 
 pub loop-ending-preserved : goal.loop-ending-preserved
 loop-ending-preserved c =

@@ -16,6 +16,7 @@ use Rattle.separation_solve.proofs.Searches.Sending.{IsSending, amount_size, cha
 use Rattle.separation_solve.proofs.LightFractions.Spots.{cast_is}
 use Rattle.separation_solve.proofs.Lists.Optional.{none_if_not_some}
 use Rattle.separation_solve.proofs.network.Network.send.Goals as goal
+use Rattle.separation_solve.proofs.network.Network.send.Goals.{In-Some}
 
 -- the step that was read, and its link
 via_is : (r : Reach) (k : ℕ) (s : Step) (v : Via) → k < length r.steps.items → s ≡ get_or r.steps.items k s → s.via ≡ Some v → (step_at r.steps.items k).via ≡ Some v
@@ -60,30 +61,33 @@ round n now r target at a v s fits sound reach h some sending e via =
       known = known;
     }
 
+-- what this round knows
+round_here : (c : In-Some) → Round c.args.self.now c.loop-via.self c.args.reach.now c.args.target c.loop-via.at c.args.amount c.in-Some.via
+round_here c =
+    round c.args.self.now c.loop-via.self c.args.reach.now c.args.target c.loop-via.at c.args.amount c.in-Some.via c.index.result.now c.ranges.amount c.requires.sound c.requires.reach c.requires.target c.requires.some c.loop-via.invariant c.index.ensures c.in-Some.is
+
 pub index-link-requires : goal.index-link-requires
 index-link-requires c =
-    let k = round c.args.self.now c.loop-via.self c.args.reach.now c.args.target c.loop-via.at c.args.amount c.in-Some.via c.index.result.now c.ranges.amount c.requires.sound c.requires.reach c.requires.target c.requires.some c.loop-via.invariant c.index.ensures c.in-Some.is in
+    let k = round_here (goal.at.index-link-requires c).In-Some in
     omega (arith, k.known.1.link, ap (λ (ls : Vec Link Global). length ls.items) k.was.rest.links)
 
 pub index_mut-requires : goal.index_mut-requires
 index_mut-requires c =
-    let k = round c.args.self.now c.loop-via.self c.args.reach.now c.args.target c.loop-via.at c.args.amount c.in-Some.via c.index.result.now c.ranges.amount c.requires.sound c.requires.reach c.requires.target c.requires.some c.loop-via.invariant c.index.ensures c.in-Some.is in
+    let k = round_here (goal.at.index_mut-requires c).In-Some in
     omega (arith, k.known.1.link, k.was.sent.links, k.sound.frame.flow)
 
 pub overflow_sub-index_mut : goal.overflow_sub-index_mut
 overflow_sub-index_mut c =
-    let k = round c.args.self.now c.loop-via.self c.args.reach.now c.args.target c.loop-via.at c.args.amount c.in-Some.via c.index.result.now c.ranges.amount c.requires.sound c.requires.reach c.requires.target c.requires.some c.loop-via.invariant c.index.ensures c.in-Some.is in
+    let k = round_here (goal.at.overflow_sub-index_mut c).In-Some in
     let z = cast_is w128 c.index_mut.result.now _ (get_or_read c.loop-via.self.flow.items c.in-Some.via.link c.index_mut.result.now k.flow_in c.index_mut.ensures.value (pos 0)) k.fits.0 in
     rw (z, to_z-of_z c.ranges.amount) k.fits.2
 
 pub loop-via-smaller-then-link-index : goal.loop-via-smaller-then-link-index
-loop-via-smaller-then-link-index c =
-    let k = round c.args.self.now c.loop-via.self c.args.reach.now c.args.target c.loop-via.at c.args.amount c.in-Some.via c.index.result.now c.ranges.amount c.requires.sound c.requires.reach c.requires.target c.requires.some c.loop-via.invariant c.index.ensures c.in-Some.is in
-    k.known.0
+loop-via-smaller-then-link-index c = (round_here (goal.at.loop-via-smaller-then-link-index c).In-Some).known.0
 
 pub loop-via-preserved-then-link-index : goal.loop-via-preserved-then-link-index
 loop-via-preserved-then-link-index c =
-    let k = round c.args.self.now c.loop-via.self c.args.reach.now c.args.target c.loop-via.at c.args.amount c.in-Some.via c.index.result.now c.ranges.amount c.requires.sound c.requires.reach c.requires.target c.requires.some c.loop-via.invariant c.index.ensures c.in-Some.is in
+    let k = round_here (goal.at.loop-via-preserved-then-link-index c).In-Some in
     let n = c.args.self.now in
     let j = c.in-Some.via.link in
     let z = cast_is w128 c.index_mut.result.now _ (get_or_read c.loop-via.self.flow.items j c.index_mut.result.now k.flow_in c.index_mut.ensures.value (pos 0)) k.fits.0 in
@@ -96,23 +100,21 @@ loop-via-preserved-then-link-index c =
 
 pub index_mut-requires-else-link-index : goal.index_mut-requires-else-link-index
 index_mut-requires-else-link-index c =
-    let k = round c.args.self.now c.loop-via.self c.args.reach.now c.args.target c.loop-via.at c.args.amount c.in-Some.via c.index.result.now c.ranges.amount c.requires.sound c.requires.reach c.requires.target c.requires.some c.loop-via.invariant c.index.ensures c.in-Some.is in
+    let k = round_here (goal.at.index_mut-requires-else-link-index c).In-Some in
     omega (arith, k.known.1.link, k.was.sent.links, k.sound.frame.flow)
 
 pub overflow_add-index_mut : goal.overflow_add-index_mut
 overflow_add-index_mut c =
-    let k = round c.args.self.now c.loop-via.self c.args.reach.now c.args.target c.loop-via.at c.args.amount c.in-Some.via c.index.result.now c.ranges.amount c.requires.sound c.requires.reach c.requires.target c.requires.some c.loop-via.invariant c.index.ensures c.in-Some.is in
+    let k = round_here (goal.at.overflow_add-index_mut c).In-Some in
     let z = cast_is w128 c.index_mut-else-link-index.result.now _ (get_or_read c.loop-via.self.flow.items c.in-Some.via.link c.index_mut-else-link-index.result.now k.flow_in c.index_mut-else-link-index.ensures.value (pos 0)) k.fits.0 in
     rw (z, to_z-of_z c.ranges.amount) k.fits.1
 
 pub loop-via-smaller : goal.loop-via-smaller
-loop-via-smaller c =
-    let k = round c.args.self.now c.loop-via.self c.args.reach.now c.args.target c.loop-via.at c.args.amount c.in-Some.via c.index.result.now c.ranges.amount c.requires.sound c.requires.reach c.requires.target c.requires.some c.loop-via.invariant c.index.ensures c.in-Some.is in
-    k.known.0
+loop-via-smaller c = (round_here (goal.at.loop-via-smaller c).In-Some).known.0
 
 pub loop-via-preserved : goal.loop-via-preserved
 loop-via-preserved c =
-    let k = round c.args.self.now c.loop-via.self c.args.reach.now c.args.target c.loop-via.at c.args.amount c.in-Some.via c.index.result.now c.ranges.amount c.requires.sound c.requires.reach c.requires.target c.requires.some c.loop-via.invariant c.index.ensures c.in-Some.is in
+    let k = round_here (goal.at.loop-via-preserved c).In-Some in
     let n = c.args.self.now in
     let j = c.in-Some.via.link in
     let z = cast_is w128 c.index_mut-else-link-index.result.now _ (get_or_read c.loop-via.self.flow.items j c.index_mut-else-link-index.result.now k.flow_in c.index_mut-else-link-index.ensures.value (pos 0)) k.fits.0 in
