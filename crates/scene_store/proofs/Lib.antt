@@ -1,8 +1,3 @@
--- The lemmas of the scene's maps.
-pub mod Apart
-pub mod Replaced
-pub mod Keys
+-- What the scene's own calls need: no refusal is want of memory, and what is handed to routing fits it.
 pub mod Memory
-pub mod Places
-pub mod Refused
 pub mod Tasks

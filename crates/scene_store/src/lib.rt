@@ -3,12 +3,6 @@
 //! Coordinates, lengths and costs are whole thousandths of a GML unit.
 #![tactic(auto)]
 
-mod changes;
-mod inverses;
-mod keyed;
-mod loads;
-mod parts;
-mod refusals;
 mod routing;
 mod scene;
 

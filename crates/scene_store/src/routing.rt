@@ -5,9 +5,9 @@ ghost use Rattle.scene_model.specs.Routing.{anchors, centre_pin, choice, choices
 ghost use Rattle.scene_model.specs.Scene.{connectors, edge_with, node_with};
 ghost use Rattle.scene_model.specs.Valid.{AreSettings, IsNode, IsPlaced, IsValid};
 
-use crate::parts::Parts;
 use plane_geom::{Dir, Floor, Point, Points, Rect, Solids};
 use scene_model::{Node, Pin, Settings};
+use scene_parts::Parts;
 use std::alloc::{AllocError, Global};
 use walk_model::{Choice, Choices, Task};
 
@@ -122,101 +122,99 @@ fn push_all_choices(
     Ok(())
 }
 
-impl Parts {
-    /// The solids, in the order of the nodes.
-    fn solids(&self) -> Result<Solids, AllocError>
-        requires { IsValid self.now }
-        ensures { IfOk result (λ s. s ≡ solids self.now) }
-    {
-        let mut solids = Vec::new(self.alloc);
-        for node in self.nodes.as_slice() {
-            if let Some(solid) = node.solid(self.settings) {
-                solids.push(solid)?;
-            }
+/// The solids, in the order of the nodes.
+fn solids(alloc: Global, parts: &Parts) -> Result<Solids, AllocError>
+    requires { IsValid parts.now }
+    ensures { IfOk result (λ s. s ≡ solids parts.now) }
+{
+    let mut solids = Vec::new(alloc);
+    for node in parts.nodes() {
+        if let Some(solid) = node.solid(parts.settings()) {
+            solids.push(solid)?;
         }
-        Ok(Solids(solids))
     }
+    Ok(Solids(solids))
+}
 
-    /// The choices of all pins, in the order of nodes and pins.
-    fn all_choices(&self) -> Result<Vec<Choice>, AllocError>
-        requires { IsValid self.now }
-        ensures { IfOk result (λ c. c.items ≡ flat_map (λ n. choices_of self.now.settings.buffer n (centre_pin ∷ n.pins)) self.now.nodes) }
-    {
-        let mut choices = Vec::new(self.alloc);
-        for node in self.nodes.as_slice() {
-            push_all_choices(self.settings, node, &mut choices)?;
+/// The choices of all pins, in the order of nodes and pins.
+fn all_choices(alloc: Global, parts: &Parts) -> Result<Vec<Choice>, AllocError>
+    requires { IsValid parts.now }
+    ensures { IfOk result (λ c. c.items ≡ flat_map (λ n. choices_of parts.now.settings.buffer n (centre_pin ∷ n.pins)) parts.now.nodes) }
+{
+    let mut choices = Vec::new(alloc);
+    for node in parts.nodes() {
+        push_all_choices(parts.settings(), node, &mut choices)?;
+    }
+    Ok(choices)
+}
+
+/// The ports of all pins, in the order of nodes and pins.
+fn ports(alloc: Global, parts: &Parts) -> Result<Vec<Point>, AllocError>
+    requires { IsValid parts.now }
+    ensures { IfOk result (λ p. p.items ≡ flat_map (λ n. map (λ c. c.port) (choices_of parts.now.settings.buffer n (centre_pin ∷ n.pins))) parts.now.nodes) }
+{
+    let choices = all_choices(alloc, parts)?;
+    let mut ports = Vec::with_capacity(alloc, choices.len())?;
+    for choice in &choices {
+        ports.push(choice.port)?;
+    }
+    Ok(ports)
+}
+
+/// Puts the checkpoints of all connectors behind the other points.
+fn push_checkpoints(parts: &Parts, points: &mut Vec<Point>) -> Result<(), AllocError>
+    ensures { OnOk result (points.new.items ≡ points.old.items ++ flat_map (λ e. e.via) (connectors parts.now)) }
+{
+    for edge in parts.edges() {
+        if edge.from != edge.to {
+            points.extend_from_slice(edge.via.as_slice())?;
         }
-        Ok(choices)
     }
+    Ok(())
+}
 
-    /// The ports of all pins, in the order of nodes and pins.
-    fn ports(&self) -> Result<Vec<Point>, AllocError>
-        requires { IsValid self.now }
-        ensures { IfOk result (λ p. p.items ≡ flat_map (λ n. map (λ c. c.port) (choices_of self.now.settings.buffer n (centre_pin ∷ n.pins))) self.now.nodes) }
-    {
-        let choices = self.all_choices()?;
-        let mut ports = Vec::with_capacity(self.alloc, choices.len())?;
-        for choice in &choices {
-            ports.push(choice.port)?;
-        }
-        Ok(ports)
-    }
+/// The ports of all pins, and then the checkpoints of all connectors.
+fn anchors(alloc: Global, parts: &Parts) -> Result<Points, AllocError>
+    requires { IsValid parts.now }
+    ensures { IfOk result (λ p. p ≡ anchors parts.now) }
+{
+    let mut anchors = ports(alloc, parts)?;
+    push_checkpoints(parts, &mut anchors)?;
+    Ok(Points(anchors))
+}
 
-    /// Puts the checkpoints of all connectors behind the other points.
-    fn push_checkpoints(&self, points: &mut Vec<Point>) -> Result<(), AllocError>
-        ensures { OnOk result (points.new.items ≡ points.old.items ++ flat_map (λ e. e.via) (connectors self.now)) }
-    {
-        for edge in self.edges.as_slice() {
-            if edge.from != edge.to {
-                points.extend_from_slice(edge.via.as_slice())?;
-            }
-        }
-        Ok(())
-    }
+/// The floor of the scene.
+pub(crate) fn floor(alloc: Global, parts: &Parts) -> Result<Floor, AllocError>
+    requires { IsValid parts.now }
+    ensures { IfOk result (λ f. f ≡ floor_of parts.now) }
+{
+    Ok(Floor {
+        solids: solids(alloc, parts)?,
+        anchors: anchors(alloc, parts)?,
+    })
+}
 
-    /// The ports of all pins, and then the checkpoints of all connectors.
-    fn anchors(&self) -> Result<Points, AllocError>
-        requires { IsValid self.now }
-        ensures { IfOk result (λ p. p ≡ anchors self.now) }
-    {
-        let mut anchors = self.ports()?;
-        self.push_checkpoints(&mut anchors)?;
-        Ok(Points(anchors))
-    }
+/// The choices of an end with the class at the node with the id.
+fn choices_at(alloc: Global, parts: &Parts, id: i64, class: u32) -> Result<Choices, AllocError>
+    requires valid { IsValid parts.now }
+    requires there { IsSome (node_with parts.now id) }
+    ensures { IfOk result (λ c. c ≡ choices_with parts.now.settings.buffer class (node_with parts.now id)) }
+{
+    let node = parts.node(id).unwrap();
+    choices_of_class(alloc, parts.settings(), node, class)
+}
 
-    /// The floor of the scene.
-    pub(crate) fn floor(&self) -> Result<Floor, AllocError>
-        requires { IsValid self.now }
-        ensures { IfOk result (λ f. f ≡ floor_of self.now) }
-    {
-        Ok(Floor {
-            solids: self.solids()?,
-            anchors: self.anchors()?,
-        })
-    }
-
-    /// The choices of an end with the class at the node with the id.
-    fn choices_at(&self, id: i64, class: u32) -> Result<Choices, AllocError>
-        requires valid { IsValid self.now }
-        requires there { IsSome (node_with self.now id) }
-        ensures { IfOk result (λ c. c ≡ choices_with self.now.settings.buffer class (node_with self.now id)) }
-    {
-        let node = self.node(id).unwrap();
-        choices_of_class(self.alloc, self.settings, node, class)
-    }
-
-    /// The task of the edge with the number.
-    pub(crate) fn task(&self, number: u32) -> Result<Task, AllocError>
-        requires valid { IsValid self.now }
-        requires there { IsSome (edge_with self.now number) }
-        ensures { IfOk result (λ t. IfSome (edge_with self.now number) (λ e. t ≡ task_of self.now e)) }
-    {
-        let edge = self.edge(number).unwrap();
-        Ok(Task {
-            starts: self.choices_at(edge.from, edge.from_class)?,
-            ends: self.choices_at(edge.to, edge.to_class)?,
-            via: Points(Vec::from_slice(self.alloc, edge.via.as_slice())?),
-            penalty: self.settings.penalty.unsigned_abs(),
-        })
-    }
+/// The task of the edge with the number.
+pub(crate) fn task(alloc: Global, parts: &Parts, number: u32) -> Result<Task, AllocError>
+    requires valid { IsValid parts.now }
+    requires there { IsSome (edge_with parts.now number) }
+    ensures { IfOk result (λ t. IfSome (edge_with parts.now number) (λ e. t ≡ task_of parts.now e)) }
+{
+    let edge = parts.edge(number).unwrap();
+    Ok(Task {
+        starts: choices_at(alloc, parts, edge.from, edge.from_class)?,
+        ends: choices_at(alloc, parts, edge.to, edge.to_class)?,
+        via: Points(Vec::from_slice(alloc, edge.via.as_slice())?),
+        penalty: parts.settings().penalty.unsigned_abs(),
+    })
 }

@@ -10,10 +10,10 @@ ghost use Rattle.scene_model.specs.Scene.{Scene as SceneValue, edge_with, empty_
 ghost use Rattle.scene_model.specs.Valid.{HasDirection, IsValid};
 ghost use Rattle.scene_model.specs.declared.edit.Edit.TheVariants as edits;
 
-use crate::keyed::Keyed;
-use crate::parts::Parts;
+use crate::routing;
 use plane_geom::Floor;
 use scene_model::{Dirs, Edge, Edit, Inverse, Node, SceneFault, Setting, Settings};
+use scene_parts::Parts;
 use std::alloc::{AllocError, Global};
 use std::marker::Model;
 use walk_model::Task;
@@ -22,6 +22,7 @@ use walk_model::Task;
 #[derive(Drop)]
 pub struct Scene {
     parts: Parts,
+    alloc: Global,
 }
 
 impl Model for Scene {
@@ -38,17 +39,8 @@ impl Scene {
         ensures { result ≡ empty_scene }
     {
         Scene {
-            parts: Parts {
-                nodes: Keyed::new(alloc),
-                edges: Keyed::new(alloc),
-                settings: Settings {
-                    penalty: 50_000,
-                    buffer: 4_000,
-                    nudge: 4_000,
-                },
-                next_edge: 1,
-                alloc,
-            },
+            parts: Parts::new(alloc),
+            alloc,
         }
     }
 
@@ -70,14 +62,14 @@ impl Scene {
     pub fn node_at(&self, place: usize) -> Option<&Node>
         ensures { option_copied result ≡ slice_get self.now.nodes place }
     {
-        self.parts.nodes.as_slice().get(place)
+        self.parts.nodes().get(place)
     }
 
     /// The edge at the place, from 0.
     pub fn edge_at(&self, place: usize) -> Option<&Edge>
         ensures { option_copied result ≡ slice_get self.now.edges place }
     {
-        self.parts.edges.as_slice().get(place)
+        self.parts.edges().get(place)
     }
 
     /// The settings. That the scene is valid is known from here too.
@@ -85,7 +77,7 @@ impl Scene {
         ensures value { result ≡ self.now.settings }
         ensures valid { IsValid self.now }
     {
-        self.parts.settings
+        self.parts.settings()
     }
 
     /// The number of the next edge that is added.
@@ -93,7 +85,7 @@ impl Scene {
         ensures value { result ≡ self.now.next_edge }
         ensures valid { IsValid self.now }
     {
-        self.parts.next_edge
+        self.parts.next_edge()
     }
 
     /// The same scene once more. Its only error is want of memory.
@@ -102,6 +94,7 @@ impl Scene {
     {
         Ok(Scene {
             parts: self.parts.copy()?,
+            alloc: self.alloc,
         })
     }
 
@@ -111,7 +104,7 @@ impl Scene {
         ensures floor { IfOk result (λ f. f ≡ floor_of self.now) }
         ensures fits { IfOk result IsFloor }
     {
-        self.parts.floor()
+        routing::floor(self.alloc, &self.parts)
     }
 
     /// What the connector with the number asks of its walk; the edge is there and is no loop. Its only error is want
@@ -121,7 +114,7 @@ impl Scene {
         ensures ok { IfOk result (λ t. IfSome (edge_with self.now number) (λ e. t ≡ task_of self.now e)) }
         ensures task { IfOk result (IsTaskOn (solids self.now)) }
     {
-        self.parts.task(number)
+        routing::task(self.alloc, &self.parts, number)
     }
 
     /// Why the edit would be refused, if it would be: the first refusal that holds. It takes no memory.

@@ -1,0 +1,1 @@
+-- No definition is this crate's own: those of scenes stand in scene_model.
