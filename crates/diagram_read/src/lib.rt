@@ -17,6 +17,3 @@ pub use fault::{DiagramFault, Part};
 pub use laws::{first_faults_count, numbers_agree, others_are_passed_over};
 pub use lines::line_of;
 pub use scene::scene_of;
-
-#[cfg(test)]
-mod tests;

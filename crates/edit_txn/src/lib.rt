@@ -2,8 +2,6 @@
 #![tactic(auto)]
 
 mod laws;
-#[cfg(test)]
-mod tests;
 mod txn;
 
 pub use laws::{transactions_keep_their_begin, transactions_lead_back_and_forth};

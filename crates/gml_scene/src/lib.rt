@@ -11,8 +11,6 @@ mod forms;
 mod laws;
 mod nodes;
 mod settings;
-#[cfg(test)]
-mod tests;
 mod tree;
 
 pub use diagram_read::{

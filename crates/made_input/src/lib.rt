@@ -13,6 +13,3 @@ pub use commands::made_commands;
 pub use laws::first_draw_of_one;
 pub use scene::made_scene;
 pub use summary::Summary;
-
-#[cfg(test)]
-mod tests;

@@ -11,6 +11,3 @@ pub use scene_model::{
     Command, Dirs, Edge, Edit, Edits, Inverse, Inverses, Node, Pin, Pins, SceneFault, SessionFault,
     Setting, Settings, Via,
 };
-
-#[cfg(test)]
-mod tests;

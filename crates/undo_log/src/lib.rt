@@ -3,8 +3,6 @@
 
 mod log;
 mod step;
-#[cfg(test)]
-mod tests;
 
 pub use log::UndoLog;
 pub use step::Step;
