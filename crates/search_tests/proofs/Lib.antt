@@ -1,0 +1,2 @@
+-- The lemmas of the tests of walks, searches and verdicts.
+pub mod Idle

@@ -1,0 +1,25 @@
+//! Tests of walks, of the search for first walks, and of verdicts: their rows, asked through public calls alone.
+#![tactic(auto)]
+
+#[cfg(test)]
+mod choices;
+#[cfg(test)]
+mod floors;
+#[cfg(test)]
+mod found;
+#[cfg(test)]
+mod labels;
+#[cfg(test)]
+mod pieces;
+#[cfg(test)]
+mod scenes;
+#[cfg(test)]
+mod searches;
+#[cfg(test)]
+mod stretches;
+#[cfg(test)]
+mod ties;
+#[cfg(test)]
+mod verdicts;
+#[cfg(test)]
+mod walks;

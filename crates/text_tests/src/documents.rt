@@ -1,0 +1,224 @@
+//! Documents that are read and printed, and bytes that are refused.
+
+ghost use Rattle.gml_text.specs.Printed.{IsPrintable};
+ghost use Rattle.gml_text.specs.View.{tree};
+
+use gml_text::{Doc, GmlFault, find, parse, print};
+use std::alloc::{AllocError, Global};
+use std::test::Fail;
+
+/// What an ordinary editor writes.
+const EDITOR_FILE: &str = r##"Creator "yFiles"
+Version "2.22"
+graph [
+ hierarchic 1
+ directed 1
+ node [ id 0 label "A"
+  graphics [ x 0.0 y 0.12345678901234 w 20.0 h 20.0 type "rectangle" fill "#FFCC00" ]
+  LabelGraphics [ text "A" fontSize 12 ] ]
+ node [ id 1 label "B" graphics [ x 100.00000000000001 y 0.12345678901234 w 20.0 h 20.0 ] ]
+ node [ id 2 label "G" isGroup 1 graphics [ x 50.0 y 0.0 w 200.0 h 100.0 ] ]
+ edge [ source 0 target 1
+  graphics [ fill "#000000" Line [ point [ x 0.0 y 0.0 ] point [ x 50.0 y 40.0 ] point [ x 100.0 y 0.0 ] ] targetArrow "standard" ] ]
+]
+"##;
+
+/// Its printed form.
+const EDITOR_FILE_PRINTED: &str = r##"Creator "yFiles"
+Version "2.22"
+graph [
+  hierarchic 1
+  directed 1
+  node [
+    id 0
+    label "A"
+    graphics [
+      x 0.0
+      y 0.12345678901234
+      w 20.0
+      h 20.0
+      type "rectangle"
+      fill "#FFCC00"
+    ]
+    LabelGraphics [
+      text "A"
+      fontSize 12
+    ]
+  ]
+  node [
+    id 1
+    label "B"
+    graphics [
+      x 100.00000000000001
+      y 0.12345678901234
+      w 20.0
+      h 20.0
+    ]
+  ]
+  node [
+    id 2
+    label "G"
+    isGroup 1
+    graphics [
+      x 50.0
+      y 0.0
+      w 200.0
+      h 100.0
+    ]
+  ]
+  edge [
+    source 0
+    target 1
+    graphics [
+      fill "#000000"
+      Line [
+        point [
+          x 0.0
+          y 0.0
+        ]
+        point [
+          x 50.0
+          y 40.0
+        ]
+        point [
+          x 100.0
+          y 0.0
+        ]
+      ]
+      targetArrow "standard"
+    ]
+  ]
+]
+"##;
+
+/// What is printed of the document.
+fn print_out(alloc: Global, doc: Doc) -> Result<Vec<u8>, AllocError>
+    requires { IsPrintable (tree doc) }
+{
+    print(alloc, &doc)
+}
+
+/// What is printed of the bytes as they are read.
+fn printed(alloc: Global, bytes: &[u8]) -> Result<Vec<u8>, Fail> {
+    let doc = parse(alloc, bytes)?;
+    Ok(print_out(alloc, doc)?)
+}
+
+/// The text so many times.
+fn repeated(alloc: Global, text: &[u8], times: usize) -> Result<Vec<u8>, AllocError> {
+    let mut bytes = Vec::new(alloc);
+    for _ in 0..times {
+        bytes.extend_from_slice(text)?;
+    }
+    Ok(bytes)
+}
+
+#[test]
+fn reads_documents(rt: HostRuntime) -> Result<(), Fail> {
+    let rows = [
+        ("", ""),
+        ("\r\n# nothing", ""),
+        ("a 1#c", "a 1\n"),
+        ("a 1#c\nb#d\n-.5E+07", "a 1\nb -.5E+07\n"),
+        ("a \"x\"b 2", "a \"x\"\nb 2\n"),
+        ("a[b 1]c 2", "a [\n  b 1\n]\nc 2\n"),
+        ("a\"#\r\n&quot;\"_b\r+1.", "a \"#\r\n&quot;\"\n_b +1.\n"),
+        ("a[]", "a [\n]\n"),
+        (EDITOR_FILE, EDITOR_FILE_PRINTED),
+    ];
+    for (text, want) in rows {
+        let out = printed(rt.alloc(), text.as_bytes())?;
+        assert_eq!(rt; out.as_slice(), want.as_bytes(), "{text}");
+    }
+    Ok(())
+}
+
+#[test]
+fn refuses_the_first_byte_that_no_document_has_there(rt: HostRuntime) {
+    let rows = [
+        ("graph [ label \"ab", 17),
+        ("graph 1a", 7),
+        ("graph 1e", 8),
+        ("graph [", 7),
+        ("x 1 2", 4),
+        ("\0", 0),
+        ("a 1b 2", 3),
+        ("a+1", 1),
+        ("a .e1", 3),
+        ("a #c", 4),
+        ("]", 0),
+        ("a[]]", 3),
+    ];
+    for (text, at) in rows {
+        let fault = parse(rt.alloc(), text.as_bytes()).err();
+        assert_eq!(rt; fault, Some(GmlFault::Syntax { at }), "{text}");
+    }
+}
+
+/// So many lists that are opened, each in the one before, and so many that are closed.
+fn lists(alloc: Global, opened: usize, closed: usize) -> Result<Vec<u8>, AllocError> {
+    let mut bytes = repeated(alloc, b"a[", opened)?;
+    for _ in 0..closed {
+        bytes.push(b']')?;
+    }
+    Ok(bytes)
+}
+
+/// Why the lists are not read.
+fn fault_of(alloc: Global, opened: usize, closed: usize) -> Result<Option<GmlFault>, AllocError> {
+    let bytes = lists(alloc, opened, closed)?;
+    Ok(parse(alloc, &bytes).err())
+}
+
+#[test]
+fn reads_lists_up_to_the_limit(rt: HostRuntime) -> Result<(), Fail> {
+    let rows = [
+        (65, 0, Some(GmlFault::TooDeep { at: 129 })),
+        (64, 0, Some(GmlFault::Syntax { at: 128 })),
+        (64, 64, None),
+    ];
+    for (opened, closed, want) in rows {
+        let fault = fault_of(rt.alloc(), opened, closed)?;
+        assert_eq!(rt; fault, want, "{opened} and {closed}");
+    }
+    Ok(())
+}
+
+/// Whether what is printed of the bytes is printed again as it stands.
+fn is_kept(alloc: Global, bytes: &[u8]) -> Result<bool, Fail> {
+    let once = printed(alloc, bytes)?;
+    let twice = printed(alloc, &once)?;
+    Ok(once.as_slice() == twice.as_slice())
+}
+
+#[test]
+fn prints_the_deepest_lists(rt: HostRuntime) -> Result<(), Fail> {
+    let bytes = lists(rt.alloc(), 64, 64)?;
+    assert!(rt; is_kept(rt.alloc(), &bytes)?);
+    Ok(())
+}
+
+/// Where the first pair with the key stands.
+fn found(alloc: Global, text: &[u8], key: &[u8]) -> Result<Option<usize>, GmlFault> {
+    let doc = parse(alloc, text)?;
+    Ok(find(&doc.pairs, key))
+}
+
+#[test]
+fn reads_and_prints_a_megabyte(rt: HostRuntime) -> Result<(), Fail> {
+    let text = repeated(rt.alloc(), b"a 1\nb [\n  c \"x\"\n]\n", 60_000)?;
+    assert_eq!(rt; found(rt.alloc(), &text, b"c")?, None);
+    let out = printed(rt.alloc(), &text)?;
+    assert!(rt; out.as_slice() == text.as_slice());
+    Ok(())
+}
+
+#[test]
+fn finds_the_first_pair_with_the_key(rt: HostRuntime) -> Result<(), Fail> {
+    let rows: [(&str, Option<usize>); 3] = [("b", Some(1)), ("c", Some(3)), ("d", None)];
+    for (key, place) in rows {
+        let text = b"a 1 b [ c 2 ] b 3 c 4";
+        assert_eq!(rt; found(rt.alloc(), text, key.as_bytes())?, place, "{key}");
+    }
+    Ok(())
+}
