@@ -29,7 +29,7 @@ impl PhaseRoute {
     ghost use Rattle.channel_bundles.specs.Route.{IsFixed};
 
     /// The run at the index, counted from 0.
-    pub(crate) fn run(&self, k: usize) -> Run
+    pub fn run(&self, k: usize) -> Run
         requires { k < length self.now.runs.items }
         ensures { result ≡ run_at self.now.runs.items k }
     {
@@ -46,7 +46,7 @@ impl PhaseRoute {
     }
 
     /// Whether the run is of the way.
-    pub(crate) fn is_of_way(&self, k: usize, way: Way) -> bool
+    pub fn is_of_way(&self, k: usize, way: Way) -> bool
         requires { k < length self.now.runs.items }
         ensures { IsTrue result ↔ ((run_at self.now.runs.items k).way ≡ way) }
     {
@@ -54,7 +54,7 @@ impl PhaseRoute {
     }
 
     /// Whether the run begins with a doubling back.
-    pub(crate) fn begins_at_tip(&self, k: usize) -> bool
+    pub fn begins_at_tip(&self, k: usize) -> bool
         requires { k < length self.now.runs.items }
         ensures { IsTrue result ↔ ((0 < k) × ((run_at self.now.runs.items (k - 1)).way ≡ (run_at self.now.runs.items k).way)) }
     {
@@ -62,7 +62,7 @@ impl PhaseRoute {
     }
 
     /// Whether the run ends with a doubling back.
-    pub(crate) fn ends_at_tip(&self, k: usize) -> bool
+    pub fn ends_at_tip(&self, k: usize) -> bool
         requires { k < length self.now.runs.items }
         ensures { IsTrue result ↔ ((k + 1 < length self.now.runs.items)
             × ((run_at self.now.runs.items (k + 1)).way ≡ (run_at self.now.runs.items k).way)) }
@@ -84,7 +84,7 @@ impl PhaseRoute {
 
     /// Whether the run keeps its coordinate: it is the first or the last, a checkpoint lies on it, or it begins or ends
     /// with a doubling back.
-    pub(crate) fn is_fixed(&self, k: usize) -> bool
+    pub fn is_fixed(&self, k: usize) -> bool
         requires { k < length self.now.runs.items }
         ensures { IsTrue result ↔ IsFixed self.now k }
     {

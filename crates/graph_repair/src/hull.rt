@@ -82,7 +82,7 @@ impl Placed for Point {
 }
 
 /// A rectangle in which all lies that one of the floors has and the other has not. It is small where one node changes.
-pub(crate) fn hull_of_difference(old: &Floor, new: &Floor) -> Rect
+pub fn hull_of_difference(old: &Floor, new: &Floor) -> Rect
     ensures gone { IsAloneWithin result old.now new.now }
     ensures come { IsAloneWithin result new.now old.now }
 {

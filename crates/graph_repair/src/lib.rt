@@ -10,6 +10,7 @@ mod repair;
 
 pub use difference::plan;
 pub use exchange::{apply, revert};
+pub use hull::hull_of_difference;
 pub use laws::one_write_count;
 pub use repair::Repair;
 
