@@ -1,0 +1,509 @@
+//! A grid of lines, filled and emptied, and each call on an arena once.
+ghost use Rattle.std.specs.Prelude.{◌≡◌, ◌≢◌, ◌+◌, ◌<◌, ◌≤◌, ◌<ℤ◌, ◌≤ℤ◌, All, IsTrue};
+ghost use Rattle.plane_geom.specs.declared.point.Way.TheVariants.{Vertical, Horizontal};
+ghost use Rattle.line_arena.specs.Arena.{IsApart};
+ghost use Rattle.floor_tests.specs.Lines.{Overlap};
+
+use line_arena::{CrossId, LineArena, LineId};
+use plane_geom::{Dir, Line, Point, Way};
+use std::alloc::{AllocError, Global};
+use std::test::Fail;
+
+fn differ(first: &Line, second: &Line) -> bool
+    ensures { IsTrue result → first.now.way ≢ second.now.way }
+{
+    first.way != second.way
+}
+
+fn is_elsewhere(first: &Line, second: &Line) -> bool
+    ensures { IsTrue result → first.now.at ≢ second.now.at }
+{
+    first.at != second.at
+}
+
+/// Whether the first line begins where the second one has ended.
+fn is_past(first: &Line, second: &Line) -> bool
+    ensures { IsTrue result → second.now.hi <ℤ first.now.lo }
+{
+    second.hi < first.lo
+}
+
+/// Whether the two are no pieces of one whole line that share a point.
+fn is_apart_from(first: &Line, second: &Line) -> bool
+    ensures { IsTrue result → Overlap first.now second.now → ⊥ }
+{
+    if differ(first, second) {
+        return true;
+    }
+    if is_elsewhere(first, second) {
+        return true;
+    }
+    if is_past(first, second) {
+        return true;
+    }
+    is_past(second, first)
+}
+
+/// Whether the line overlaps none of these.
+fn are_clear(entries: &[(Line, LineId)], line: &Line) -> bool
+    ensures { IsTrue result → All (λ entry. Overlap entry.0 line.now → ⊥) entries.now }
+{
+    entries.iter().all(|entry| is_apart_from(&entry.0, line))
+}
+
+/// Whether the line shares no point with a line of its way that is there.
+fn is_apart(arena: &LineArena, line: Line) -> bool
+    ensures { IsTrue result → IsApart arena.now line }
+{
+    are_clear(arena.lines_in_order(), &line)
+}
+
+/// Puts in the line, where it is apart from those that are there.
+fn put(arena: &mut LineArena, line: Line) -> Option<LineId>
+    requires { 0 < arena.old.spare_lines }
+    ensures lines { arena.old.spare_lines ≤ arena.new.spare_lines + 1 }
+    ensures crossings { arena.new.spare_crossings ≡ arena.old.spare_crossings }
+{
+    if line.lo > line.hi {
+        return None;
+    }
+    if !is_apart(arena, line) {
+        return None;
+    }
+    Some(arena.put_line(line))
+}
+
+/// Whether these are a vertical and a horizontal line that have a point in common.
+fn do_cross(down: &Line, across: &Line) -> bool
+    ensures down_runs { IsTrue result → down.now.way ≡ Vertical }
+    ensures across_runs { IsTrue result → across.now.way ≡ Horizontal }
+    ensures down_from { IsTrue result → down.now.lo ≤ℤ across.now.at }
+    ensures down_to { IsTrue result → across.now.at ≤ℤ down.now.hi }
+    ensures across_from { IsTrue result → across.now.lo ≤ℤ down.now.at }
+    ensures across_to { IsTrue result → down.now.at ≤ℤ across.now.hi }
+{
+    down.way == Way::Vertical
+        && across.way == Way::Horizontal
+        && down.lo <= across.at
+        && across.at <= down.hi
+        && across.lo <= down.at
+        && down.at <= across.hi
+}
+
+/// Puts in the crossing of the two lines, where they are there and it is not.
+fn cross(arena: &mut LineArena, down: Line, across: Line) -> Option<CrossId>
+    requires { 0 < arena.old.spare_crossings }
+    ensures { arena.new.spare_lines ≡ arena.old.spare_lines }
+{
+    let at = Point {
+        x: down.at,
+        y: across.at,
+    };
+    if !do_cross(&down, &across) {
+        return None;
+    }
+    if let Some(_) = arena.crossing_at(at) {
+        return None;
+    }
+    let Some(vertical) = arena.line_at(down) else {
+        return None;
+    };
+    let Some(horizontal) = arena.line_at(across) else {
+        return None;
+    };
+    Some(arena.put_crossing(vertical, horizontal))
+}
+
+/// Takes out the crossing at the point, and says whether there was one.
+fn take_crossing(arena: &mut LineArena, at: Point) -> bool
+    ensures { arena.new.spare_lines ≡ arena.old.spare_lines }
+{
+    let Some(crossing) = arena.crossing_at(at) else {
+        return false;
+    };
+    arena.remove_crossing(crossing);
+    true
+}
+
+/// Takes out the line, and says whether it was there without crossings.
+fn take_line(arena: &mut LineArena, line: Line) -> bool {
+    let Some(id) = arena.line_at(line) else {
+        return false;
+    };
+    if let Some(_) = arena.first_on_line(id) {
+        return false;
+    }
+    arena.remove_line(id);
+    true
+}
+
+const SIDE: u8 = 30;
+
+/// The line of the grid at the number, through all of the others.
+fn grid_line(way: Way, at: u8) -> Line {
+    Line {
+        way,
+        at: i64::from(at),
+        lo: 0,
+        hi: i64::from(SIDE),
+    }
+}
+
+fn grid_point(column: u8, row: u8) -> Point {
+    Point {
+        x: i64::from(column),
+        y: i64::from(row),
+    }
+}
+
+/// Puts in the lines of the grid.
+fn put_grid(arena: &mut LineArena) -> Result<(), AllocError> {
+    for at in 0..SIDE {
+        arena.reserve(1, 0)?;
+        put(arena, grid_line(Way::Vertical, at));
+        arena.reserve(1, 0)?;
+        put(arena, grid_line(Way::Horizontal, at));
+    }
+    Ok(())
+}
+
+/// Puts in the crossing of the grid if it is not there, and takes it out if it is.
+fn toggle(arena: &mut LineArena, column: u8, row: u8) -> Result<(), AllocError> {
+    if take_crossing(arena, grid_point(column, row)) {
+        return Ok(());
+    }
+    arena.reserve(0, 1)?;
+    cross(
+        arena,
+        grid_line(Way::Vertical, column),
+        grid_line(Way::Horizontal, row),
+    );
+    Ok(())
+}
+
+/// Whether a walk in the direction from the first of the points comes to just these.
+fn walks(arena: &LineArena, points: &[Point], dir: Dir) -> bool {
+    let Some(first) = points.first() else {
+        return false;
+    };
+    let mut next = arena.crossing_at(*first);
+    for point in points {
+        let Some(crossing) = next else {
+            return false;
+        };
+        if arena.point(crossing) != *point {
+            return false;
+        }
+        next = arena.next_on_line(crossing, dir);
+    }
+    next.is_none()
+}
+
+fn is_odd(column: u8, row: u8) -> bool {
+    (u16::from(column) + u16::from(row)) % 2 == 1
+}
+
+/// The points of the grid's line in the direction, all of them or every other one.
+fn expected(alloc: Global, at: u8, dir: Dir, half: bool) -> Result<Vec<Point>, AllocError> {
+    let mut points = Vec::new(alloc);
+    for step in 0..SIDE {
+        if !half || is_odd(at, step) {
+            points.push(match dir.way() {
+                Way::Horizontal => grid_point(step, at),
+                Way::Vertical => grid_point(at, step),
+            })?;
+        }
+    }
+    if matches!(dir, Dir::West | Dir::North) {
+        points.reverse();
+    }
+    Ok(points)
+}
+
+/// Where the first crossing of the line stands.
+fn first_of(arena: &LineArena, line: Line) -> Option<Point> {
+    let first = arena.first_on_line(arena.line_at(line)?)?;
+    Some(arena.point(first))
+}
+
+/// Whether the line of the grid is walked along as expected, and begins there where one walks to the east or south.
+fn walks_line(
+    alloc: Global,
+    arena: &LineArena,
+    at: u8,
+    dir: Dir,
+    half: bool,
+) -> Result<bool, AllocError> {
+    let want = expected(alloc, at, dir, half)?;
+    let first = match dir {
+        Dir::East | Dir::South => first_of(arena, grid_line(dir.way(), at)),
+        Dir::West | Dir::North => want.first().copied(),
+    };
+    Ok(walks(arena, want.as_slice(), dir) && first == want.first().copied())
+}
+
+/// Whether every line of the grid is walked along as expected, both ways.
+fn stands(alloc: Global, arena: &LineArena, half: bool) -> Result<bool, AllocError> {
+    for at in 0..SIDE {
+        for dir in [Dir::East, Dir::South, Dir::West, Dir::North] {
+            if !walks_line(alloc, arena, at, dir, half)? {
+                return Ok(false);
+            }
+        }
+    }
+    Ok(true)
+}
+
+fn found(arena: &LineArena, column: u8, row: u8) -> Option<CrossId> {
+    arena.crossing_at(grid_point(column, row))
+}
+
+/// Whether a crossing is found at just the points at which one stands, at all of the grid or at every other one.
+fn finds_just_these(arena: &LineArena, half: bool) -> bool {
+    for column in 0..=SIDE {
+        for row in 0..=SIDE {
+            let stands = column < SIDE && row < SIDE && (!half || is_odd(column, row));
+            if found(arena, column, row).is_some() != stands {
+                return false;
+            }
+        }
+    }
+    true
+}
+
+/// Turns each crossing of the grid once, in an order that the step makes: all of them until all are there, and then
+/// every other one.
+fn toggle_all(arena: &mut LineArena, step: u16) -> Result<(), AllocError> {
+    let all = u16::from(SIDE) * u16::from(SIDE);
+    for turn in 0..all {
+        let place = (u32::from(turn) * u32::from(step) % u32::from(all)) as u16;
+        let (column, row) = ((place % 30) as u8, (place / 30) as u8);
+        if arena.written() < 960 || !is_odd(column, row) {
+            toggle(arena, column, row)?;
+        }
+    }
+    Ok(())
+}
+
+/// Whether the grid stands as expected each time, filled, halved and filled again.
+fn stands_each_time(alloc: Global, arena: &mut LineArena, step: u16) -> Result<bool, AllocError> {
+    put_grid(arena)?;
+    for half in [false, true, false] {
+        toggle_all(arena, step)?;
+        if !stands(alloc, arena, half)? || !finds_just_these(arena, half) {
+            return Ok(false);
+        }
+    }
+    Ok(true)
+}
+
+/// How much was written, where the grid stands as expected each time.
+fn written(alloc: Global, step: u16) -> Result<Option<u64>, AllocError> {
+    let mut arena = LineArena::new(alloc);
+    let stands = stands_each_time(alloc, &mut arena, step);
+    stands.map(|stands| stands.then_some(arena.written()))
+}
+
+#[test]
+fn walks_along_every_line(rt: HostRuntime) -> Result<(), Fail> {
+    for step in [1, 899, 7] {
+        assert_eq!(rt;
+            written(rt.alloc(), step)?,
+            Some(60 + 900 + 450),
+            "step {step}"
+        );
+    }
+    Ok(())
+}
+
+/// Puts in the lines of the grid and one crossing.
+fn put_one(arena: &mut LineArena) -> Result<(), AllocError> {
+    put_grid(arena)?;
+    toggle(arena, 5, 10)
+}
+
+/// Whether the one crossing of the arena is at (5, 10), and has none to the north.
+fn has_one(arena: &LineArena) -> bool {
+    let Some(crossing) = arena.crossing_at(grid_point(5, 10)) else {
+        return false;
+    };
+    arena.point(crossing) == grid_point(5, 10)
+        && arena.next_on_line(crossing, Dir::North).is_none()
+        && arena.index(crossing) < arena.places()
+        && found(arena, 10, 5).is_none()
+}
+
+/// Whether one crossing is put in, found and taken out.
+fn answers(arena: &mut LineArena) -> Result<bool, AllocError> {
+    put_one(arena)?;
+    let column = grid_line(Way::Vertical, 5);
+    let stands = arena.written() == 61
+        && has_one(arena)
+        && first_of(arena, column) == Some(grid_point(5, 10));
+    toggle(arena, 5, 10)?;
+    Ok(stands && first_of(arena, column).is_none())
+}
+
+#[test]
+fn answers_each_call(rt: HostRuntime) {
+    let mut arena = LineArena::new(rt.alloc());
+    let answered = answers(&mut arena);
+    assert!(rt; matches!(answered, Ok(true)));
+}
+
+/// Puts in the crossings of the grid at these columns and rows, one after another.
+fn put_all(arena: &mut LineArena, places: &[(u8, u8)]) -> Result<(), AllocError> {
+    for (column, row) in places {
+        toggle(arena, *column % SIDE, *row % SIDE)?;
+    }
+    Ok(())
+}
+
+/// The points of the grid at these columns and rows.
+fn points_at(alloc: Global, places: &[(u8, u8)]) -> Result<Vec<Point>, AllocError> {
+    let mut points = Vec::new(alloc);
+    for (column, row) in places {
+        points.push(grid_point(*column, *row))?;
+    }
+    Ok(points)
+}
+
+/// Whether a walk in the direction from the first of these columns and rows comes to just these, and the walk back too.
+fn joins(
+    alloc: Global,
+    arena: &LineArena,
+    places: &[(u8, u8)],
+    dir: Dir,
+) -> Result<bool, AllocError> {
+    let mut points = points_at(alloc, places)?;
+    let there = walks(arena, points.as_slice(), dir);
+    points.reverse();
+    Ok(there && walks(arena, points.as_slice(), dir.opposite()))
+}
+
+/// The one to the north of (5, 12) has one to the west of it, which leads south to this row. That of (11, 12) leads to
+/// another row. (15, 12) has none to the north, and those of (16, 12) and (17, 12) lead nowhere.
+const ROW: [(u8, u8); 7] = [
+    (2, 12),
+    (5, 12),
+    (11, 12),
+    (15, 12),
+    (16, 12),
+    (17, 12),
+    (20, 12),
+];
+
+/// In the order in which they are put in.
+const AROUND_ROW: [(u8, u8); 15] = [
+    (2, 12),
+    (20, 12),
+    (2, 10),
+    (5, 10),
+    (5, 12),
+    (7, 11),
+    (7, 13),
+    (11, 11),
+    (11, 12),
+    (15, 12),
+    (16, 9),
+    (16, 12),
+    (13, 8),
+    (17, 8),
+    (17, 12),
+];
+
+/// Whether the row, and then a column, is joined where crossings are put between others.
+fn joins_between(alloc: Global, arena: &mut LineArena) -> Result<bool, AllocError> {
+    put_grid(arena)?;
+    put_all(arena, &AROUND_ROW)?;
+    let row = joins(alloc, arena, &ROW, Dir::East)?;
+    // The one to the west of (5, 15) has one to the north of it, which leads east to this column.
+    put_all(arena, &[(5, 20), (2, 15), (5, 15)])?;
+    let column = [(5, 10), (5, 12), (5, 15), (5, 20)];
+    Ok(row && joins(alloc, arena, &column, Dir::South)?)
+}
+
+#[test]
+fn puts_between_others(rt: HostRuntime) {
+    let mut arena = LineArena::new(rt.alloc());
+    let joined = joins_between(rt.alloc(), &mut arena);
+    assert_eq!(rt; joined.ok(), Some(true));
+}
+
+const LEVEL: Line = Line {
+    way: Way::Horizontal,
+    at: 7,
+    lo: 0,
+    hi: 10,
+};
+
+/// A line that is a single point.
+const DOT: Line = Line {
+    way: Way::Vertical,
+    at: 5,
+    lo: 7,
+    hi: 7,
+};
+
+/// One of two points further down in the same column.
+const UNDER: Line = Line {
+    way: Way::Vertical,
+    at: 5,
+    lo: 8,
+    hi: 9,
+};
+
+/// Puts in the lines and the crossing, for which room is taken just once.
+fn fill(arena: &mut LineArena) -> Result<bool, AllocError> {
+    arena.reserve(3, 1)?;
+    let lines = put(arena, LEVEL).is_some() && put(arena, DOT).is_some();
+    Ok(lines && cross(arena, DOT, LEVEL).is_some() && put(arena, UNDER).is_some())
+}
+
+/// Whether the one crossing of the arena stands on the dot, and has none to the south.
+fn has_dot(arena: &LineArena) -> bool {
+    let Some(crossing) = arena.crossing_at(grid_point(5, 7)) else {
+        return false;
+    };
+    arena.point(crossing) == Point { x: 5, y: 7 }
+        && arena.next_on_line(crossing, Dir::South).is_none()
+}
+
+fn has_none(arena: &LineArena, places: &[(u8, u8)]) -> bool {
+    places
+        .iter()
+        .all(|(column, row)| found(arena, *column, *row).is_none())
+}
+
+/// Whether the row alone is found, at the second place, wherever one looks first.
+fn finds_row(arena: &LineArena) -> bool {
+    let row = arena.line_at(LEVEL);
+    [0, 1, 2].iter().all(|place| {
+        arena.line_near(DOT, *place).is_none()
+            && arena
+                .line_near(LEVEL, *place)
+                .map(|(id, at)| (Some(id), at))
+                == Some((row, 1))
+    })
+}
+
+/// Whether the crossing on the dot, and then the dot, are taken out, and the row stays.
+fn empties(arena: &mut LineArena) -> bool {
+    let crossing = take_crossing(arena, grid_point(5, 7)) && has_none(arena, &[(5, 7)]);
+    let line = take_line(arena, DOT) && has_none(arena, &[(5, 7)]);
+    // The row stands behind the line under the point that went.
+    crossing && line && arena.line_at(LEVEL).is_some() && finds_row(arena)
+}
+
+fn fills_and_empties(arena: &mut LineArena) -> Result<bool, AllocError> {
+    let filled = fill(arena)?;
+    let stands = has_dot(arena) && has_none(arena, &[(5, 8), (4, 7)]);
+    Ok(filled && stands && empties(arena) && arena.written() == 4)
+}
+
+#[test]
+fn fills_just_the_room_taken(rt: HostRuntime) {
+    let mut arena = LineArena::new(rt.alloc());
+    let done = fills_and_empties(&mut arena);
+    assert!(rt; matches!(done, Ok(true)));
+}

@@ -1,0 +1,277 @@
+//! The worked row both ways, repairs that change little, nothing or all, the hulls of what changes, and a large floor.
+ghost use Rattle.std.specs.Prelude.{◌≡◌, IfOk, false};
+ghost use Rattle.graph_repair.specs.Change.{LeadsFrom};
+ghost use Rattle.plane_geom.specs.Floor.{IsFloor};
+
+use crate::small::{Sides, small_floor, tile, tiles_behind};
+use graph_repair::{Repair, apply, hull_of_difference, plan, revert};
+use plane_geom::{Floor, Line};
+use std::alloc::{AllocError, Global};
+use std::test::Fail;
+use sweep_lines::all_lines;
+use visibility_graph::Graph;
+
+/// `written` after the repair there, back, and there again.
+fn turned(graph: &mut Graph, repair: &mut Repair) -> [u64; 3]
+    requires leads { LeadsFrom graph.old repair.old }
+    requires planned { repair.old.applied ≡ false }
+{
+    apply(graph, repair);
+    let there = graph.arena().written();
+    revert(graph, repair);
+    let back = graph.arena().written();
+    apply(graph, repair);
+    [there, back, graph.arena().written()]
+}
+
+/// `written` after the build, the plan, and the repair there, back, and there again.
+fn planned(alloc: Global, graph: &mut Graph, new: &Floor) -> Result<[u64; 5], AllocError>
+    requires { IsFloor new.now }
+{
+    let built = graph.arena().written();
+    let mut repair = plan(alloc, graph, new)?;
+    let planned = graph.arena().written();
+    let [there, back, again] = turned(graph, &mut repair);
+    Ok([built, planned, there, back, again])
+}
+
+fn turns(alloc: Global, old: &Floor, new: &Floor) -> Result<[u64; 5], AllocError>
+    requires old { IsFloor old.now }
+    requires new { IsFloor new.now }
+{
+    let mut graph = Graph::build(alloc, old)?;
+    planned(alloc, &mut graph, new)
+}
+
+/// The solids and the anchors of a floor.
+type Plain<'a> = (&'a [Sides], &'a [(i64, i64)]);
+
+fn turns_to(alloc: Global, old: &Floor, new: Plain<'_>) -> Result<[u64; 5], AllocError>
+    requires { IsFloor old.now }
+{
+    let new = small_floor(alloc, new.0, new.1)?;
+    turns(alloc, old, &new)
+}
+
+fn turns_between(alloc: Global, old: Plain<'_>, new: Plain<'_>) -> Result<[u64; 5], AllocError> {
+    let old = small_floor(alloc, old.0, old.1)?;
+    turns_to(alloc, &old, new)
+}
+
+const SQUARE: Sides = (0, 0, 10, 10);
+
+const NONE: Plain<'static> = (&[], &[]);
+
+const ONE: Plain<'static> = (&[SQUARE], &[]);
+
+/// Two floors, and what is written by the turns between them.
+type Turned = (Plain<'static>, Plain<'static>, [u64; 5]);
+
+const TURNED: [Turned; 6] = [
+    (ONE, (&[SQUARE, (-5, 100, 5, 110)], &[]), [8, 8, 25, 28, 45]),
+    (ONE, ONE, [8, 8, 8, 8, 8]),
+    (ONE, (&[SQUARE, SQUARE], &[]), [8, 8, 8, 8, 8]),
+    (ONE, NONE, [8, 8, 8, 16, 16]),
+    (NONE, ONE, [0, 0, 8, 8, 16]),
+    // A corridor of width 0, and an anchor in it.
+    (
+        (&[SQUARE, (0, 10, 10, 20)], &[]),
+        (&[SQUARE, (0, 10, 10, 20)], &[(5, 10)]),
+        [11, 11, 13, 13, 15],
+    ),
+];
+
+#[test]
+fn writes_what_is_new(rt: HostRuntime) -> Result<(), Fail> {
+    for (old, new, want) in TURNED {
+        assert_eq!(rt; turns_between(rt.alloc(), old, new)?, want);
+    }
+    Ok(())
+}
+
+/// Whether the graph's lines are these.
+fn has_lines(graph: &Graph, lines: &[Line]) -> bool {
+    let all = graph.arena().lines_in_order();
+    if all.len() != lines.len() {
+        return false;
+    }
+    for (entry, line) in all.iter().zip(lines) {
+        if !entry.0.is_same(line) {
+            return false;
+        }
+    }
+    true
+}
+
+/// Whether the graph has exactly the kept lines of the floor.
+fn has_lines_of(alloc: Global, graph: &Graph, floor: &Floor) -> Result<bool, AllocError>
+    requires { IsFloor floor.now }
+{
+    let lines = all_lines(alloc, floor)?;
+    Ok(has_lines(graph, lines.as_slice()))
+}
+
+/// Whether the planned repair there and back finds the kept lines of both floors.
+fn finds_lines_of(
+    alloc: Global,
+    graph: &mut Graph,
+    repair: &mut Repair,
+    old: &Floor,
+    new: &Floor,
+) -> Result<bool, AllocError>
+    requires leads { LeadsFrom graph.old repair.old }
+    requires planned { repair.old.applied ≡ false }
+    requires old { IsFloor old.now }
+    requires new { IsFloor new.now }
+{
+    apply(graph, repair);
+    let there = has_lines_of(alloc, graph, new)?;
+    revert(graph, repair);
+    Ok(there && has_lines_of(alloc, graph, old)?)
+}
+
+fn finds_lines_from(
+    alloc: Global,
+    graph: &mut Graph,
+    old: &Floor,
+    new: &Floor,
+) -> Result<bool, AllocError>
+    requires old { IsFloor old.now }
+    requires new { IsFloor new.now }
+{
+    let mut repair = plan(alloc, graph, new)?;
+    finds_lines_of(alloc, graph, &mut repair, old, new)
+}
+
+/// Whether a repair from the one floor to the other and back finds the kept lines of both.
+fn finds_lines(alloc: Global, old: &Floor, new: &Floor) -> Result<bool, AllocError>
+    requires old { IsFloor old.now }
+    requires new { IsFloor new.now }
+{
+    let mut graph = Graph::build(alloc, old)?;
+    finds_lines_from(alloc, &mut graph, old, new)
+}
+
+/// The hull of what differs, as left, top, right and bottom.
+fn hull(old: &Floor, new: &Floor) -> Sides {
+    let hull = hull_of_difference(old, new);
+    (hull.left, hull.top, hull.right, hull.bottom)
+}
+
+/// The hull of what differs, where it is the same either way, and so are the kept lines that repairs find.
+fn hull_between(alloc: Global, old: &Floor, new: &Floor) -> Result<Option<Sides>, AllocError>
+    requires old { IsFloor old.now }
+    requires new { IsFloor new.now }
+{
+    let sides = hull(old, new);
+    let found = finds_lines(alloc, old, new)? && finds_lines(alloc, new, old)?;
+    Ok((found && hull(new, old) == sides).then_some(sides))
+}
+
+/// How far a node is moved from its place, if it is there.
+type Shift = Option<(i8, i8)>;
+
+const HERE: Shift = Some((0, 0));
+
+const MOVED: Shift = Some((7, -13));
+
+const FIVE: [Shift; 5] = [HERE; 5];
+
+/// Adds a node and its two anchors, in thousandths.
+fn push_node(
+    rects: &mut Vec<Sides>,
+    anchors: &mut Vec<(i64, i64)>,
+    place: u8,
+    shift: (i8, i8),
+) -> Result<(), AllocError> {
+    let x = i64::from(place) * 60 + i64::from(shift.0);
+    let y = i64::from(place % 3) * 45 + i64::from(shift.1);
+    rects.push((x, y, x + 30, y + 20))?;
+    anchors.push((x, y + 10))?;
+    anchors.push((x + 30, y + 7))?;
+    Ok(())
+}
+
+/// A floor of nodes with two anchors each.
+fn nodes(alloc: Global, shifts: [Shift; 5]) -> Result<Floor, AllocError>
+    ensures { IfOk result IsFloor }
+{
+    let (mut rects, mut anchors) = (Vec::new(alloc), Vec::new(alloc));
+    for place in 0..5u8 {
+        if let Some(shift) = shifts[usize::from(place)] {
+            push_node(&mut rects, &mut anchors, place, shift)?;
+        }
+    }
+    small_floor(alloc, rects.as_slice(), anchors.as_slice())
+}
+
+fn hull_to(alloc: Global, old: &Floor, shifts: [Shift; 5]) -> Result<Option<Sides>, AllocError>
+    requires { IsFloor old.now }
+{
+    let new = nodes(alloc, shifts)?;
+    hull_between(alloc, old, &new)
+}
+
+/// The hull of what differs from five nodes at their places.
+fn hull_of_nodes(alloc: Global, shifts: [Shift; 5]) -> Result<Option<Sides>, AllocError> {
+    let all = nodes(alloc, FIVE)?;
+    hull_to(alloc, &all, shifts)
+}
+
+const HULLS: [([Shift; 5], Sides); 9] = [
+    (FIVE, (i64::MAX, i64::MAX, i64::MIN, i64::MIN)),
+    ([HERE, HERE, None, HERE, HERE], (120, 90, 150, 110)),
+    ([None, HERE, HERE, HERE, HERE], (0, 0, 30, 20)),
+    ([HERE, HERE, HERE, HERE, None], (240, 45, 270, 65)),
+    ([HERE, HERE, MOVED, HERE, HERE], (120, 77, 157, 110)),
+    ([HERE, HERE, MOVED, None, HERE], (120, 0, 210, 110)),
+    // Far apart, onto a node and onto the whole line of a side, and all.
+    ([MOVED, HERE, HERE, HERE, Some((0, 99))], (0, -13, 270, 164)),
+    (
+        [Some((60, 45)), HERE, HERE, Some((30, 0)), HERE],
+        (0, 0, 240, 65),
+    ),
+    ([Some((11, 4)); 5], (0, 0, 281, 114)),
+];
+
+#[test]
+fn finds_lines_near_what_changes(rt: HostRuntime) -> Result<(), Fail> {
+    for (shifts, want) in HULLS {
+        assert_eq!(rt; hull_of_nodes(rt.alloc(), shifts)?, Some(want));
+    }
+    Ok(())
+}
+
+const AROUND: [Sides; 3] = [SQUARE, (30, 0, 40, 10), (20, 30, 50, 40)];
+
+fn hull_from(alloc: Global, old: &Floor) -> Result<Option<Sides>, AllocError>
+    requires { IsFloor old.now }
+{
+    let new = small_floor(alloc, &AROUND, &[(0, 5), (25, 28), (50, 35)])?;
+    hull_between(alloc, old, &new)
+}
+
+/// The hull where the anchor between three solids moves.
+fn hull_of_anchor(alloc: Global) -> Result<Option<Sides>, AllocError> {
+    let old = small_floor(alloc, &AROUND, &[(0, 5), (25, 20), (50, 35)])?;
+    hull_from(alloc, &old)
+}
+
+#[test]
+fn finds_lines_of_an_anchor_that_moves(rt: HostRuntime) -> Result<(), Fail> {
+    assert_eq!(rt; hull_of_anchor(rt.alloc())?, Some((25, 20, 25, 28)));
+    Ok(())
+}
+
+fn turns_tiles(alloc: Global, old: &[Sides]) -> Result<[u64; 5], AllocError> {
+    let new = tiles_behind(alloc, (3, 2, 23, 17))?;
+    turns_between(alloc, (old, &[]), (new.as_slice(), &[]))
+}
+
+#[test]
+fn moves_one_of_many(rt: HostRuntime) -> Result<(), Fail> {
+    let old = tiles_behind(rt.alloc(), tile(0))?;
+    let turned = turns_tiles(rt.alloc(), old.as_slice());
+    assert_eq!(rt; turned.ok(), Some([5936, 5936, 5980, 6016, 6060]));
+    Ok(())
+}

@@ -1,0 +1,187 @@
+//! The runs and the order of worked routes.
+use plane_geom::{Dir, Point, Way};
+use segment_order::{Run, line_order, runs_of};
+use std::alloc::{AllocError, Global};
+use std::cmp::Ordering;
+use std::test::Fail;
+
+/// The edge of a route, the index of one of its runs, and its corners by their coordinates.
+type Drawn = (u32, usize, [(i64, i64); 5]);
+
+/// Routes whose second run lies on one line, or whose third one does where the route comes from the other side, in
+/// their order on it: by coordinate, then by where they come from and go to, then by edge.
+const HORIZONTAL: [Drawn; 11] = [
+    (8, 1, [(0, -30), (0, 0), (100, 0), (100, -50), (50, -50)]),
+    (9, 1, [(0, -30), (0, 0), (100, 0), (100, -50), (200, -50)]),
+    (12, 2, [(200, -50), (100, -50), (100, 0), (0, 0), (0, -30)]),
+    (6, 1, [(0, -30), (0, 0), (120, 0), (120, -50), (200, -50)]),
+    (7, 1, [(0, -30), (0, 0), (100, 0), (60, 0), (60, 20)]),
+    (5, 1, [(0, -30), (0, 0), (120, 0), (120, 70), (200, 70)]),
+    (4, 1, [(0, -30), (0, 0), (100, 0), (100, 70), (200, 70)]),
+    (3, 1, [(0, -30), (0, 0), (100, 0), (100, 90), (200, 90)]),
+    (13, 1, [(0, -30), (0, 0), (100, 0), (100, 90), (200, 90)]),
+    (
+        1,
+        1,
+        [(-20, -30), (-20, 0), (100, 0), (100, -50), (200, -50)],
+    ),
+    (2, 1, [(0, 30), (0, 0), (100, 0), (100, -50), (200, -50)]),
+];
+
+const VERTICAL: [Drawn; 6] = [
+    (6, 1, [(0, 0), (49, 0), (49, 80), (90, 80), (90, 100)]),
+    (2, 1, [(0, 0), (50, 0), (50, 80), (20, 80), (20, 100)]),
+    (3, 1, [(0, 0), (50, 0), (50, 90), (20, 90), (20, 100)]),
+    (1, 1, [(0, 0), (50, 0), (50, 80), (90, 80), (90, 100)]),
+    (4, 1, [(70, 0), (50, 0), (50, 90), (20, 90), (20, 100)]),
+    (5, 2, [(20, 100), (20, 90), (50, 90), (50, 10), (70, 10)]),
+];
+
+fn at(place: (i64, i64)) -> Point {
+    Point {
+        x: place.0,
+        y: place.1,
+    }
+}
+
+fn runs(alloc: Global, drawn: &Drawn) -> Result<Vec<Run>, AllocError> {
+    let [first, second, third, fourth, fifth] = drawn.2;
+    let corners = [at(first), at(second), at(third), at(fourth), at(fifth)];
+    runs_of(alloc, drawn.0, &corners)
+}
+
+/// The order of the runs at these indices, where they are there.
+fn order_of(a: &[Run], a_index: usize, b: &[Run], b_index: usize) -> Option<Ordering> {
+    let a_run = a.get(a_index)?;
+    let b_run = b.get(b_index)?;
+    Some(line_order(a_run, a, b_run, b))
+}
+
+fn order_to(
+    alloc: Global,
+    a: &[Run],
+    a_index: usize,
+    b: &Drawn,
+) -> Result<Option<Ordering>, AllocError> {
+    let b_runs = runs(alloc, b)?;
+    Ok(order_of(a, a_index, b_runs.as_slice(), b.1))
+}
+
+fn order_between(alloc: Global, a: &Drawn, b: &Drawn) -> Result<Option<Ordering>, AllocError> {
+    let a_runs = runs(alloc, a)?;
+    order_to(alloc, a_runs.as_slice(), a.1, b)
+}
+
+/// Whether each run stands where its line does.
+fn are_in_order(alloc: Global, lines: &[Drawn]) -> Result<bool, AllocError> {
+    for (i, a) in lines.iter().enumerate() {
+        for (j, b) in lines.iter().enumerate() {
+            if order_between(alloc, a, b)? != Some(i.cmp(&j)) {
+                return Ok(false);
+            }
+        }
+    }
+    Ok(true)
+}
+
+#[test]
+fn orders_routes_on_a_line(rt: HostRuntime) -> Result<(), Fail> {
+    assert!(rt; are_in_order(rt.alloc(), &HORIZONTAL)?);
+    assert!(rt; are_in_order(rt.alloc(), &VERTICAL)?);
+    Ok(())
+}
+
+/// A run without length in the place of the second one, with this heading.
+fn with_empty(edge: u32, heading: Dir) -> [Run; 3] {
+    let before = Run {
+        edge,
+        place: 1,
+        way: Way::Vertical,
+        heading: Dir::South,
+        at: 5,
+        lo: -10,
+        hi: 0,
+    };
+    let empty = Run {
+        edge,
+        place: 2,
+        way: Way::Horizontal,
+        heading,
+        at: 0,
+        lo: 5,
+        hi: 5,
+    };
+    let after = Run {
+        place: 3,
+        lo: 0,
+        hi: 20,
+        ..before
+    };
+    [before, empty, after]
+}
+
+fn corners_with_empty(alloc: Global, edge: u32) -> Result<Vec<Run>, AllocError> {
+    let corners = [at((5, -10)), at((5, 0)), at((5, 0)), at((5, 20))];
+    runs_of(alloc, edge, &corners)
+}
+
+/// Whether the runs are those of three corners of which two are one, but for the second one.
+fn are_beside_empty(runs: &[Run], eastward: &[Run]) -> bool {
+    runs.len() == 3 && runs.first() == eastward.first() && runs.last() == eastward.last()
+}
+
+/// Of a run without length its heading says which way its rays go.
+#[test]
+fn heading_orders_runs_without_length(rt: HostRuntime) -> Result<(), Fail> {
+    let (eastward, westward) = (with_empty(1, Dir::East), with_empty(2, Dir::West));
+    assert_eq!(rt; order_of(&eastward, 1, &westward, 1), Some(Ordering::Less));
+    let runs = corners_with_empty(rt.alloc(), 1)?;
+    assert!(rt; are_beside_empty(runs.as_slice(), &eastward));
+    Ok(())
+}
+
+/// The last run of a stair.
+const LAST: Run = Run {
+    edge: 7,
+    place: 99_999,
+    way: Way::Horizontal,
+    heading: Dir::East,
+    at: -49_999,
+    lo: 49_999,
+    hi: 50_000,
+};
+
+/// The corners of a stair.
+fn stair(alloc: Global) -> Result<Vec<Point>, AllocError> {
+    let mut points = Vec::new(alloc);
+    for k in 0..100_000_i64 {
+        points.push(at(((k + 1) / 2, -(k / 2))))?;
+    }
+    Ok(points)
+}
+
+/// How many runs the corners make, and the last one.
+fn last_run(alloc: Global, points: &[Point]) -> Result<Option<(usize, Run)>, AllocError> {
+    if points.len() != 100_000 {
+        return Ok(None);
+    }
+    let runs = runs_of(alloc, 7, points)?;
+    Ok(runs.last().map(|last| (runs.len(), *last)))
+}
+
+/// A stair of many corners has as many runs, less one; each leads from its corner to the next.
+#[test]
+fn runs_along_many_corners(rt: HostRuntime) -> Result<(), Fail> {
+    let points = stair(rt.alloc())?;
+    let last = last_run(rt.alloc(), points.as_slice());
+    assert_eq!(rt; last.ok(), Some(Some((99_999, LAST))));
+    Ok(())
+}
+
+#[test]
+fn holds_its_points(rt: HostRuntime) {
+    assert_eq!(rt; LAST.start(), at((49_999, -49_999)));
+    assert_eq!(rt; LAST.end(), at((50_000, -49_999)));
+    assert!(rt; LAST.holds(LAST.end()));
+    assert!(rt; !LAST.holds(at((50_001, -49_999))) && !LAST.holds(at((50_000, 0))));
+}

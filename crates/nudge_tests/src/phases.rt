@@ -1,0 +1,263 @@
+//! Worked phases: routes between solids, and the bundles of each way.
+use crate::phases::checks::{
+    are_few, are_of_different_edges, are_phase_routes, are_solids, is_nudge, may_all_move,
+};
+use crate::phases::rows::{
+    ALONE, BACK, Block, CHANNELS, Corner, Drawn, Leg, ON_ONE_LINE, Placed, ROUND_BOXES, Row, Ruled,
+    Wanted,
+};
+use channel_bundles::{PhaseRoute, RouteAnchors, RunBundle, bundles};
+use plane_geom::{Dir, Point, Rect, Solid, Way};
+use segment_order::Run;
+use separation_model::{Item, Rule};
+use std::alloc::{AllocError, Global};
+use std::process::Abort;
+use std::test::Fail;
+
+mod checks;
+mod rows;
+
+fn point(corner: Corner) -> Point {
+    Point {
+        x: corner.0,
+        y: corner.1,
+    }
+}
+
+fn points(alloc: Global, corners: &[Corner]) -> Result<Vec<Point>, AllocError> {
+    corners.iter().map(|c| point(*c)).collect(alloc)
+}
+
+fn solid(block: Block) -> Solid {
+    let Block(left, top, right, bottom) = block;
+    Solid {
+        node: 0,
+        rect: Rect {
+            left,
+            top,
+            right,
+            bottom,
+        },
+    }
+}
+
+fn solids(alloc: Global, blocks: &[Block]) -> Result<Vec<Solid>, AllocError> {
+    blocks.iter().map(|b| solid(*b)).collect(alloc)
+}
+
+/// The run of the edge, with its number, that goes from one point to the other. Where both are one, the row says
+/// whereto.
+fn run(edge: u32, place: u32, heading: Dir, from: Point, to: Point) -> Run {
+    let way = heading.way();
+    let (start, end) = (from.along(way), to.along(way));
+    Run {
+        edge,
+        place,
+        way,
+        heading,
+        at: from.across(way),
+        lo: start.min(end),
+        hi: start.max(end),
+    }
+}
+
+fn runs(alloc: Global, drawn: &Drawn) -> Result<Vec<Run>, AllocError> {
+    let mut runs = Vec::new(alloc);
+    let (mut place, mut from) = (0_u32, point(drawn.start));
+    for Leg(heading, x, y) in drawn.legs {
+        let to = Point { x: *x, y: *y };
+        place = place.saturating_add(1);
+        runs.push(run(drawn.edge, place, *heading, from, to))?;
+        from = to;
+    }
+    Ok(runs)
+}
+
+fn route(alloc: Global, drawn: &Drawn) -> Result<PhaseRoute, AllocError> {
+    Ok(PhaseRoute {
+        edge: drawn.edge,
+        runs: runs(alloc, drawn)?,
+        anchors: RouteAnchors {
+            source_port: point(drawn.source_port),
+            target_port: point(drawn.target_port),
+            via: points(alloc, drawn.via)?,
+        },
+        weight: drawn.weight,
+    })
+}
+
+/// Adds the route.
+fn push_route(
+    alloc: Global,
+    routes: &mut Vec<PhaseRoute>,
+    drawn: &Drawn,
+) -> Result<(), AllocError> {
+    let route = route(alloc, drawn)?;
+    routes.push(route)?;
+    Ok(())
+}
+
+fn push_routes(
+    alloc: Global,
+    routes: &mut Vec<PhaseRoute>,
+    drawn: &[Drawn],
+) -> Result<(), AllocError> {
+    for each in drawn {
+        push_route(alloc, routes, each)?;
+    }
+    Ok(())
+}
+
+/// The bundles of the routes between the solids, in the phase that moves the runs of the way.
+fn bundles_if_allowed(
+    rt: &impl Abort,
+    alloc: Global,
+    solids: &[Solid],
+    routes: &[PhaseRoute],
+    way: Way,
+    nudge: i64,
+) -> Result<Vec<RunBundle>, AllocError> {
+    assert!(rt; are_solids(solids));
+    assert!(rt; are_phase_routes(routes));
+    assert!(rt; are_of_different_edges(routes));
+    assert!(rt; may_all_move(routes, solids, way));
+    assert!(rt; are_few(routes));
+    assert!(rt; is_nudge(nudge));
+    bundles(alloc, solids, routes, way, nudge)
+}
+
+fn is_placed(run: &Run, item: &Item, want: &Placed) -> bool {
+    let found = Placed(
+        run.edge,
+        run.place,
+        item.want,
+        item.lo,
+        item.hi,
+        item.weight,
+    );
+    found == *want
+}
+
+/// Whether the bundle has exactly these runs with these items.
+fn are_placed(found: &RunBundle, wanted: &[Placed]) -> bool {
+    let pairs = found.runs.iter().zip(&found.bundle.items);
+    found.runs.len() == wanted.len()
+        && found.bundle.items.len() == wanted.len()
+        && pairs
+            .zip(wanted)
+            .all(|((run, item), want)| is_placed(run, item, want))
+}
+
+fn is_ruled(rule: &Rule, want: &Ruled) -> bool {
+    Ruled(rule.left, rule.right, rule.spaced) == *want
+}
+
+/// Whether the bundle has exactly these rules.
+fn are_ruled(rules: &[Rule], wanted: &[Ruled]) -> bool {
+    rules.len() == wanted.len()
+        && rules
+            .iter()
+            .zip(wanted)
+            .all(|(rule, want)| is_ruled(rule, want))
+}
+
+/// Whether the bundle has exactly these runs and rules, and asks for the gap.
+fn is_as_wanted(found: &RunBundle, wanted: &Wanted, nudge: i64) -> bool {
+    let Wanted(items, rules) = wanted;
+    found.bundle.wanted == nudge
+        && are_placed(found, items)
+        && are_ruled(&found.bundle.rules, rules)
+}
+
+fn are_as_wanted(found: &[RunBundle], wanted: &[Wanted], nudge: i64) -> bool {
+    found.len() == wanted.len()
+        && found
+            .iter()
+            .zip(wanted)
+            .all(|(bundle, own)| is_as_wanted(bundle, own, nudge))
+}
+
+fn wanted(row: &Row, way: Way) -> &'static [Wanted] {
+    match way {
+        Way::Vertical => row.vertical,
+        Way::Horizontal => row.horizontal,
+    }
+}
+
+/// Whether the bundles of the routes are those of the row.
+fn stands(
+    rt: &impl Abort,
+    alloc: Global,
+    row: &Row,
+    way: Way,
+    solids: &[Solid],
+    routes: &[PhaseRoute],
+) -> Result<bool, AllocError> {
+    let found = bundles_if_allowed(rt, alloc, solids, routes, way, row.nudge)?;
+    Ok(are_as_wanted(found.as_slice(), wanted(row, way), row.nudge))
+}
+
+/// The same, with the routes of the row.
+fn stands_with_routes(
+    rt: &impl Abort,
+    alloc: Global,
+    row: &Row,
+    way: Way,
+    solids: &[Solid],
+    routes: &mut Vec<PhaseRoute>,
+) -> Result<bool, AllocError> {
+    push_routes(alloc, routes, row.routes)?;
+    stands(rt, alloc, row, way, solids, routes.as_slice())
+}
+
+fn stands_between(
+    rt: &impl Abort,
+    alloc: Global,
+    row: &Row,
+    way: Way,
+    solids: &[Solid],
+) -> Result<bool, AllocError> {
+    let mut routes = Vec::new(alloc);
+    stands_with_routes(rt, alloc, row, way, solids, &mut routes)
+}
+
+/// Whether the bundles of the row are as they have to be, of the runs of the way.
+fn row_stands(rt: &impl Abort, alloc: Global, row: &Row, way: Way) -> Result<bool, AllocError> {
+    let solids = solids(alloc, row.solids)?;
+    stands_between(rt, alloc, row, way, solids.as_slice())
+}
+
+/// Asserts that the bundles of each row are as they have to be, of either way.
+fn walk(rt: &impl Abort, alloc: Global, rows: &[Row]) -> Result<(), Fail> {
+    for (place, row) in rows.iter().enumerate() {
+        for way in [Way::Vertical, Way::Horizontal] {
+            assert!(rt; row_stands(rt, alloc, row, way)?, "in row {place}: {way:?}");
+        }
+    }
+    Ok(())
+}
+
+#[test]
+fn bundles_runs_round_boxes(rt: HostRuntime) -> Result<(), Fail> {
+    walk(&rt, rt.alloc(), &ROUND_BOXES)
+}
+
+#[test]
+fn bundles_runs_in_channels(rt: HostRuntime) -> Result<(), Fail> {
+    walk(&rt, rt.alloc(), &CHANNELS)
+}
+
+#[test]
+fn bundles_runs_on_one_line(rt: HostRuntime) -> Result<(), Fail> {
+    walk(&rt, rt.alloc(), &ON_ONE_LINE)
+}
+
+#[test]
+fn bundles_runs_of_routes_that_go_back(rt: HostRuntime) -> Result<(), Fail> {
+    walk(&rt, rt.alloc(), &BACK)
+}
+
+#[test]
+fn bundles_runs_that_stand_alone(rt: HostRuntime) -> Result<(), Fail> {
+    walk(&rt, rt.alloc(), &ALONE)
+}

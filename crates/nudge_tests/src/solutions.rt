@@ -1,0 +1,241 @@
+//! Least positions that were worked by hand, with all multipliers, and those of rows of items alike.
+ghost use Rattle.std.specs.Prelude.{◌≤◌, pos, ◌≤ℤ◌, IfOk, All};
+ghost use Rattle.separation_solve.specs.Start.{IsForward};
+ghost use Rattle.separation_model.specs.Bundle.{IsBundle, IsItem};
+
+use crate::small::{small_bundle, small_item};
+use separation_solve::{Bundle, Item, Rule, Solution, solve, verify, widest_gap};
+use std::alloc::{AllocError, Global};
+use std::test::Fail;
+
+/// The least positions of the bundle for its widest gap.
+fn solved(alloc: Global, bundle: &Bundle) -> Result<Solution, AllocError>
+    requires { IsBundle bundle.now }
+{
+    let gap = widest_gap(alloc, bundle)?;
+    solve(alloc, bundle, gap)
+}
+
+/// An item by its want, how far it may go left and right, and whether it is heavy.
+type Plain = (i16, u16, u16, bool);
+
+/// Two items, whether they are spaced, and the wanted gap; then the gap, the denominator and places, and the multipliers
+/// of the rule and of the upper limits. Those of the lower limits are 0.
+type Solved = (
+    Plain,
+    Plain,
+    bool,
+    u16,
+    i64,
+    u64,
+    [i128; 2],
+    i128,
+    [i128; 2],
+);
+
+const WITHIN: Plain = (0, 5000, 0, false);
+
+const EDGE: Plain = (-24000, 40000, 0, false);
+
+const HEAVY: Plain = (0, 30000, 30000, true);
+
+const LIGHT: Plain = (0, 30000, 30000, false);
+
+const FIXED: Plain = (700, 0, 0, false);
+
+const AT_LIMITS: [Solved; 3] = [
+    (
+        WITHIN,
+        WITHIN,
+        true,
+        8000,
+        5000,
+        1,
+        [-5000, 0],
+        10000,
+        [0, 10000],
+    ),
+    (
+        EDGE,
+        EDGE,
+        true,
+        4000,
+        4000,
+        1,
+        [-28000, -24000],
+        8000,
+        [0, 8000],
+    ),
+    (
+        LIGHT,
+        FIXED,
+        true,
+        1000,
+        1000,
+        1,
+        [-300, 700],
+        600,
+        [0, 600],
+    ),
+];
+
+const BETWEEN_LIMITS: [Solved; 3] = [
+    (
+        (0, 30000, 0, false),
+        (0, 0, 30000, false),
+        true,
+        1,
+        1,
+        2,
+        [-1, 1],
+        2,
+        [0, 0],
+    ),
+    (
+        HEAVY,
+        LIGHT,
+        true,
+        4000,
+        4000,
+        1,
+        [-1000, 3000],
+        6000,
+        [0, 0],
+    ),
+    (LIGHT, FIXED, false, 1000, 1000, 1, [0, 700], 0, [0, 0]),
+];
+
+/// Whether the solution is that of the row.
+fn is_as_wanted(solution: &Solution, row: &Solved) -> bool {
+    solution.gap == row.4
+        && solution.den.as_slice() == [row.5, row.5].as_slice()
+        && solution.pos.as_slice() == row.6.as_slice()
+        && solution.mult.as_slice() == [row.7].as_slice()
+        && solution.low.as_slice() == [0, 0].as_slice()
+        && solution.high.as_slice() == row.8.as_slice()
+}
+
+/// Whether the least positions for the widest gap are those of the row, and verified.
+fn solves(alloc: Global, bundle: &Bundle, row: &Solved) -> Result<bool, AllocError>
+    requires { IsBundle bundle.now }
+{
+    let solution = solved(alloc, bundle)?;
+    Ok(is_as_wanted(&solution, row) && verify(bundle, &solution))
+}
+
+fn solves_row(alloc: Global, row: &Solved) -> Result<bool, AllocError> {
+    let left = small_item(row.0.0, row.0.1, row.0.2, row.0.3);
+    let right = small_item(row.1.0, row.1.1, row.1.2, row.1.3);
+    if left.want > right.want {
+        return Ok(false);
+    }
+    let bundle = small_bundle(alloc, left, right, row.2, row.3)?;
+    solves(alloc, &bundle, row)
+}
+
+fn solve_each(alloc: Global, rows: &[Solved]) -> Result<bool, AllocError> {
+    for row in rows {
+        if !solves_row(alloc, row)? {
+            return Ok(false);
+        }
+    }
+    Ok(true)
+}
+
+#[test]
+fn solves_at_limits(rt: HostRuntime) -> Result<(), Fail> {
+    assert!(rt; solve_each(rt.alloc(), &AT_LIMITS)?);
+    Ok(())
+}
+
+#[test]
+fn solves_between_limits(rt: HostRuntime) -> Result<(), Fail> {
+    assert!(rt; solve_each(rt.alloc(), &BETWEEN_LIMITS)?);
+    Ok(())
+}
+
+/// Rules from each of so many items to the next, all spaced.
+fn chain(alloc: Global, count: u32) -> Result<Vec<Rule>, AllocError>
+    ensures { IfOk result (λ rules. All (IsForward count) rules.items) }
+{
+    let mut rules = Vec::new(alloc);
+    for right in 1..count {
+        rules.push(Rule {
+            left: right - 1,
+            right,
+            spaced: true,
+        })?;
+    }
+    Ok(rules)
+}
+
+/// So many items like this one, each two in turn apart.
+fn row(alloc: Global, item: Item, count: u32, wanted: i64) -> Result<Bundle, AllocError>
+    requires item { IsItem item }
+    requires count { count ≤ 1000 }
+    requires wanted_low { pos 0 ≤ℤ wanted }
+    requires wanted_high { wanted ≤ℤ pos 1000000 }
+    ensures { IfOk result IsBundle }
+{
+    let items = vec![in alloc; item; count as usize]?;
+    let rules = chain(alloc, count)?;
+    Ok(Bundle {
+        items,
+        rules,
+        wanted,
+    })
+}
+
+/// Whether the solution is that of three items within 5000 to the left of 0.
+fn is_of_three(solution: &Solution) -> bool {
+    solution.gap == 2500
+        && solution.den.as_slice() == [1, 1, 1].as_slice()
+        && solution.pos.as_slice() == [-5000, -2500, 0].as_slice()
+        && solution.mult.as_slice() == [10000, 15000].as_slice()
+        && solution.low.as_slice() == [0, 0, 0].as_slice()
+        && solution.high.as_slice() == [0, 0, 15000].as_slice()
+}
+
+fn solves_three(alloc: Global, bundle: &Bundle) -> Result<bool, AllocError>
+    requires { IsBundle bundle.now }
+{
+    let solution = solved(alloc, bundle)?;
+    Ok(is_of_three(&solution) && verify(bundle, &solution))
+}
+
+fn solves_row_of_three(alloc: Global) -> Result<bool, AllocError> {
+    let bundle = row(alloc, small_item(0, 5000, 0, false), 3, 4000)?;
+    solves_three(alloc, &bundle)
+}
+
+#[test]
+fn solves_a_row(rt: HostRuntime) -> Result<(), Fail> {
+    assert!(rt; solves_row_of_three(rt.alloc())?);
+    Ok(())
+}
+
+/// Whether the solution is that of a thousand items round 0.
+fn is_of_thousand(solution: &Solution) -> bool {
+    solution.gap == 60
+        && solution.den.iter().all(|den| *den == 1)
+        && solution.pos.first() == Some(&-29970)
+        && solution.pos.last() == Some(&29970)
+}
+
+fn solves_thousand(alloc: Global, bundle: &Bundle) -> Result<bool, AllocError>
+    requires { IsBundle bundle.now }
+{
+    let solution = solved(alloc, bundle)?;
+    Ok(is_of_thousand(&solution) && verify(bundle, &solution))
+}
+
+fn solves_row_of_thousand(alloc: Global) -> Result<bool, AllocError> {
+    let bundle = row(alloc, small_item(0, 30000, 30000, false), 1000, 4000)?;
+    solves_thousand(alloc, &bundle)
+}
+
+#[test]
+fn solves_a_long_row(rt: HostRuntime) -> Result<(), Fail> {
+    assert!(rt; solves_row_of_thousand(rt.alloc())?);
+    Ok(())
+}
