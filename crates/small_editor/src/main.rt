@@ -60,18 +60,19 @@ fn refused() -> io::Error {
     io::ErrorKind::InvalidInput.into()
 }
 
-/// Prints the lines, and once more without the last move.
-fn print_undone(rt: &HostRuntime, session: &mut Session) -> io::Result<()> {
-    print_lines(rt, "Box 3 between the others", session)?;
+/// Moves box 3 between the others and back, and prints the lines each time.
+fn show<R: Threads + Sync>(rt: &R, out: &HostRuntime, session: &mut Session) -> io::Result<()> {
+    print_lines(out, "Box 3 out of the way", session)?;
+    move_box(rt, session, 3, 50_000, 0).map_err(|_| refused())?;
+    print_lines(out, "Box 3 between the others", session)?;
     session.undo().map_err(|_| refused())?;
-    print_lines(rt, "Box 3 back", session)
+    print_lines(out, "Box 3 back", session)
 }
 
 fn main(rt: HostRuntime) -> io::Result<()> {
-    let alloc = rt.alloc();
-    let scene = drawing(alloc).map_err(|_| refused())?;
-    let mut session = Session::open(&rt, alloc, scene, WORKERS, &OpenGate)?;
-    print_lines(&rt, "Box 3 out of the way", &session)?;
-    move_box(&rt, &mut session, 3, 50_000, 0).map_err(|_| refused())?;
-    print_undone(&rt, &mut session)
+    let scene = drawing(rt.alloc()).map_err(|_| refused())?;
+    let mut session = Session::open(&rt, rt.alloc(), scene, WORKERS, &OpenGate)?;
+    let shown = show(&rt, &rt, &mut session);
+    let _tally = session.into_tally();
+    shown
 }
