@@ -1,0 +1,459 @@
+//! A session through its calls, what its graph is written, and each of its faults from one state, after which all is
+//! as before.
+ghost use Rattle.scene_model.specs.Edits.{IsDirected};
+
+use par_route::OpenGate;
+use route_session::{Session, SessionFault};
+use scene_store::{Dirs, Edit, Scene, SceneFault, Setting};
+use std::alloc::{AllocError, Global};
+use std::thread::Threads;
+
+/// What is compared: whether a transaction is open, where the second box stands, the next edge number, the cost of the
+/// first connector's route, and both counts.
+#[derive(Clone, Copy, Debug, PartialEq, Eq)]
+struct Sight {
+    open: bool,
+    x: Option<i64>,
+    next_edge: u32,
+    cost: Option<u64>,
+    searched: u64,
+    written: u64,
+}
+
+fn look(session: &Session) -> Sight {
+    let answer = session.book().answer(1);
+    let route = answer.and_then(|answer| answer.route.as_ref());
+    Sight {
+        open: session.is_open(),
+        x: session.scene().node(2).map(|node| node.x),
+        next_edge: session.scene().next_edge(),
+        cost: route.map(|route| route.cost),
+        searched: session.searched(),
+        written: session.written(),
+    }
+}
+
+/// How many nudged lines there are, and the connector of the first one.
+fn lines(session: &Session) -> Result<(usize, Option<u32>), AllocError> {
+    let lines = session.nudged()?;
+    Ok((
+        lines.routes.len(),
+        lines.routes.first().map(|line| line.edge),
+    ))
+}
+
+/// The scenes on which sessions are opened.
+#[derive(Clone, Copy)]
+enum Drawing {
+    /// Three boxes of 20 units in a row, of which the first has a pin of class 7, and a connector from that pin to the
+    /// second box with two checkpoints.
+    Small,
+    /// The second box alone.
+    OneBox,
+}
+
+fn draw_small(scene: &mut Scene) -> Result<(), SceneFault> {
+    scene.add_node(1, 0, 0, 20_000, 20_000)?;
+    scene.add_node(2, 100_000, 0, 20_000, 20_000)?;
+    scene.add_node(3, 200_000, 0, 20_000, 20_000)?;
+    scene.add_pin(1, 7, 10_000, 0, Dirs::EAST)?;
+    scene.add_edge(1, 2, 7, 0)?;
+    scene.add_via(1, 1, 40_000, 0)?;
+    scene.add_via(1, 2, 60_000, 0)
+}
+
+fn draw(scene: &mut Scene, drawing: Drawing) -> Result<(), SceneFault> {
+    match drawing {
+        Drawing::Small => draw_small(scene),
+        Drawing::OneBox => scene.add_node(2, 0, 0, 20_000, 20_000),
+    }
+}
+
+/// An edit. Where it leaves something out, that is 0, or 20 units for a height.
+#[derive(Clone, Copy)]
+enum Ask {
+    /// A new box's id, x and width.
+    Node(i64, i64, i64),
+    /// A box and its new x.
+    Move(i64, i64),
+    /// A box and its new width.
+    Size(i64, i64),
+    DropNode(i64),
+    /// A box, and the class and x of its new pin, which leads east.
+    Pin(i64, u32, i64),
+    /// A box and the place of a pin.
+    Unpin(i64, u32),
+    /// The ends of a new connector, and the class of its first.
+    Edge(i64, i64, u32),
+    Cut(u32),
+    /// A connector, and the new class of its first end.
+    Classes(u32, u32),
+    /// A connector, and the place and x of its new checkpoint.
+    Via(u32, u32, i64),
+    /// A connector and the place of a checkpoint.
+    Unvia(u32, u32),
+    Penalty(i64),
+}
+
+fn edit_of(ask: Ask) -> Edit
+    ensures { IsDirected result }
+{
+    let (y, dy, h, to_class) = (0, 0, 20_000, 0);
+    match ask {
+        Ask::Node(id, x, w) => Edit::AddNode { id, x, y, w, h },
+        Ask::Move(id, x) => Edit::MoveNode { id, x, y },
+        Ask::Size(id, w) => Edit::SizeNode { id, w, h },
+        Ask::DropNode(id) => Edit::DropNode { id },
+        Ask::Pin(id, class, dx) => Edit::AddPin {
+            id,
+            class,
+            dx,
+            dy,
+            dirs: Dirs::EAST,
+        },
+        Ask::Unpin(id, place) => Edit::DropPin { id, place },
+        Ask::Edge(from, to, from_class) => Edit::AddEdge {
+            from,
+            to,
+            from_class,
+            to_class,
+        },
+        Ask::Cut(number) => Edit::CutEdge { number },
+        Ask::Classes(number, from_class) => Edit::SetClasses {
+            number,
+            from_class,
+            to_class,
+        },
+        Ask::Via(number, place, x) => Edit::AddVia {
+            number,
+            place,
+            x,
+            y,
+        },
+        Ask::Unvia(number, place) => Edit::DropVia { number, place },
+        Ask::Penalty(value) => Edit::Set {
+            what: Setting::Penalty,
+            value,
+        },
+    }
+}
+
+/// A call of a session.
+#[derive(Clone, Copy)]
+enum Call {
+    Begin,
+    Edit(Ask),
+    Commit,
+    Abort,
+    GiveUp,
+    Undo,
+    Redo,
+}
+
+fn give_up(session: &mut Session) -> Result<(), SessionFault> {
+    session.give_up();
+    Ok(())
+}
+
+/// Makes a call. It promises nothing, so that a test compares what it sees alone.
+fn make<R: Threads + Sync>(rt: &R, session: &mut Session, call: Call) -> Result<(), SessionFault> {
+    match call {
+        Call::Begin => session.begin(),
+        Call::Edit(ask) => session.edit(&edit_of(ask)),
+        Call::Commit => session.commit(rt, 1, &OpenGate),
+        Call::Abort => session.abort(),
+        Call::GiveUp => give_up(session),
+        Call::Undo => session.undo(),
+        Call::Redo => session.redo(),
+    }
+}
+
+/// Makes calls up to the first one that is refused.
+fn make_all<R: Threads + Sync>(
+    rt: &R,
+    session: &mut Session,
+    calls: &[Call],
+) -> Result<(), SessionFault> {
+    for call in calls {
+        make(rt, session, *call)?;
+    }
+    Ok(())
+}
+
+/// What is wanted after calls.
+#[derive(Clone, Copy)]
+enum Wanted {
+    /// All as it was when the session was opened.
+    AsOpened,
+    /// The place of the second box, the cost of the first route and the number of searches.
+    Moved(i64, u64, u64),
+    /// How many lines and crossings the graph was written.
+    Written(u64),
+}
+
+fn is_wanted(opened: Sight, seen: Sight, wanted: Wanted) -> bool {
+    match wanted {
+        Wanted::AsOpened => seen == opened,
+        Wanted::Moved(x, cost, searched) => {
+            (seen.x, seen.cost, seen.searched) == (Some(x), Some(cost), searched)
+        }
+        Wanted::Written(written) => seen.written == written,
+    }
+}
+
+/// What a session is asked, and what must come of it.
+#[derive(Clone, Copy)]
+enum Step {
+    /// None of the calls is refused.
+    Made(&'static [Call], Wanted),
+    /// The last of the calls is refused, and all is as it was when the session was opened.
+    Refused(&'static [Call], SessionFault),
+    /// In a transaction that changed something the edit is refused, and all is as it was when the session was opened.
+    Edit(Ask, SceneFault),
+}
+
+/// A transaction moves the second box, and adds a connector between the third box and the second.
+const CHANGED: [Call; 3] = [
+    Call::Begin,
+    Call::Edit(Ask::Move(2, 120_000)),
+    Call::Edit(Ask::Edge(3, 2, 0)),
+];
+
+/// What the last of the calls of a step answers.
+fn answer<R: Threads + Sync>(
+    rt: &R,
+    session: &mut Session,
+    step: Step,
+) -> Result<(), SessionFault> {
+    match step {
+        Step::Made(calls, _) | Step::Refused(calls, _) => make_all(rt, session, calls),
+        Step::Edit(ask, _) => {
+            make_all(rt, session, &CHANGED)?;
+            make(rt, session, Call::Edit(ask))
+        }
+    }
+}
+
+/// Whether the step comes out as it must.
+fn is_right<R: Threads + Sync>(rt: &R, session: &mut Session, opened: Sight, step: Step) -> bool {
+    let answer = answer(rt, session, step);
+    let seen = look(session);
+    match step {
+        Step::Made(_, wanted) => answer == Ok(()) && is_wanted(opened, seen, wanted),
+        Step::Refused(_, fault) => answer == Err(fault) && seen == opened,
+        Step::Edit(_, fault) => answer == Err(SessionFault::Edit(fault)) && seen == opened,
+    }
+}
+
+/// The first of the steps that comes out otherwise.
+fn wrong_step<R: Threads + Sync>(rt: &R, session: &mut Session, steps: &[Step]) -> Option<usize> {
+    let opened = look(session);
+    for (place, step) in steps.iter().enumerate() {
+        if !is_right(rt, session, opened, *step) {
+            return Some(place);
+        }
+    }
+    None
+}
+
+/// What comes of steps: the first one that comes out otherwise, how many nudged lines there are at the end with the
+/// connector of the first one, and the count of the tally.
+#[derive(Clone, Copy, Debug, PartialEq, Eq)]
+struct Outcome {
+    wrong: Option<usize>,
+    lines: (usize, Option<u32>),
+    searches: u64,
+}
+
+/// What comes of the steps in a session on the drawing.
+fn told<R: Threads + Sync>(
+    rt: &R,
+    alloc: Global,
+    drawing: Drawing,
+    steps: &[Step],
+) -> Result<Outcome, SceneFault> {
+    let mut scene = Scene::new(alloc);
+    let drawn = draw(&mut scene, drawing);
+    let Ok(mut session) = Session::open(rt, alloc, scene, 2, &OpenGate) else {
+        return Err(SceneFault::Memory);
+    };
+    let wrong = wrong_step(rt, &mut session, steps);
+    let lines = lines(&session);
+    let searches = session.into_tally().count();
+    drawn?;
+    let Ok(lines) = lines else {
+        return Err(SceneFault::Memory);
+    };
+    Ok(Outcome {
+        wrong,
+        lines,
+        searches,
+    })
+}
+
+/// Edits that the small scene refuses, and why.
+const REFUSED_EDITS: &[Step] = &[
+    Step::Edit(Ask::Node(1, 0, 20_000), SceneFault::NodeExists { id: 1 }),
+    Step::Edit(Ask::Node(4, 0, -1), SceneFault::OutOfRange { word: 5 }),
+    Step::Edit(
+        Ask::Node(4, FAR, 20_000),
+        SceneFault::OutOfRange { word: 3 },
+    ),
+    Step::Edit(Ask::Move(4, 0), SceneFault::UnknownNode { id: 4 }),
+    Step::Edit(Ask::Move(1, FAR), SceneFault::OutOfRange { word: 3 }),
+    Step::Edit(Ask::Size(4, 0), SceneFault::UnknownNode { id: 4 }),
+    Step::Edit(Ask::Size(1, -1), SceneFault::OutOfRange { word: 3 }),
+    Step::Edit(Ask::Size(1, 0), SceneFault::PinOutside { place: 1 }),
+    Step::Edit(Ask::DropNode(4), SceneFault::UnknownNode { id: 4 }),
+    Step::Edit(Ask::DropNode(2), SceneFault::NodeInUse { edge: 1 }),
+    Step::Edit(Ask::Pin(4, 1, 0), SceneFault::UnknownNode { id: 4 }),
+    Step::Edit(Ask::Pin(1, 0, 0), SceneFault::OutOfRange { word: 3 }),
+    Step::Edit(Ask::Pin(1, 1, 10_001), SceneFault::PinOutside { place: 2 }),
+    Step::Edit(Ask::Unpin(4, 1), SceneFault::UnknownNode { id: 4 }),
+    Step::Edit(Ask::Unpin(1, 2), SceneFault::NoSuchPlace { place: 2 }),
+    Step::Edit(Ask::Unpin(1, 1), SceneFault::PinInUse { edge: 1 }),
+    Step::Edit(Ask::Edge(1, 4, 0), SceneFault::UnknownNode { id: 4 }),
+    Step::Edit(Ask::Edge(1, 1, 0), SceneFault::SameNode { id: 1 }),
+    Step::Edit(Ask::Edge(2, 1, 8), SceneFault::UnknownPinClass { class: 8 }),
+    Step::Edit(Ask::Cut(9), SceneFault::UnknownEdge { number: 9 }),
+    Step::Edit(Ask::Classes(9, 0), SceneFault::UnknownEdge { number: 9 }),
+    Step::Edit(Ask::Classes(1, 8), SceneFault::UnknownPinClass { class: 8 }),
+    Step::Edit(Ask::Via(9, 1, 0), SceneFault::UnknownEdge { number: 9 }),
+    Step::Edit(Ask::Via(1, 4, 0), SceneFault::NoSuchPlace { place: 4 }),
+    Step::Edit(Ask::Via(1, 1, FAR), SceneFault::OutOfRange { word: 4 }),
+    Step::Edit(Ask::Unvia(9, 1), SceneFault::UnknownEdge { number: 9 }),
+    Step::Edit(Ask::Unvia(1, 3), SceneFault::NoSuchPlace { place: 3 }),
+    Step::Edit(Ask::Penalty(-1), SceneFault::OutOfRange { word: 3 }),
+];
+
+/// Further than a scene reaches.
+const FAR: i64 = 2_000_000_000;
+
+/// Calls of which the last is refused, and why.
+const REFUSED_CALLS: &[Step] = &[
+    Step::Refused(&[Call::Edit(Ask::Move(2, 0))], SessionFault::NoTransaction),
+    Step::Refused(&[Call::Commit], SessionFault::NoTransaction),
+    Step::Refused(&[Call::Abort], SessionFault::NoTransaction),
+    Step::Refused(&[Call::Undo], SessionFault::NothingToUndo),
+    Step::Refused(&[Call::Redo], SessionFault::NothingToRedo),
+    Step::Refused(&[Call::Begin, Call::Begin], SessionFault::AlreadyOpen),
+    Step::Refused(&[Call::Begin, Call::Undo], SessionFault::AlreadyOpen),
+    Step::Refused(&[Call::Begin, Call::Redo], SessionFault::AlreadyOpen),
+    Step::Refused(
+        &[
+            Call::Begin,
+            Call::Edit(Ask::Edge(3, 2, 0)),
+            Call::Abort,
+            Call::Abort,
+        ],
+        SessionFault::NoTransaction,
+    ),
+];
+
+/// Calls that go back and forth.
+const PASSED: &[Step] = &[
+    Step::Made(&[], Wanted::Moved(100_000, 90_000, 1)),
+    Step::Made(
+        &[Call::Begin, Call::Edit(Ask::Move(2, 120_000)), Call::Commit],
+        Wanted::Moved(120_000, 110_000, 2),
+    ),
+    Step::Made(&[Call::Undo], Wanted::Moved(100_000, 90_000, 2)),
+    Step::Made(&[Call::Redo], Wanted::Moved(120_000, 110_000, 2)),
+    Step::Made(
+        &[Call::Begin, Call::Edit(Ask::Move(2, 0)), Call::Abort],
+        Wanted::Moved(120_000, 110_000, 2),
+    ),
+];
+
+/// What is open is given up, and where nothing is.
+const GIVEN_UP: &[Step] = &[
+    Step::Made(
+        &[
+            Call::Begin,
+            Call::Edit(Ask::Move(2, 120_000)),
+            Call::Edit(Ask::Edge(3, 2, 0)),
+            Call::GiveUp,
+        ],
+        Wanted::AsOpened,
+    ),
+    Step::Made(&[Call::GiveUp], Wanted::AsOpened),
+];
+
+/// Calls on the second box alone, and how many lines and crossings the graph was written after them.
+///
+/// The box has 8 lines: that of each side, through the whole sheet, and one outward from each port. They cross at its
+/// corners and at its ports, so there are 8 crossings. Where it goes east, the lines of its upper and its lower side
+/// stay; the other 6 are new, and so is each crossing.
+const WRITTEN: &[Step] = &[
+    Step::Made(&[], Wanted::Written(16)),
+    Step::Made(&EAST, Wanted::Written(30)),
+    Step::Made(&[Call::Begin, Call::Commit], Wanted::Written(30)),
+    Step::Made(&EAST, Wanted::Written(30)),
+    Step::Made(&[Call::Undo, Call::Undo], Wanted::Written(30)),
+    Step::Made(&[Call::Undo], Wanted::Written(44)),
+    Step::Made(&[Call::Redo], Wanted::Written(58)),
+];
+
+/// The second box goes east.
+const EAST: [Call; 3] = [Call::Begin, Call::Edit(Ask::Move(2, 100_000)), Call::Commit];
+
+/// Steps in a session on the drawing, and how many searches there are in all.
+#[derive(Clone, Copy)]
+struct Row {
+    name: &'static str,
+    drawing: Drawing,
+    steps: &'static [Step],
+    lines: (usize, Option<u32>),
+    searches: u64,
+}
+
+const ROWS: [Row; 5] = [
+    Row {
+        name: "edits that are refused",
+        drawing: Drawing::Small,
+        steps: REFUSED_EDITS,
+        lines: (1, Some(1)),
+        searches: 1,
+    },
+    Row {
+        name: "calls that are refused",
+        drawing: Drawing::Small,
+        steps: REFUSED_CALLS,
+        lines: (1, Some(1)),
+        searches: 1,
+    },
+    Row {
+        name: "back and forth",
+        drawing: Drawing::Small,
+        steps: PASSED,
+        lines: (1, Some(1)),
+        searches: 2,
+    },
+    Row {
+        name: "what is open is given up",
+        drawing: Drawing::Small,
+        steps: GIVEN_UP,
+        lines: (1, Some(1)),
+        searches: 1,
+    },
+    Row {
+        name: "new lines are written",
+        drawing: Drawing::OneBox,
+        steps: WRITTEN,
+        lines: (0, None),
+        searches: 0,
+    },
+];
+
+#[test]
+fn answers_calls(rt: HostRuntime) {
+    for row in ROWS {
+        let wanted = Outcome {
+            wrong: None,
+            lines: row.lines,
+            searches: row.searches,
+        };
+        let told = told(&rt, rt.alloc(), row.drawing, row.steps);
+        assert_eq!(rt; told, Ok(wanted), "{}", row.name);
+    }
+}
