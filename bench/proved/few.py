@@ -3,19 +3,23 @@
 
 A FLOOR is what the measuring program's `floor` prints. Of each the first 256 solids and the first 256 anchors are
 taken, which stand in the program as numbers; with `--floor` those of one FLOOR are printed for the plain program. Put
-what is printed into a copy of the repository as `crates/graph_bench/src/main.rt`, with the line `graph_bench:
-plane_geom small_floor sweep_lines line_arena visibility_graph` in `crates.txt`, and run `rt run` there.
+what is printed into a copy of the repository as `crates/graph_bench/src/main.rt`, and beside it `src/small.rt`,
+`specs/Small.antt`, `proofs/Sound.antt` and `proofs/small` of `floor_tests`, with `graph_bench` for `floor_tests` in
+them and in `specs/Lib.antt` and `proofs/Lib.antt`, which name those files alone. With the line `graph_bench: plane_geom
+sweep_lines line_arena visibility_graph` in `crates.txt` run `rt run` there.
 """
 import sys
 
 HEAD = '''//! Measures building graphs of floors of numbers: a program that is proved to be safe and to end.
 #![tactic(auto)]
 
-use small_floor::{Sides, small_floor};
+use crate::small::{Sides, small_floor};
 use std::io;
 use std::time::CpuClock;
 use sweep_lines::all_lines;
 use visibility_graph::Graph;
+
+mod small;
 '''
 BUILD = '''
 fn build(rt: &HostRuntime, rects: &[Sides], anchors: &[(i64, i64)]) -> io::Result<()> {

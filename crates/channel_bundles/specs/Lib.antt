@@ -5,4 +5,3 @@ pub mod Links
 pub mod Classes
 pub mod Bundles
 pub mod Placed
-pub mod Fixtures

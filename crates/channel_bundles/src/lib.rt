@@ -13,6 +13,3 @@ mod route;
 pub use channel::{RunBundle, bundles};
 pub use member::Member;
 pub use route::{PhaseRoute, RouteAnchors};
-
-#[cfg(test)]
-mod tests;

@@ -13,6 +13,3 @@ pub use exchange::{apply, revert};
 pub use hull::hull_of_difference;
 pub use laws::one_write_count;
 pub use repair::Repair;
-
-#[cfg(test)]
-mod tests;

@@ -9,6 +9,3 @@ mod tree;
 
 pub use index::IntervalIndex;
 pub use span::Span;
-
-#[cfg(test)]
-mod tests;

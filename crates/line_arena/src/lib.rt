@@ -15,6 +15,3 @@ mod room;
 pub use arena::LineArena;
 pub use id::{CrossId, LineId};
 pub use laws::crossings_of_floor;
-
-#[cfg(test)]
-mod tests;

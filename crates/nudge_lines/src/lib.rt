@@ -11,6 +11,3 @@ mod solutions;
 
 pub use nudging::{Nudged, nudge_routes};
 pub use phases::{Moved, phase};
-
-#[cfg(test)]
-mod tests;

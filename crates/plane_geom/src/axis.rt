@@ -166,24 +166,3 @@ impl Axis for YAxis {
         }
     }
 }
-
-#[cfg(test)]
-mod tests {
-    use super::*;
-
-    fn turned<A: Axis>(p: Point) -> Point {
-        A::point(A::along(p), A::across(p))
-    }
-
-    #[test]
-    fn each_axis_exchanges_the_coordinates(rt: HostRuntime) {
-        let p = Point { x: 3, y: -7 };
-        let turned_once = Point { x: -7, y: 3 };
-        assert_eq!(rt; turned::<XAxis>(p), turned_once);
-        assert_eq!(rt; turned::<YAxis>(p), turned_once);
-        assert_eq!(rt; XAxis::way(), Way::Vertical);
-        assert_eq!(rt; YAxis::way(), Way::Horizontal);
-        assert_eq!(rt; XAxis::across(p), 3);
-        assert_eq!(rt; YAxis::across(p), -7);
-    }
-}

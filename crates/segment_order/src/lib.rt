@@ -12,6 +12,3 @@ pub use order::{line_order, one_order, rays_stop};
 pub use ray::Entry;
 pub use run::{Run, runs_of};
 pub use side::Side;
-
-#[cfg(test)]
-mod tests;

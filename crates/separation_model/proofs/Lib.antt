@@ -4,4 +4,3 @@ pub mod Optimum
 pub mod Gaps
 pub mod Verifying
 pub mod Rounding
-pub mod Pairs

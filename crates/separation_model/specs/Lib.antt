@@ -8,4 +8,3 @@ pub mod Certified
 pub mod Rounded
 pub mod Latest
 pub mod Checked
-pub mod Small

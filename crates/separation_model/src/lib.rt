@@ -11,7 +11,6 @@ mod gap;
 mod latest;
 mod laws;
 mod position;
-mod small;
 
 pub use bundle::{Bundle, Item, MOST_ITEMS, Rule, Solution};
 pub use certificate::verify;
@@ -22,7 +21,3 @@ pub use laws::{
     certified_is_least, least_positions_exist, met_positions_are_on_sheet, most_items_is_the_bound,
     one_least, one_rounded, one_widest_gap, rounded_down_is_below, rounded_down_meets,
 };
-pub use small::{small_bundle, small_item, small_solution};
-
-#[cfg(test)]
-mod tests;

@@ -9,4 +9,3 @@ mod Starting
 mod Searches
 mod Blocks
 mod Ending
-mod Fixtures

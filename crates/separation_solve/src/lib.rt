@@ -22,6 +22,3 @@ pub use separation_model::{
     rounded_down_is_below, rounded_down_meets, verify, widest_gap,
 };
 pub use solver::solve;
-
-#[cfg(test)]
-mod tests;

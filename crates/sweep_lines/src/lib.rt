@@ -10,6 +10,3 @@ mod sweep;
 
 pub use near::is_near;
 pub use sweep::{all_lines, lines_at, lines_near, one_list_of_kept_lines};
-
-#[cfg(test)]
-mod tests;

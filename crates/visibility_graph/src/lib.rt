@@ -10,6 +10,3 @@ mod meeting;
 pub use fill::put_lines;
 pub use graph::{Graph, GraphParts};
 pub use meeting::crossings_of;
-
-#[cfg(test)]
-mod tests;

@@ -1,8 +1,0 @@
--- The goals of `row` that the check leaves.
-use Rattle.std.proofs.Common.{arith, rules}
-use Rattle.std.proofs.lemmas.Int.{ints}
-use Rattle.separation_solve.proofs.Fixtures.{row_is_bundle}
-use Rattle.separation_solve.proofs.tests.row.Goals as goal
-
-pub returns : goal.returns
-returns c = row_is_bundle _ c.args.item c.args.count (search rules) (search rules) c.requires.count c.requires.item (omega (arith, ints)) (omega (arith, ints))

@@ -1,2 +1,0 @@
--- That the floor is one which calls accept.
-pub mod Sound

@@ -1,2 +1,0 @@
--- A floor made of plain numbers.
-pub mod Small
