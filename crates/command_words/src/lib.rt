@@ -8,6 +8,3 @@ mod values;
 
 pub use form::Form;
 pub use read::read_words;
-
-#[cfg(test)]
-mod tests;

@@ -6,8 +6,6 @@
 mod forms;
 mod laws;
 mod script;
-#[cfg(test)]
-mod tests;
 mod values;
 
 pub use laws::{line_numbers_rise, scripts_have_directions};

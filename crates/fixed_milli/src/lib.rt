@@ -9,8 +9,6 @@ mod laws;
 mod milli;
 mod numeral;
 mod split;
-#[cfg(test)]
-mod tests;
 mod whole;
 
 pub use laws::{number_is_read, read_computes, read_once, rounded_is_nearest, written_is_read};

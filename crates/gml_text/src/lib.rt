@@ -36,6 +36,3 @@ pub use read::parse;
 pub use search::find;
 pub use tree::{Bytes, Doc, Pair, Value};
 pub use write::print;
-
-#[cfg(test)]
-mod tests;

@@ -13,8 +13,6 @@ mod mem_sink;
 mod note;
 mod sink;
 mod std_sink;
-#[cfg(test)]
-mod tests;
 
 pub use disk_folder::DiskFolder;
 pub use folder::{Folder, FolderFault};

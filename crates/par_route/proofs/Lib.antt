@@ -3,5 +3,3 @@ pub mod OneList
 pub mod Zips
 pub mod Cutting
 pub mod Joining
-pub mod Idle
-pub mod Connectors

@@ -9,6 +9,3 @@ mod watch;
 pub use gate::{Gate, OpenGate};
 pub use routes::{one_list, route_all};
 pub use watch::{CountGate, HoldGate};
-
-#[cfg(test)]
-mod tests;

@@ -19,6 +19,3 @@ pub use finding::{EdgeFinding, Finding, push_finding_lines};
 pub use refusal::Refusal;
 pub use reply::{LineReply, Reply, push_end_line, push_open_line, push_reply_lines};
 pub use routed::{EdgeRouted, Routed, push_routed_lines};
-
-#[cfg(test)]
-mod tests;

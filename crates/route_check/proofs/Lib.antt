@@ -13,4 +13,3 @@ pub mod Meetings
 pub mod Hits
 pub mod Judging
 pub mod Costs
-pub mod Fixtures

@@ -78,6 +78,3 @@ pub fn one_verdict()
     ensures { (solids : List Solid) (task : Task) (points : List Point) → IsTask task →
         HasOneVerdict solids task points }
 {}
-
-#[cfg(test)]
-mod tests;

@@ -21,4 +21,3 @@ pub mod Following
 pub mod Corners
 pub mod Stepping
 pub mod Entering
-pub mod Idle

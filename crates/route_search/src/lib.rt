@@ -11,6 +11,3 @@ mod tally;
 
 pub use finder::{Finder, find_first};
 pub use tally::Tally;
-
-#[cfg(test)]
-mod tests;

@@ -18,6 +18,3 @@ pub use problem::{DIRS, MOST_COST, MOST_RUNS, NOTHING, Problem};
 pub use queue::{Candidate, Queue};
 pub use stage::stage_at;
 pub use table::Table;
-
-#[cfg(test)]
-mod tests;

@@ -58,7 +58,3 @@ pub record IsTask (t : Task) : Type 0 where
   pub via : All PointIsOnSheet t.via
   pub few : length t.via ≤ 4
   pub penalty : t.penalty ≤ 10 ^ 9
-
--- a task without choices and checkpoints, whose bends cost nothing
-abbrev pub idle_task : Task
-idle_task = record { starts = []; ends = []; via = []; penalty = 0 }

@@ -1,5 +1,5 @@
 //! The order of routes.
-ghost use Rattle.std.specs.Prelude.{◌≡◌, ◌+◌, ◌+ℤ◌, ◌<◌, ◌^◌, ◌↔◌, List, All, IfOk, IsTrue, unsigned_abs};
+ghost use Rattle.std.specs.Prelude.{◌≡◌, ◌+◌, ◌+ℤ◌, ◌<◌, ◌^◌, ◌↔◌, List, IsTrue, unsigned_abs};
 ghost use Rattle.plane_geom.specs.declared.rect.Solid.{Solid};
 ghost use Rattle.walk_model.specs.Answers.{HasOneAnswer};
 ghost use Rattle.walk_model.specs.Cost.{runs};
@@ -118,42 +118,3 @@ pub fn some_route()
 pub fn one_answer()
     ensures { (solids : List Solid) (task : Task) → HasOneAnswer solids task }
 {}
-
-#[cfg(test)]
-mod tests {
-    use super::*;
-    use plane_geom::Points;
-    use std::alloc::{AllocError, Global};
-    use std::test::Fail;
-
-    const PIN: Point = Point { x: 0, y: 0 };
-
-    fn route(alloc: Global, end: u32, points: [Point; 3]) -> Result<Route, AllocError>
-        ensures { IfOk result (λ r. r.points ≡ points) }
-    {
-        Ok(Route {
-            start: 0,
-            end,
-            points: Points(Vec::from_slice(alloc, &points)?),
-            cost: 7,
-        })
-    }
-
-    #[test]
-    fn orders_routes_of_one_cost(rt: HostRuntime) -> Result<(), Fail> {
-        let alloc = rt.alloc();
-        let short = route(alloc, 1, [PIN, Point { x: 2, y: 0 }, Point { x: 2, y: 1 }])?;
-        let long = route(alloc, 0, [PIN, Point { x: 2, y: 0 }, Point { x: 2, y: 2 }])?;
-        let later = route(alloc, 0, [PIN, Point { x: 0, y: 2 }, Point { x: 2, y: 2 }])?;
-        let back = route(alloc, 0, [PIN, Point { x: 2, y: 0 }, Point { x: 1, y: 0 }])?;
-        // A list of steps that begins another stands first, whatever the end choices are.
-        assert_eq!(rt; compare_routes(&short, &long), Ordering::Less);
-        // Both have two runs and the lean 2, and East comes before South.
-        assert_eq!(rt; compare_routes(&long, &later), Ordering::Less);
-        // The lower lean stands first.
-        assert_eq!(rt; compare_routes(&long, &back), Ordering::Greater);
-        assert_eq!(rt; compare_routes(&back, &back), Ordering::Equal);
-        assert_eq!(rt; run_count(back.points.as_slice()), 2);
-        Ok(())
-    }
-}

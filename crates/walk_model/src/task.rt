@@ -61,20 +61,6 @@ pub struct Task {
 }
 
 impl Task {
-    ghost use Rattle.walk_model.specs.Legal.{idle_task};
-
-    /// A task without choices and checkpoints, which no walk fulfils: for tests of what searches tasks.
-    pub fn idle(alloc: Global) -> Task
-        ensures { result ≡ idle_task }
-    {
-        Task {
-            starts: Choices(Vec::new(alloc)),
-            ends: Choices(Vec::new(alloc)),
-            via: Points(Vec::new(alloc)),
-            penalty: 0,
-        }
-    }
-
     /// The same task once more. Its only error is want of memory.
     pub fn copy(&self, alloc: Global) -> Result<Task, AllocError>
         ensures { IfOk result (λ t. t ≡ self.now) }
