@@ -14,6 +14,3 @@ mod shapes;
 
 pub use book::{Book, Changes};
 pub use laws::current_answers_stay;
-
-#[cfg(test)]
-mod tests;
