@@ -10,6 +10,3 @@ mod raw;
 pub use laws::one_nudged_scene;
 pub use nudge_lines::Nudged;
 pub use nudging::nudge;
-
-#[cfg(test)]
-mod tests;

@@ -10,6 +10,3 @@ mod session;
 pub use history_laws::{commits_are_given_back, sessions_are_worlds};
 pub use scene_model::SessionFault;
 pub use session::Session;
-
-#[cfg(test)]
-mod tests;
