@@ -1,6 +1,6 @@
 //! The replay of what is made from a number.
 ghost use Rattle.std.specs.Prelude.{◌≡◌, IfOk, string_bytes};
-ghost use Rattle.made_replay.specs.Makes.{Makes, numbered_from};
+ghost use Rattle.made_replay.specs.Makes.{Makes, made_script, numbered_from};
 
 use crate::sums::summed;
 use made_input::{made_commands, made_scene};
@@ -31,6 +31,14 @@ fn numbered(alloc: Global, commands: &[Command]) -> Result<Vec<(usize, Command)>
     Ok(numbered)
 }
 
+/// The commands that are made from the seed, with numbers from 1 on. Its only error is want of memory.
+fn script(alloc: Global, seed: u64) -> Result<Vec<(usize, Command)>, AllocError>
+    ensures { IfOk result (λ r. r.items ≡ made_script seed) }
+{
+    let commands = made_commands(alloc, seed)?;
+    numbered(alloc, &commands)
+}
+
 /// Makes a scene and commands from the seed, replays the commands on the scene by one worker, and sums up the routes
 /// at the end. The only error is want of memory.
 pub fn make<R: Threads + Sync, G: Gate>(
@@ -41,16 +49,15 @@ pub fn make<R: Threads + Sync, G: Gate>(
 ) -> Result<Made, AllocError>
     ensures { IfOk result (λ m. Makes seed (string_bytes m.text) m.tally) }
 {
+    let script = script(alloc, seed)?;
     let scene = made_scene(alloc, seed)?;
-    let script = numbered(alloc, &made_commands(alloc, seed)?)?;
     let session = replay(rt, alloc, scene, &script, 1, gate)?.session;
     let summary = summed(
         session.scene(),
         session.book().answers(),
         session.searched(),
     );
-    Ok(Made {
-        text: summary.text(alloc)?,
-        tally: session.into_tally(),
-    })
+    let tally = session.into_tally();
+    let text = summary.text(alloc)?;
+    Ok(Made { text, tally })
 }

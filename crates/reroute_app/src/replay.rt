@@ -11,13 +11,15 @@ ghost use Rattle.reroute_app.specs.Run.{IsFormOutcome};
 ghost use Rattle.reroute_app.specs.View.{Comes, HasCommands, NotesOne, NotesTwo, StopsAt, never};
 
 use crate::outcome::{Outcome, Stop};
-use crate::read::{Diagram, read_diagram, read_script};
+use crate::read::{read_diagram, read_script};
 use crate::status::Status;
 use edit_script::commands;
+use gml_text::Doc;
 use host_edge::Folder;
 use par_route::Gate;
 use route_report::{Options, Routing, route};
 use scene_model::Command;
+use scene_store::Scene;
 use std::alloc::Global;
 use std::thread::Threads;
 
@@ -49,11 +51,12 @@ fn read_commands<F: Folder>(
     Ok(commands(alloc, &bytes)?)
 }
 
-/// What a replay of the commands on the diagram says.
+/// What a replay of the commands on the document with this scene says.
 fn replay_diagram<R: Threads + Sync, G: Gate>(
     rt: &R,
     alloc: Global,
-    diagram: Diagram,
+    doc: &Doc,
+    scene: Scene,
     commands: &[(usize, Command)],
     options: Options,
     gate: &G,
@@ -62,12 +65,11 @@ fn replay_diagram<R: Threads + Sync, G: Gate>(
     requires few_workers { options.workers ≤ 4 }
     requires few { length commands.now < 2 ^ 32 }
     requires directed { AreDirected commands.now }
-    requires source { scene_of (tree diagram.doc) ≡ Ok diagram.scene }
-    requires printable { IsPrintable (tree diagram.doc) }
-    ensures { Comes (Replays (tree diagram.doc) diagram.scene commands.now options.count) result }
+    requires source { scene_of (tree doc.now) ≡ Ok scene }
+    requires printable { IsPrintable (tree doc.now) }
+    ensures { Comes (Replays (tree doc.now) scene commands.now options.count) result }
 {
-    let Diagram { doc, scene } = diagram;
-    let routed = route(rt, alloc, &doc, scene, commands, options, gate)?;
+    let routed = route(rt, alloc, doc, scene, commands, options, gate)?;
     let Routing {
         text,
         is_refused,
@@ -99,5 +101,5 @@ pub(crate) fn replay_files<R: Threads + Sync, F: Folder, G: Gate>(
 {
     let read = read_diagram(alloc, folder, diagram)?;
     let commands = read_commands(alloc, folder, script)?;
-    replay_diagram(rt, alloc, read, &commands, options, gate)
+    replay_diagram(rt, alloc, &read.doc, read.scene, &commands, options, gate)
 }

@@ -52,9 +52,16 @@ pub fn replay<R: Threads + Sync, G: Gate>(
     // That the scene has few connectors.
     let _settings = scene.settings();
     let mut session = Session::open(rt, alloc, scene, workers, gate)?;
-    let replies = replies_to(rt, alloc, &mut session, commands, workers, gate)?;
-    session.right();
-    Ok(Replayed { session, replies })
+    match replies_to(rt, alloc, &mut session, commands, workers, gate) {
+        Ok(replies) => {
+            session.right();
+            Ok(Replayed { session, replies })
+        }
+        Err(AllocError) => {
+            let _tally = session.into_tally();
+            Err(AllocError)
+        }
+    }
 }
 
 /// Does the commands one after another, and gathers the reply to each with the number of its line.

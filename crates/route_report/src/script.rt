@@ -5,13 +5,14 @@ ghost use Rattle.gml_text.specs.View.{tree};
 ghost use Rattle.gml_scene.specs.Origins.{AreEdgesOf, AreNodesOf};
 ghost use Rattle.diagram_read.specs.Scene.{scene_of};
 ghost use Rattle.route_replay.specs.Replies.{AreDirected};
-ghost use Rattle.route_report.specs.Diagram.{IsDiagram};
+ghost use Rattle.route_report.specs.Diagram.{IsDiagram, IsOutput};
 ghost use Rattle.route_report.specs.Routes.{Routes};
 
 use crate::report::{connector_count, has_refusal, report};
 use gml_scene::put_routes;
 use gml_text::{Doc, print};
 use par_route::Gate;
+use report_text::LineReply;
 use route_replay::{replay, replays_keep_origins};
 use route_search::Tally;
 use route_session::Session;
@@ -64,20 +65,44 @@ pub fn route<R: Threads + Sync, G: Gate>(
     let opening = connector_count(&scene);
     let replayed = replay(rt, alloc, scene, commands, options.workers, gate)?;
     replays_keep_origins();
-    let mut text = report(
+    let written = output(
         alloc,
+        doc,
         options.count,
         opening,
         &replayed.replies,
         &replayed.session,
-    )?;
-    let diagram = printed_diagram(alloc, doc, &replayed.session)?;
-    text.extend_from_slice(&diagram)?;
+    );
+    let is_refused = has_refusal(&replayed.replies, &replayed.session);
+    let tally = replayed.session.into_tally();
+    let text = written?;
     Ok(Routing {
         text,
-        is_refused: has_refusal(&replayed.replies, &replayed.session),
-        tally: replayed.session.into_tally(),
+        is_refused,
+        tally,
     })
+}
+
+/// The report on a script whose opening searched so many connectors, with these replies, which left the session; and
+/// behind it the printed document of the session's present scene.
+fn output(
+    alloc: Global,
+    doc: &Doc,
+    count: bool,
+    opening: u64,
+    replies: &[LineReply],
+    session: &Session,
+) -> Result<Vec<u8>, AllocError>
+    requires source { IsOk (scene_of (tree doc.now)) }
+    requires nodes { IfOk (scene_of (tree doc.now)) (λ was. AreNodesOf was session.now.world.present) }
+    requires edges { IfOk (scene_of (tree doc.now)) (λ was. AreEdgesOf was session.now.world.present) }
+    requires printable { IsPrintable (tree doc.now) }
+    ensures { IfOk result (λ text. IfOk (scene_of (tree doc.now)) (λ was. IsOutput (tree doc.now) was count opening replies.now session.now.world session.now.book text.items)) }
+{
+    let mut text = report(alloc, count, opening, replies, session)?;
+    let diagram = printed_diagram(alloc, doc, session)?;
+    text.extend_from_slice(&diagram)?;
+    Ok(text)
 }
 
 /// The printed document of the session's present scene, with its nudged lines.

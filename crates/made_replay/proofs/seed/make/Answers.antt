@@ -1,18 +1,13 @@
 -- The script is the one that is made from the seed.
-use Rattle.std.proofs.Common.{◌<◌, ◌^◌, length, sym, ap, subst, ◌∙◌}
+use Rattle.std.proofs.Common.{◌<◌, ◌^◌, length, sym, subst, ◌∙◌}
 use Rattle.route_replay.specs.Replies.{AreDirected}
-use Rattle.made_replay.specs.Makes.{numbered_from}
 use Rattle.made_replay.proofs.Script.{script_directed, script_short}
 use Rattle.made_replay.proofs.seed.make.Goals as goal
 
 pub replay-requires-clause-few : goal.replay-requires-clause-few
 replay-requires-clause-few g c κs within =
-    subst (λ script. length script < 2 ^ 32)
-    (sym (c.deref-2.ensures.value ∙ c.in_ok-script.ensures ∙ ap (numbered_from 1) (c.deref.ensures.value ∙ c.in_ok-made_commands.ensures)))
-    (script_short c.args.seed)
+    subst (λ script. length script < 2 ^ 32) (sym (c.deref.ensures.value ∙ c.in_ok-script.ensures)) (script_short c.args.seed)
 
 pub replay-requires-clause-directed : goal.replay-requires-clause-directed
 replay-requires-clause-directed g c κs within =
-    subst AreDirected
-    (sym (c.deref-2.ensures.value ∙ c.in_ok-script.ensures ∙ ap (numbered_from 1) (c.deref.ensures.value ∙ c.in_ok-made_commands.ensures)))
-    (script_directed c.args.seed)
+    subst AreDirected (sym (c.deref.ensures.value ∙ c.in_ok-script.ensures)) (script_directed c.args.seed)
