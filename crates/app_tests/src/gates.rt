@@ -1,0 +1,86 @@
+//! Gates that count the pieces of searches that pass, or hold one until the next has passed; and runs by them.
+
+use crate::rows;
+use crate::runs::{Row, route_row, run_row_gated};
+use par_route::Gate;
+use reroute_app::Status;
+use std::sync::atomic::{AtomicBool, AtomicU32, Ordering};
+use std::test::Fail;
+
+/// Counts the pieces that pass, and adds up their numbers.
+#[derive(Drop)]
+struct Counts {
+    pieces: AtomicU32,
+    numbers: AtomicU32,
+}
+
+impl Gate for Counts {
+    fn pass(&self, piece: u32) {
+        self.pieces.fetch_add(1, Ordering::SeqCst);
+        self.numbers.fetch_add(piece, Ordering::SeqCst);
+    }
+}
+
+/// For how many turns piece 1 is held at most.
+const MOST_TURNS: u32 = 100_000_000;
+
+/// Holds piece 1 until piece 2 has passed.
+#[derive(Drop)]
+struct Holds {
+    second: AtomicBool,
+    seen: AtomicBool,
+}
+
+impl Gate for Holds {
+    fn pass(&self, piece: u32) {
+        if piece == 2 {
+            self.second.store(true, Ordering::SeqCst);
+        }
+        if piece == 1 {
+            for _ in 0..MOST_TURNS {
+                if self.second.load(Ordering::SeqCst) {
+                    self.seen.store(true, Ordering::SeqCst);
+                    return;
+                }
+            }
+        }
+    }
+}
+
+#[test]
+fn counts_searches(rt: HostRuntime) -> Result<(), Fail> {
+    let gate = Counts {
+        pieces: AtomicU32::new(0),
+        numbers: AtomicU32::new(0),
+    };
+    let row = Row {
+        words: "route|d.gml|s.txt|--count",
+        ..route_row("graph [ ]", rows::UNDONE, Status::Done, rows::UNDONE_OUT)
+    };
+    let searched = run_row_gated(&rt, rt.alloc(), &row, Some(&gate))?;
+    assert_eq!(rt; searched, 2);
+    assert_eq!(rt; gate.pieces.load(Ordering::SeqCst), 2);
+    assert_eq!(rt; gate.numbers.load(Ordering::SeqCst), 2);
+    Ok(())
+}
+
+#[test]
+fn routes_side_by_side(rt: HostRuntime) -> Result<(), Fail> {
+    let gate = Holds {
+        second: AtomicBool::new(false),
+        seen: AtomicBool::new(false),
+    };
+    let row = Row {
+        words: "route|--workers|2|d.gml|s.txt",
+        ..route_row(
+            "graph [ ]",
+            rows::PARALLEL,
+            Status::Done,
+            rows::PARALLEL_OUT,
+        )
+    };
+    let searched = run_row_gated(&rt, rt.alloc(), &row, Some(&gate))?;
+    assert!(rt; gate.seen.load(Ordering::SeqCst));
+    assert_eq!(rt; searched, 2);
+    Ok(())
+}

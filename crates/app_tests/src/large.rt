@@ -1,0 +1,226 @@
+//! Diagrams of as many boxes and edges as there may be, and a long script, with all that `route` must write for them.
+
+use crate::runs::{Row, run_row, whole_row};
+use reroute_app::Status;
+use std::alloc::{AllocError, Global};
+use std::process::Abort;
+use std::test::Fail;
+use std::thread::Threads;
+
+/// Groups of four boxes, one group below the other, with 512 edges in all. From the first box of a group to the second
+/// lead so many equal edges, and the third stands between the two.
+#[derive(Clone, Copy)]
+struct Groups {
+    count: u16,
+    edges: u16,
+    /// Whether the third box of the first group stands aside at the end.
+    is_moved: bool,
+}
+
+/// The boxes of a group, each by its place and where it stands.
+const BOXES: [(u16, u16); 4] = [(1, 0), (2, 100), (3, 50), (4, 300)];
+
+/// The number of a box, by its group and its place there.
+fn number(group: u16, place: u16) -> u32 {
+    4 * u32::from(group) + u32::from(place)
+}
+
+fn push_group(file: &mut String, group: u16) -> Result<(), AllocError> {
+    for (place, x) in BOXES {
+        let y = 1000 * u32::from(group);
+        write!(
+            file,
+            " node [ id {} graphics [ x {x} y {y} w 20 h 20 ] ]",
+            number(group, place)
+        )?;
+    }
+    Ok(())
+}
+
+fn push_edges(file: &mut String, group: u16, edges: u16) -> Result<(), AllocError> {
+    for _ in 0..edges {
+        write!(
+            file,
+            " edge [ source {} target {} ]",
+            number(group, 1),
+            number(group, 2)
+        )?;
+    }
+    Ok(())
+}
+
+fn diagram(alloc: Global, groups: Groups) -> Result<String, AllocError> {
+    let mut file = String::from_str(alloc, "graph [")?;
+    for group in 0..groups.count {
+        push_group(&mut file, group)?;
+    }
+    for group in 0..groups.count {
+        push_edges(&mut file, group, groups.edges)?;
+    }
+    file.push_str(" ]")?;
+    Ok(file)
+}
+
+/// The costs of the edges, which are straight only where nothing stands between the boxes of their group.
+fn push_costs(output: &mut String, groups: Groups) -> Result<(), AllocError> {
+    for edge in 1..513u32 {
+        let is_straight = groups.is_moved && edge <= u32::from(groups.edges);
+        let cost = if is_straight { 100 } else { 228 };
+        write!(output, "# edge {edge}: cost {cost}.000\n")?;
+    }
+    Ok(())
+}
+
+fn push_boxes(output: &mut String, groups: Groups, group: u16) -> Result<(), AllocError> {
+    for (place, x) in BOXES {
+        let id = number(group, place);
+        write!(
+            output,
+            "  node [\n    id {id}\n    graphics [\n      x {x}\n"
+        )?;
+        if id == 3 && groups.is_moved {
+            output.push_str("      y 500.000\n")?;
+        } else {
+            write!(output, "      y {}\n", 1000 * u32::from(group))?;
+        }
+        output.push_str("      w 20\n      h 20\n    ]\n  ]\n")?;
+    }
+    Ok(())
+}
+
+fn push_point(output: &mut String, x: u16, y: i32) -> Result<(), AllocError> {
+    write!(
+        output,
+        "        point [\n          x {x}.000\n          y {y}.000\n        ]\n"
+    )
+}
+
+/// The lines of the edges of a group: they lie 4 apart, and the last at the middle box's side.
+fn push_lines(output: &mut String, groups: Groups, group: u16) -> Result<(), AllocError> {
+    let y = 1000 * i32::from(group);
+    for behind in (0..groups.edges).rev() {
+        let (from, to) = (number(group, 1), number(group, 2));
+        write!(
+            output,
+            "  edge [\n    source {from}\n    target {to}\n    graphics [\n      Line [\n"
+        )?;
+        push_point(output, 0, y)?;
+        if group > 0 || !groups.is_moved {
+            push_point(output, 0, y - 14 - 4 * i32::from(behind))?;
+            push_point(output, 100, y - 14 - 4 * i32::from(behind))?;
+        }
+        push_point(output, 100, y)?;
+        output.push_str("      ]\n    ]\n  ]\n")?;
+    }
+    Ok(())
+}
+
+/// The report, whose first lines are these, and the diagram.
+fn output(alloc: Global, groups: Groups, searches: &str) -> Result<String, AllocError> {
+    let mut output = String::from_str(alloc, searches)?;
+    push_costs(&mut output, groups)?;
+    output.push_str("graph [\n")?;
+    for group in 0..groups.count {
+        push_boxes(&mut output, groups, group)?;
+    }
+    for group in 0..groups.count {
+        push_lines(&mut output, groups, group)?;
+    }
+    output.push_str("]\n")?;
+    Ok(output)
+}
+
+/// A script on groups, and the lines on its searches.
+#[derive(Clone, Copy)]
+struct Case<'a> {
+    groups: Groups,
+    script: &'a str,
+    searches: &'a str,
+}
+
+/// Runs `route` of the script on this diagram, which must leave this output.
+fn run_case(
+    rt: &(impl Abort + Threads + Sync),
+    alloc: Global,
+    case: &Case,
+    diagram: &str,
+) -> Result<(), Fail> {
+    let output = output(alloc, case.groups, case.searches)?;
+    let row = Row {
+        diagram: diagram.as_bytes(),
+        script: case.script.as_bytes(),
+        ..whole_row(
+            "route|--workers|4|d.gml|s.txt|--count",
+            Status::Done,
+            output.as_str(),
+        )
+    };
+    run_row(rt, alloc, &row)?;
+    Ok(())
+}
+
+/// 256 boxes and 512 edges, of which eight lead round a box that moves.
+const MANY_BOXES: Case = Case {
+    groups: Groups {
+        count: 64,
+        edges: 8,
+        is_moved: true,
+    },
+    script: "begin, move 3 50 500, commit, begin, move 3 50 0, commit, undo, redo, undo",
+    searches: "# open: searched 512\n# line 3: searched 8\n# line 6: searched 8\n# line 7: searched 0\n\
+        # line 8: searched 0\n# line 9: searched 0\n",
+};
+
+/// 512 edges round one box, which moves.
+const MANY_EDGES: Case = Case {
+    groups: Groups {
+        count: 1,
+        edges: 512,
+        is_moved: false,
+    },
+    script: "begin, move 3 50 500, commit, begin, move 3 50 0, commit, undo, redo",
+    searches: "# open: searched 512\n# line 3: searched 512\n# line 6: searched 512\n# line 7: searched 0\n\
+        # line 8: searched 0\n",
+};
+
+#[test]
+fn routes_many_boxes(rt: HostRuntime) -> Result<(), Fail> {
+    let diagram = diagram(rt.alloc(), MANY_BOXES.groups)?;
+    run_case(&rt, rt.alloc(), &MANY_BOXES, diagram.as_str())
+}
+
+#[test]
+fn routes_many_edges(rt: HostRuntime) -> Result<(), Fail> {
+    let diagram = diagram(rt.alloc(), MANY_EDGES.groups)?;
+    run_case(&rt, rt.alloc(), &MANY_EDGES, diagram.as_str())
+}
+
+fn long_script(alloc: Global) -> Result<String, AllocError> {
+    let mut script = String::new(alloc);
+    for _ in 1..10_001u32 {
+        script.push_str("# skipped, undo, ")?;
+    }
+    Ok(script)
+}
+
+fn long_output(alloc: Global) -> Result<String, AllocError> {
+    let mut output = String::new(alloc);
+    for pair in 1..10_001u32 {
+        write!(output, "# line {}: X14 NothingToUndo\n", 2 * pair)?;
+    }
+    output.push_str("graph [\n]\n")?;
+    Ok(output)
+}
+
+/// Of 20,000 lines every other one is skipped, and the rest are refused.
+#[test]
+fn replays_a_long_script(rt: HostRuntime) -> Result<(), Fail> {
+    let script = long_script(rt.alloc())?;
+    let output = long_output(rt.alloc())?;
+    let row = Row {
+        script: script.as_bytes(),
+        ..whole_row("route|d.gml|s.txt", Status::Refused, output.as_str())
+    };
+    run_row(&rt, rt.alloc(), &row)?;
+    Ok(())
+}

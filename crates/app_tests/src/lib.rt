@@ -1,0 +1,27 @@
+//! Tests of the replays, the reports and the program's runs: their rows, asked through public calls alone.
+#![tactic(auto)]
+
+#[cfg(test)]
+mod checks;
+#[cfg(test)]
+mod diagrams;
+#[cfg(test)]
+mod faults;
+#[cfg(test)]
+mod gates;
+#[cfg(test)]
+mod large;
+#[cfg(test)]
+mod outputs;
+#[cfg(test)]
+mod replies;
+#[cfg(test)]
+mod routes;
+#[cfg(test)]
+mod rows;
+#[cfg(test)]
+mod runs;
+#[cfg(test)]
+mod seeds;
+#[cfg(test)]
+mod texts;

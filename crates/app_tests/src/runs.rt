@@ -1,0 +1,171 @@
+//! One run of the program on files in memory: a row has all that it is given, and what it must leave.
+
+use crate::texts::{lines_of, spaced};
+use host_edge::{MemFolder, MemSink, NamedFile};
+use par_route::{Gate, OpenGate};
+use reroute_app::{Status, run, run_gated};
+use route_search::Tally;
+use std::alloc::{AllocError, Global};
+use std::process::Abort;
+use std::test::Fail;
+use std::thread::Threads;
+
+/// What a sink must hold at the end.
+#[derive(Clone, Copy)]
+pub(crate) enum Wanted<'a> {
+    /// These bytes.
+    Bytes(&'a str),
+    /// These words, whatever parts them.
+    Words(&'a str),
+}
+
+/// What a run is given, and what it must leave.
+#[derive(Clone, Copy)]
+pub(crate) struct Row<'a> {
+    /// The words, parted by bars.
+    pub(crate) words: &'a str,
+    /// The file `d.gml`.
+    pub(crate) diagram: &'a [u8],
+    /// The lines of the file `s.txt`, parted by commas.
+    pub(crate) script: &'a [u8],
+    /// The number of the read that fails, or 0.
+    pub(crate) failing_read: u64,
+    /// How many bytes the sink takes at most in a call.
+    pub(crate) most: usize,
+    /// The number of the write that fails, or 0.
+    pub(crate) failing_write: u64,
+    pub(crate) status: Status,
+    pub(crate) wanted: Wanted<'a>,
+}
+
+/// A run with these words on an empty diagram, which must end so and leave these bytes.
+pub(crate) fn whole_row<'a>(words: &'a str, status: Status, output: &'a str) -> Row<'a> {
+    Row {
+        words,
+        diagram: b"graph [ ]",
+        script: b"",
+        failing_read: 0,
+        most: usize::MAX,
+        failing_write: 0,
+        status,
+        wanted: Wanted::Bytes(output),
+    }
+}
+
+/// A run of `route`, which must leave these words.
+pub(crate) fn route_row<'a>(
+    diagram: &'a str,
+    script: &'a str,
+    status: Status,
+    output: &'a str,
+) -> Row<'a> {
+    Row {
+        diagram: diagram.as_bytes(),
+        script: script.as_bytes(),
+        wanted: Wanted::Words(output),
+        ..whole_row("route|d.gml|s.txt", status, "")
+    }
+}
+
+fn owned(alloc: Global, words: &str) -> Result<Vec<String>, AllocError> {
+    let mut all = Vec::new(alloc);
+    for word in words.split('|') {
+        all.push(String::from_str(alloc, word)?)?;
+    }
+    Ok(all)
+}
+
+fn named(alloc: Global, name: &str, bytes: &[u8]) -> Result<NamedFile, AllocError> {
+    let bytes = Vec::from_slice(alloc, bytes)?;
+    let name = String::from_str(alloc, name)?;
+    Ok(NamedFile { name, bytes })
+}
+
+fn files(alloc: Global, row: &Row, script: &[u8]) -> Result<Vec<NamedFile>, AllocError> {
+    let diagram = named(alloc, "d.gml", row.diagram)?;
+    let script = named(alloc, "s.txt", script)?;
+    Ok(vec![in alloc; diagram, script]?)
+}
+
+fn folder(alloc: Global, row: &Row) -> Result<MemFolder, AllocError> {
+    let script = lines_of(alloc, row.script)?;
+    let fails = Vec::from_slice(alloc, &[row.failing_read])?;
+    let files = files(alloc, row, &script)?;
+    Ok(MemFolder::new(alloc, files, fails))
+}
+
+fn sink(alloc: Global, row: &Row) -> Result<MemSink, AllocError> {
+    let fails = Vec::from_slice(alloc, &[row.failing_write])?;
+    Ok(MemSink::new(alloc, row.most.max(1), fails))
+}
+
+/// Compares what a run left with what the row says.
+fn judge(
+    rt: &impl Abort,
+    alloc: Global,
+    row: &Row,
+    status: Status,
+    held: &[u8],
+) -> Result<(), Fail> {
+    match row.wanted {
+        Wanted::Bytes(bytes) => assert_eq!(rt; held, bytes.as_bytes(), "{}", row.words),
+        Wanted::Words(words) => {
+            let held = spaced(alloc, held)?;
+            let wanted = spaced(alloc, words.as_bytes())?;
+            assert_eq!(rt; held.as_slice(), wanted.as_slice(), "{}", row.words);
+        }
+    }
+    assert_eq!(rt; status, row.status, "{}", row.words);
+    Ok(())
+}
+
+fn run_into_sink<G: Gate>(
+    rt: &(impl Abort + Threads + Sync),
+    alloc: Global,
+    row: &Row,
+    gate: Option<&G>,
+    words: &[String],
+    folder: &mut MemFolder,
+    tally: &mut Tally,
+) -> Result<(), Fail> {
+    let mut sink = sink(alloc, row)?;
+    let status = match gate {
+        Some(gate) => run_gated(rt, alloc, words, folder, &mut sink, gate, tally),
+        None => run(rt, alloc, words, folder, &mut sink, tally),
+    };
+    judge(rt, alloc, row, status, sink.held())
+}
+
+fn run_in_folder<G: Gate>(
+    rt: &(impl Abort + Threads + Sync),
+    alloc: Global,
+    row: &Row,
+    gate: Option<&G>,
+    words: &[String],
+    tally: &mut Tally,
+) -> Result<(), Fail> {
+    let mut folder = folder(alloc, row)?;
+    run_into_sink(rt, alloc, row, gate, words, &mut folder, tally)
+}
+
+/// Does the row by this gate, or by none. It answers how many searches were made.
+pub(crate) fn run_row_gated<G: Gate>(
+    rt: &(impl Abort + Threads + Sync),
+    alloc: Global,
+    row: &Row,
+    gate: Option<&G>,
+) -> Result<u64, Fail> {
+    let words = owned(alloc, row.words)?;
+    let mut tally = Tally::new();
+    let judged = run_in_folder(rt, alloc, row, gate, &words, &mut tally);
+    judged.map(|_| tally.count())
+}
+
+/// Does the row.
+pub(crate) fn run_row(
+    rt: &(impl Abort + Threads + Sync),
+    alloc: Global,
+    row: &Row,
+) -> Result<u64, Fail> {
+    run_row_gated::<OpenGate>(rt, alloc, row, None)
+}
