@@ -1,9 +1,9 @@
 -- What comes of a script is its report and the diagram behind it.
-use Rattle.std.proofs.Common.{ap, ◌∙◌, subst}
-use Rattle.report_text.specs.declared.reply.LineReply.{LineReply}
-use Rattle.std.specs.Prelude.{List, IfOk}
+use Rattle.std.proofs.Common.{List, ap, subst, ◌∙◌}
+use Rattle.std.specs.Prelude.{IfOk}
 use Rattle.gml_text.specs.View.{tree}
 use Rattle.diagram_read.specs.Scene.{scene_of}
+use Rattle.report_text.specs.declared.reply.LineReply.{LineReply}
 use Rattle.gml_scene.specs.Origins.{AreEdgesOf, AreNodesOf}
 use Rattle.route_replay.specs.Replies.{world_after}
 use Rattle.route_report.specs.Diagram.{IsOutput}
@@ -11,15 +11,15 @@ use Rattle.route_report.specs.Report.{has_refusal}
 use Rattle.route_report.proofs.Made.{made, of_ok, so_of}
 use Rattle.route_report.proofs.script.route.Goals as goal
 
-pub output-requires-clause-nodes : goal.output-requires-clause-nodes
-output-requires-clause-nodes g c =
+pub output-written-requires-clause-nodes : goal.output-written-requires-clause-nodes
+output-written-requires-clause-nodes g c =
     let s = c.args.scene in
     let commands = c.args.commands.now in
     so_of AreNodesOf (scene_of (tree c.args.doc.now)) s c.in_ok-replayed.replayed.session.world (world_after s commands) c.requires.source c.in_ok-replayed.ensures.world
     (c.replays_keep_origins.ensures.nodes s commands c.connector_count-opening.ensures.valid c.requires.directed)
 
-pub output-requires-clause-edges : goal.output-requires-clause-edges
-output-requires-clause-edges g c =
+pub output-written-requires-clause-edges : goal.output-written-requires-clause-edges
+output-written-requires-clause-edges g c =
     let s = c.args.scene in
     let commands = c.args.commands.now in
     so_of AreEdgesOf (scene_of (tree c.args.doc.now)) s c.in_ok-replayed.replayed.session.world (world_after s commands) c.requires.source c.in_ok-replayed.ensures.world
