@@ -7,6 +7,3 @@ mod sums;
 
 pub use laws::seeds_come_to_one;
 pub use seed::{Made, make};
-
-#[cfg(test)]
-mod tests;

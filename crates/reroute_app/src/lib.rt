@@ -158,6 +158,3 @@ pub fn one_outcome()
     replays_come_to_one();
     seeds_come_to_one();
 }
-
-#[cfg(test)]
-mod tests;

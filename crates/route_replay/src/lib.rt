@@ -6,6 +6,3 @@ mod script;
 
 pub use laws::{one_list_of_replies, replays_keep_origins};
 pub use script::{Replayed, replay};
-
-#[cfg(test)]
-mod tests;

@@ -7,6 +7,3 @@ mod script;
 
 pub use laws::replays_come_to_one;
 pub use script::{Options, Routing, route};
-
-#[cfg(test)]
-mod tests;
