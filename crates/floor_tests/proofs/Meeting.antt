@@ -9,7 +9,7 @@ use Rattle.plane_geom.specs.declared.floor.Line.{Line}
 use Rattle.plane_geom.specs.Along.{along}
 use Rattle.plane_geom.specs.Floor.{AreOnOneWholeLine, Holds, point_on}
 use Rattle.line_arena.specs.Arena.{Arena, Meet, StandsAt}
-use Rattle.floor_tests.specs.Lines.{Cross, Overlap}
+use Rattle.floor_tests.specs.Lines.{Cross, Overlap, point_of}
 
 -- where a line of this way has the point
 point_along : (w : Way) (at z : ℤ) → along w (point_on w at z) ≡ z
@@ -36,9 +36,6 @@ overlap l m p whole on_l on_m =
 
 holds : (l : Line) (w : Way) (p : Point) (z : ℤ) → l.way ≡ w → p ≡ point_on w l.at z → l.lo ≤ℤ z → z ≤ℤ l.hi → Holds l p
 holds l w p z way here from to = record { along = z; from = from; to = to; here = here ∙ ap (λ v. point_on v l.at z) (sym way) }
-
-abbrev pub point_of : Line → Line → Point
-point_of down across = record { x = down.at; y = across.at }
 
 on_down : (down across : Line) → Cross down across → Holds down (point_of down across)
 on_down down across c = holds down Vertical (point_of down across) across.at c.down_runs refl c.down_from c.down_to

@@ -1,6 +1,7 @@
 -- What the tests of arenas look at before they put in lines and crossings.
 use Rattle.std.specs.Prelude.{◌≡◌, ◌≤ℤ◌}
 use Rattle.plane_geom.specs.declared.point.Way.TheVariants.{Vertical, Horizontal}
+use Rattle.plane_geom.specs.declared.point.Point.{Point}
 use Rattle.plane_geom.specs.declared.floor.Line.{Line}
 
 -- the two are pieces of one whole line that share a point
@@ -18,3 +19,7 @@ pub record Cross (down across : Line) : Type 0 where
   pub down_to : across.at ≤ℤ down.hi
   pub across_from : across.lo ≤ℤ down.at
   pub across_to : down.at ≤ℤ across.hi
+
+-- where the whole lines meet
+abbrev pub point_of : Line → Line → Point
+point_of down across = record { x = down.at; y = across.at }

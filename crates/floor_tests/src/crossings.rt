@@ -2,7 +2,7 @@
 ghost use Rattle.std.specs.Prelude.{◌≡◌, ◌≢◌, ◌+◌, ◌<◌, ◌≤◌, ◌<ℤ◌, ◌≤ℤ◌, All, IsTrue};
 ghost use Rattle.plane_geom.specs.declared.point.Way.TheVariants.{Vertical, Horizontal};
 ghost use Rattle.line_arena.specs.Arena.{IsApart};
-ghost use Rattle.floor_tests.specs.Lines.{Overlap};
+ghost use Rattle.floor_tests.specs.Lines.{Overlap, point_of};
 
 use line_arena::{CrossId, LineArena, LineId};
 use plane_geom::{Dir, Line, Point, Way};
@@ -90,19 +90,25 @@ fn do_cross(down: &Line, across: &Line) -> bool
         && down.at <= across.hi
 }
 
+/// Where the whole lines meet.
+fn point_of(down: &Line, across: &Line) -> Point
+    ensures { result ≡ point_of down.now across.now }
+{
+    Point {
+        x: down.at,
+        y: across.at,
+    }
+}
+
 /// Puts in the crossing of the two lines, where they are there and it is not.
 fn cross(arena: &mut LineArena, down: Line, across: Line) -> Option<CrossId>
     requires { 0 < arena.old.spare_crossings }
     ensures { arena.new.spare_lines ≡ arena.old.spare_lines }
 {
-    let at = Point {
-        x: down.at,
-        y: across.at,
-    };
     if !do_cross(&down, &across) {
         return None;
     }
-    if let Some(_) = arena.crossing_at(at) {
+    if let Some(_) = arena.crossing_at(point_of(&down, &across)) {
         return None;
     }
     let Some(vertical) = arena.line_at(down) else {

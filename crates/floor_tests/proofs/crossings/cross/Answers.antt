@@ -1,6 +1,7 @@
 -- Lines that cross meet, and where no crossing was found they have none.
-use Rattle.std.proofs.Common.{refl, ap}
+use Rattle.std.proofs.Common.{refl, sym, ap, subst}
 use Rattle.std.specs.Prelude.{is_some}
+use Rattle.line_arena.specs.Arena.{StandsAt}
 use Rattle.floor_tests.specs.Lines.{Cross}
 use Rattle.floor_tests.proofs.Meeting.{meet, new_pair}
 use Rattle.floor_tests.proofs.crossings.cross.Goals as goal
@@ -30,4 +31,4 @@ put_crossing-requires-clause-new_pair c =
       across_to = e.across_to refl;
     } in
     new_pair c.args.arena.now _ _ c.args.down c.args.across c.in-Some-line_at.ensures.found c.in-Some-line_at-2.ensures.found crosses
-    (c.crossing_at.ensures.absent.0 (ap is_some c.in_default.is))
+    (λ k stands. c.crossing_at.ensures.absent.0 (ap is_some c.in_default.is) k (subst (StandsAt c.args.arena.now k) (sym c.point_of.ensures) stands))
