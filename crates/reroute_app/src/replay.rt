@@ -11,7 +11,7 @@ ghost use Rattle.reroute_app.specs.Run.{IsFormOutcome};
 ghost use Rattle.reroute_app.specs.View.{Comes, HasCommands, NotesOne, NotesTwo, StopsAt, never};
 
 use crate::outcome::{Outcome, Stop};
-use crate::read::{read_diagram, read_script};
+use crate::read::{Diagram, read_diagram, read_script};
 use crate::status::Status;
 use edit_script::commands;
 use gml_text::Doc;
@@ -101,5 +101,6 @@ pub(crate) fn replay_files<R: Threads + Sync, F: Folder, G: Gate>(
 {
     let read = read_diagram(alloc, folder, diagram)?;
     let commands = read_commands(alloc, folder, script)?;
-    replay_diagram(rt, alloc, &read.doc, read.scene, &commands, options, gate)
+    let Diagram { doc, scene } = read;
+    replay_diagram(rt, alloc, &doc, scene, &commands, options, gate)
 }

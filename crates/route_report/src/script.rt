@@ -2,11 +2,11 @@
 ghost use Rattle.std.specs.Prelude.{◌≡◌, ◌<◌, ◌≤◌, ◌^◌, IfOk, IsOk, Ok, length};
 ghost use Rattle.gml_text.specs.Printed.{IsPrintable};
 ghost use Rattle.gml_text.specs.View.{tree};
-ghost use Rattle.gml_scene.specs.Origins.{AreEdgesOf, AreNodesOf};
+ghost use Rattle.gml_scene.specs.Origins.{AreEdgesOf, AreNodesOf, AreRoutesOf};
 ghost use Rattle.diagram_read.specs.Scene.{scene_of};
 ghost use Rattle.route_replay.specs.Replies.{AreDirected};
 ghost use Rattle.route_report.specs.Diagram.{IsDiagram, IsOutput};
-ghost use Rattle.route_report.specs.Routes.{Routes};
+ghost use Rattle.route_report.specs.Routes.{AreLines, Routes};
 
 use crate::report::{connector_count, has_refusal, report};
 use gml_scene::put_routes;
@@ -20,6 +20,7 @@ use scene_model::Command;
 use scene_store::Scene;
 use std::alloc::{AllocError, Global};
 use std::thread::Threads;
+use walk_model::WrittenRoute;
 
 /// How a script is replayed, and what its report tells.
 #[derive(Clone, Copy, Debug, PartialEq, Eq)]
@@ -117,6 +118,24 @@ fn printed_diagram(alloc: Global, doc: &Doc, session: &Session) -> Result<Vec<u8
     // So the scene is known to be valid.
     let _settings = scene.settings();
     let nudged = session.nudged()?;
-    let routed = put_routes(alloc, doc, scene, &nudged.routes)?;
+    printed_lines(alloc, doc, session, &nudged.routes)
+}
+
+/// The printed document of the session's present scene, with these lines.
+fn printed_lines(
+    alloc: Global,
+    doc: &Doc,
+    session: &Session,
+    lines: &[WrittenRoute],
+) -> Result<Vec<u8>, AllocError>
+    requires source { IsOk (scene_of (tree doc.now)) }
+    requires nodes { IfOk (scene_of (tree doc.now)) (λ was. AreNodesOf was session.now.world.present) }
+    requires edges { IfOk (scene_of (tree doc.now)) (λ was. AreEdgesOf was session.now.world.present) }
+    requires routes { AreRoutesOf session.now.world.present lines.now }
+    requires lines { AreLines session.now.world.present session.now.book lines.now }
+    requires printable { IsPrintable (tree doc.now) }
+    ensures { IfOk result (λ text. IfOk (scene_of (tree doc.now)) (λ was. IsDiagram (tree doc.now) was session.now.world.present session.now.book text.items)) }
+{
+    let routed = put_routes(alloc, doc, session.scene(), lines)?;
     print(alloc, &routed)
 }
