@@ -3,9 +3,7 @@
 use crate::runs::{Row, run_row, whole_row};
 use reroute_app::Status;
 use std::alloc::{AllocError, Global};
-use std::process::Abort;
 use std::test::Fail;
-use std::thread::Threads;
 
 /// Groups of four boxes, one group below the other, with 512 edges in all. From the first box of a group to the second
 /// lead so many equal edges, and the third stands between the two.
@@ -130,69 +128,51 @@ fn output(alloc: Global, groups: Groups, searches: &str) -> Result<String, Alloc
     Ok(output)
 }
 
-/// A script on groups, and the lines on its searches.
-#[derive(Clone, Copy)]
-struct Case<'a> {
-    groups: Groups,
-    script: &'a str,
-    searches: &'a str,
-}
-
-/// Runs `route` of the script on this diagram, which must leave this output.
-fn run_case(
-    rt: &(impl Abort + Threads + Sync),
-    alloc: Global,
-    case: &Case,
-    diagram: &str,
-) -> Result<(), Fail> {
-    let output = output(alloc, case.groups, case.searches)?;
-    let row = Row {
-        diagram: diagram.as_bytes(),
-        script: case.script.as_bytes(),
-        ..whole_row(
-            "route|--workers|4|d.gml|s.txt|--count",
-            Status::Done,
-            output.as_str(),
-        )
-    };
-    run_row(rt, alloc, &row)?;
-    Ok(())
-}
+/// The words of a run by four workers.
+const WORDS: &str = "route|--workers|4|d.gml|s.txt|--count";
 
 /// 256 boxes and 512 edges, of which eight lead round a box that moves.
-const MANY_BOXES: Case = Case {
-    groups: Groups {
+#[test]
+fn routes_many_boxes(rt: HostRuntime) -> Result<(), Fail> {
+    let groups = Groups {
         count: 64,
         edges: 8,
         is_moved: true,
-    },
-    script: "begin, move 3 50 500, commit, begin, move 3 50 0, commit, undo, redo, undo",
-    searches: "# open: searched 512\n# line 3: searched 8\n# line 6: searched 8\n# line 7: searched 0\n\
-        # line 8: searched 0\n# line 9: searched 0\n",
-};
+    };
+    let searches =
+        "# open: searched 512\n# line 3: searched 8\n# line 6: searched 8\n# line 7: searched 0\n\
+        # line 8: searched 0\n# line 9: searched 0\n";
+    let output = output(rt.alloc(), groups, searches)?;
+    let diagram = diagram(rt.alloc(), groups)?;
+    let row = Row {
+        diagram: diagram.as_bytes(),
+        script: b"begin, move 3 50 500, commit, begin, move 3 50 0, commit, undo, redo, undo",
+        ..whole_row(WORDS, Status::Done, output.as_str())
+    };
+    run_row(&rt, rt.alloc(), &row)?;
+    Ok(())
+}
 
 /// 512 edges round one box, which moves.
-const MANY_EDGES: Case = Case {
-    groups: Groups {
+#[test]
+fn routes_many_edges(rt: HostRuntime) -> Result<(), Fail> {
+    let groups = Groups {
         count: 1,
         edges: 512,
         is_moved: false,
-    },
-    script: "begin, move 3 50 500, commit, begin, move 3 50 0, commit, undo, redo",
-    searches: "# open: searched 512\n# line 3: searched 512\n# line 6: searched 512\n# line 7: searched 0\n\
-        # line 8: searched 0\n",
-};
-
-#[test]
-fn routes_many_boxes(rt: HostRuntime) -> Result<(), Fail> {
-    let diagram = diagram(rt.alloc(), MANY_BOXES.groups)?;
-    run_case(&rt, rt.alloc(), &MANY_BOXES, diagram.as_str())
-}
-
-#[test]
-fn routes_many_edges(rt: HostRuntime) -> Result<(), Fail> {
-    let diagram = diagram(rt.alloc(), MANY_EDGES.groups)?;
-    run_case(&rt, rt.alloc(), &MANY_EDGES, diagram.as_str())
+    };
+    let searches =
+        "# open: searched 512\n# line 3: searched 512\n# line 6: searched 512\n# line 7: searched 0\n\
+        # line 8: searched 0\n";
+    let output = output(rt.alloc(), groups, searches)?;
+    let diagram = diagram(rt.alloc(), groups)?;
+    let row = Row {
+        diagram: diagram.as_bytes(),
+        script: b"begin, move 3 50 500, commit, begin, move 3 50 0, commit, undo, redo",
+        ..whole_row(WORDS, Status::Done, output.as_str())
+    };
+    run_row(&rt, rt.alloc(), &row)?;
+    Ok(())
 }
 
 fn long_script(alloc: Global) -> Result<String, AllocError> {

@@ -108,14 +108,14 @@ fn judge(
     held: &[u8],
 ) -> Result<(), Fail> {
     match row.wanted {
-        Wanted::Bytes(bytes) => assert_eq!(rt; held, bytes.as_bytes(), "{}", row.words),
+        Wanted::Bytes(bytes) => assert!(rt; held == bytes.as_bytes(), "{}", row.words),
         Wanted::Words(words) => {
             let held = spaced(alloc, held)?;
             let wanted = spaced(alloc, words.as_bytes())?;
-            assert_eq!(rt; held.as_slice(), wanted.as_slice(), "{}", row.words);
+            assert!(rt; held.as_slice() == wanted.as_slice(), "{}", row.words);
         }
     }
-    assert_eq!(rt; status, row.status, "{}", row.words);
+    assert!(rt; status == row.status, "{}", row.words);
     Ok(())
 }
 
