@@ -2,15 +2,15 @@
 ghost use Rattle.std.specs.Prelude.{◌<◌, ◌≤◌, ◌^◌, IfSome, length};
 ghost use Rattle.gml_text.specs.Printed.{IsPrintable};
 ghost use Rattle.gml_text.specs.View.{tree};
-ghost use Rattle.route_replay.specs.Replies.{AreDirected};
+ghost use Rattle.script_replay.specs.Replies.{AreDirected};
 
 use crate::rows;
 use crate::texts::{lines_of, spaced};
 use diagram_read::scene_of;
 use edit_script::{commands, scripts_have_directions};
+use form_route::{Options, Routing, replays_come_to_one, route};
 use gml_text::{Doc, parse};
 use par_route::OpenGate;
-use route_report::{Options, Routing, replays_come_to_one, route};
 use scene_model::Command;
 use std::alloc::Global;
 use std::process::Abort;

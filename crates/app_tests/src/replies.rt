@@ -1,12 +1,12 @@
 //! A script through every kind of command and refusal, on a small scene.
 ghost use Rattle.std.specs.Prelude.{◌<◌, ◌≤◌, ◌^◌, length};
-ghost use Rattle.route_replay.specs.Replies.{AreDirected};
+ghost use Rattle.script_replay.specs.Replies.{AreDirected};
 
 use par_route::OpenGate;
 use report_text::{LineReply, Refusal, Reply};
-use route_replay::{Replayed, one_list_of_replies, replay, replays_keep_origins};
 use scene_model::{Command, Edit, SceneFault, SessionFault};
 use scene_store::Scene;
+use script_replay::{Replayed, one_list_of_replies, replay, replays_keep_origins};
 use std::alloc::Global;
 use std::process::Abort;
 use std::test::Fail;

@@ -1,6 +1,6 @@
 //! What comes of some numbers, as an independent program finds it.
 
-use made_replay::{make, seeds_come_to_one};
+use form_make::{make, seeds_come_to_one};
 use par_route::OpenGate;
 use std::alloc::Global;
 use std::process::Abort;

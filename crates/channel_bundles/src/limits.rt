@@ -5,7 +5,7 @@ ghost use Rattle.plane_geom.specs.Along.{across};
 ghost use Rattle.plane_geom.specs.Floor.{Holds, IsSolid};
 ghost use Rattle.plane_geom.specs.Point.{IsCoordinate, opposite};
 ghost use Rattle.plane_geom.specs.Rect.{Overlaps};
-ghost use Rattle.segment_order.specs.Run.{IsRun, line_of, run_at};
+ghost use Rattle.segment_order.specs.Run.{IsRun, line_of_run, run_at};
 ghost use Rattle.channel_bundles.specs.Route.{HasToLeave, HasToReach, IsFixed, IsPhaseRoute};
 ghost use Rattle.channel_bundles.specs.Limits.{HasLimits, IsFromTo, IsReached, MayStandAt, Sweeps};
 ghost use Rattle.channel_bundles.specs.Links.{IsMember};
@@ -112,7 +112,7 @@ impl Limits {
     /// Those at which one who travels in the direction has come to each checkpoint on the run.
     fn reached_checkpoints(self, via: &[Point], run: &Run, dir: Dir, way: Way) -> Limits
         ensures { (z : ℤ) → IsFromTo result.low result.high z ↔ (IsFromTo self.low self.high z
-            × ((p : Point) → Contains via.now p → Holds (line_of run.now) p → IsReached dir (across way p) z)) }
+            × ((p : Point) → Contains via.now p → Holds (line_of_run run.now) p → IsReached dir (across way p) z)) }
     {
         let mut limits = self;
         for p in via {

@@ -1,7 +1,7 @@
 //! The routes of a phase, and which of their runs may move.
 ghost use Rattle.std.specs.Prelude.{◌≡◌, ◌↔◌, ◌+◌, ◌-◌, ◌<◌, Any, IsTrue, length};
 ghost use Rattle.plane_geom.specs.Floor.{Holds};
-ghost use Rattle.segment_order.specs.Run.{line_of, run_at};
+ghost use Rattle.segment_order.specs.Run.{line_of_run, run_at};
 
 use plane_geom::{Point, Way};
 use segment_order::Run;
@@ -72,7 +72,7 @@ impl PhaseRoute {
 
     /// Whether a checkpoint lies on the run.
     fn has_checkpoint_on(&self, run: &Run) -> bool
-        ensures { IsTrue result ↔ Any (Holds (line_of run.now)) self.now.anchors.via.items }
+        ensures { IsTrue result ↔ Any (Holds (line_of_run run.now)) self.now.anchors.via.items }
     {
         for p in &self.anchors.via {
             if run.holds(*p) {

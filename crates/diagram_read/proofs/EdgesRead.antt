@@ -16,8 +16,8 @@ use Rattle.diagram_read.specs.declared.fault.Part.TheVariants as part
 use Rattle.diagram_read.specs.declared.fault.DiagramFault.TheVariants.{BadEnd, TooMany, BadVia, BadWeight}
 use Rattle.diagram_read.specs.Checkpoints.{checkpoint_of}
 use Rattle.diagram_read.specs.Faults.{need, refuse, each}
-use Rattle.diagram_read.specs.Values.{Entry, value_at, values_at}
-use Rattle.diagram_read.specs.Edges.{end_in, class_in, weight_of, weight_in, with_via, loop_at, connector_in, edge_in}
+use Rattle.diagram_read.specs.Values.{ListEntry, value_at, values_at}
+use Rattle.diagram_read.specs.Edges.{end_node, class_in, weight_of, weight_in, with_via, loop_at, connector_in, edge_in}
 use Rattle.diagram_read.proofs.Steps.{bound, chosen, kept, ok_told, not_refused, there}
 use Rattle.diagram_read.proofs.PinsRead.{some_told}
 
@@ -64,7 +64,7 @@ apart a b h same = false≢true (sym h ∙ (Decides-int_eq a b).1 same)
 pub other_ends : (a b : ℤ) → (a ≡ b → ⊥) → int_eq a b ≡ false
 other_ends a b differ = elim (told (int_eq a b)) as (λ _. int_eq a b ≡ false) [ yes h ↦ absurd (differ ((Decides-int_eq a b).0 h)) | no h ↦ h ]
 
-connector_roomy : (s : Scene) (place : ℕ) (from to : Node) (entry : Entry) → int_eq from.id to.id ≡ false → place ≡ suc (length s.edges) → s.next_edge ≤ place → place < 4294967295 → via_count s ≤ 256
+connector_roomy : (s : Scene) (place : ℕ) (from to : Node) (entry : ListEntry) → int_eq from.id to.id ≡ false → place ≡ suc (length s.edges) → s.next_edge ≤ place → place < 4294967295 → via_count s ≤ 256
     → IfOk (connector_in place (via_count s) from to entry) (IsRoomyEdge s)
 connector_roomy s place from to entry other here next low few =
     bound _ (need (BadEnd place) (class_in from (value_at (codes "sourcePin") entry.1))) _ (λ from_class a.
@@ -80,13 +80,13 @@ connector_roomy s place from to entry other here next low few =
       number = here;
     }))))
 
-pub edge_roomy : (s : Scene) (entry : Entry) → s.next_edge ≡ suc (length s.edges) → via_count s ≤ 256 → IfOk (edge_in s entry) (IsRoomyEdge s)
+pub edge_roomy : (s : Scene) (entry : ListEntry) → s.next_edge ≡ suc (length s.edges) → via_count s ≤ 256 → IfOk (edge_in s entry) (IsRoomyEdge s)
 edge_roomy s entry numbered few =
     let place = suc (length s.edges) in
     bound _ (refuse (TooMany part.Edge) (nat_le 512 (length s.edges))) _ (λ room is.
     let below = leb-false 512 (length s.edges) (not_refused (TooMany part.Edge) (nat_le 512 (length s.edges)) room is) in
-    bound _ (need (BadEnd place) (end_in s (value_at (codes "source") entry.1))) _ (λ from a.
-    bound _ (need (BadEnd place) (end_in s (value_at (codes "target") entry.1))) _ (λ to b.
+    bound _ (need (BadEnd place) (end_node s (value_at (codes "source") entry.1))) _ (λ from a.
+    bound _ (need (BadEnd place) (end_node s (value_at (codes "target") entry.1))) _ (λ to b.
     chosen _ (int_eq from.id to.id) (Ok (loop_at place from.id entry.0)) (connector_in place (via_count s) from to entry)
     (λ same. record {
       loadable = record { next = omega (arith, numbered); low = omega (arith, below); loop = λ e. record { from_class = refl; to_class = refl; via = refl; weight = refl }; some_weight = omega arith; low_weight = omega arith };
@@ -99,7 +99,7 @@ fits : (m n : ℕ) → m < n → nat_le n m ≡ false
 fits m n below = grind (arith, nat_tests)
 
 -- the edge of a list between two nodes
-pub edge_told : (s : Scene) (entry : Entry) (from to : Node) (place before : ℕ) → place ≡ suc (length s.edges) → before ≡ via_count s → length s.edges < 512
-    → end_in s (value_at (codes "source") entry.1) ≡ Some from → end_in s (value_at (codes "target") entry.1) ≡ Some to → int_eq from.id to.id ≡ false
+pub edge_told : (s : Scene) (entry : ListEntry) (from to : Node) (place before : ℕ) → place ≡ suc (length s.edges) → before ≡ via_count s → length s.edges < 512
+    → end_node s (value_at (codes "source") entry.1) ≡ Some from → end_node s (value_at (codes "target") entry.1) ≡ Some to → int_eq from.id to.id ≡ false
     → edge_in s entry ≡ connector_in place before from to entry
 edge_told s entry from to place before here counted few source target other = rw (here, counted, fits (length s.edges) 512 few, source, target, other) refl

@@ -13,7 +13,7 @@ use Rattle.scene_model.specs.Loads.{IsLoadablePin, IsLoadableNode}
 use Rattle.diagram_read.specs.declared.fault.Part.TheVariants as part
 use Rattle.diagram_read.specs.declared.fault.DiagramFault.TheVariants.{BadId, SameId, NoPlace, BadNumber, OutOfRange, TooMany, BadPin}
 use Rattle.diagram_read.specs.Faults.{◌>>=◌, need, refuse, each}
-use Rattle.diagram_read.specs.Values.{Entry, value_at, values_at, as_list, milli_of, in_range, is_no_number, id_of}
+use Rattle.diagram_read.specs.Values.{ListEntry, value_at, values_at, as_list, milli_of, in_range, is_no_number, id_of}
 use Rattle.diagram_read.specs.Pins.{pin_of}
 use Rattle.diagram_read.specs.Nodes.{size_in, boxed, bare_node, with_pin, node_in}
 use Rattle.diagram_read.proofs.Steps.{bound, kept, ok_told, not_refused, there}
@@ -38,7 +38,7 @@ pin_kept place before n value roomy =
 abbrev IsBare : Node → Type 0
 IsBare n = n.pins ≡ []
 
-boxed_bare : (place : ℕ) (id : ℤ) (entry : Entry) (x y w h : Result ℤ MilliFault) → IfOk (boxed place id entry x y w h) IsBare
+boxed_bare : (place : ℕ) (id : ℤ) (entry : ListEntry) (x y w h : Result ℤ MilliFault) → IfOk (boxed place id entry x y w h) IsBare
 boxed_bare place id entry x y w h =
     bound _ (refuse (BadNumber part.Node place) (is_no_number x || (is_no_number y || (is_no_number w || is_no_number h)))) _ (λ numbers a.
     bound _ (need (OutOfRange part.Node place) (in_range x)) _ (λ x b.
@@ -48,7 +48,7 @@ boxed_bare place id entry x y w h =
     bound _ (refuse (OutOfRange part.Node place) (int_lt w (pos 0) || int_lt h (pos 0))) _ (λ sizes f.
     bound _ (refuse (OutOfRange part.Node place) (is_off x (half w) || is_off y (half h))) _ (λ corners g. refl)))))))
 
-bare : (place : ℕ) (id : ℤ) (entry : Entry) → IfOk (bare_node place id entry) IsBare
+bare : (place : ℕ) (id : ℤ) (entry : ListEntry) → IfOk (bare_node place id entry) IsBare
 bare place id entry =
     bound _ (need (NoPlace place) (option_and_then as_list (value_at (codes "graphics") entry.1))) _ (λ graphics a.
     bound _ (need (NoPlace place) (value_at (codes "x") graphics)) _ (λ x b.
@@ -61,7 +61,7 @@ begins before n bare few = record {
   few = (let none = ap length bare in omega (arith, none));
 }
 
-pub node_roomy : (s : Scene) (entry : Entry) → pin_count s ≤ 256 → IfOk (node_in s entry) (IsRoomy (pin_count s))
+pub node_roomy : (s : Scene) (entry : ListEntry) → pin_count s ≤ 256 → IfOk (node_in s entry) (IsRoomy (pin_count s))
 node_roomy s entry few =
     let place = suc (length s.nodes) in
     bound _ (refuse (TooMany part.Node) (nat_le 256 (length s.nodes))) _ (λ nodes a.
@@ -75,7 +75,7 @@ fits : (m n : ℕ) → m < n → nat_le n m ≡ false
 fits m n below = grind (arith, nat_tests)
 
 -- the node of a list whose id is new
-pub node_told : (s : Scene) (entry : Entry) (id : ℤ) (place before : ℕ) → place ≡ suc (length s.nodes) → before ≡ pin_count s → length s.nodes < 256
+pub node_told : (s : Scene) (entry : ListEntry) (id : ℤ) (place before : ℕ) → place ≡ suc (length s.nodes) → before ≡ pin_count s → length s.nodes < 256
     → option_and_then id_of (value_at (codes "id") entry.1) ≡ Some id → is_some (node_with s id) ≡ false
     → node_in s entry ≡ (bare_node place id entry >>= (λ n. each (with_pin place before) n (values_at (codes "pin") entry.1)))
 node_told s entry id place before here counted few known new = rw (here, counted, fits (length s.nodes) 256 few, known, new) refl

@@ -11,7 +11,7 @@ use Rattle.scene_model.specs.Scene.{Scene, empty_scene}
 use Rattle.scene_model.specs.Edits.{changed, out_of_limits}
 use Rattle.diagram_read.specs.declared.fault.Part.TheVariants.{Router}
 use Rattle.diagram_read.specs.declared.fault.DiagramFault.TheVariants.{OutOfRange}
-use Rattle.diagram_read.specs.Settings.{with_setting, with_setting_at, with_settings_in}
+use Rattle.diagram_read.specs.Settings.{with_setting_read, with_setting_at, with_settings_in}
 use Rattle.diagram_read.specs.Values.{value_at, milli_of}
 use Rattle.diagram_read.proofs.Steps.{bound, chosen, ok_told}
 
@@ -20,7 +20,7 @@ pub record HasLists (s t : Scene) : Type 0 where
   pub edges : t.edges ≡ s.edges
   pub next : t.next_edge ≡ s.next_edge
 
-one_keeps : (what : Setting) (s t : Scene) (o : Option (Result ℤ MilliFault)) → HasLists s t → IfOk (with_setting what t o) (HasLists s)
+one_keeps : (what : Setting) (s t : Scene) (o : Option (Result ℤ MilliFault)) → HasLists s t → IfOk (with_setting_read what t o) (HasLists s)
 one_keeps what s t None same = same
 one_keeps what s t (Some (Err milli.NotNumber)) same = tt
 one_keeps what s t (Some (Err milli.OutOfRange)) same = tt

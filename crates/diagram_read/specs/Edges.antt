@@ -10,13 +10,13 @@ use Rattle.scene_model.specs.Loads.{with_edge}
 use Rattle.diagram_read.specs.declared.fault.Part.TheVariants as part
 use Rattle.diagram_read.specs.declared.fault.DiagramFault.{DiagramFault}
 use Rattle.diagram_read.specs.declared.fault.DiagramFault.TheVariants.{BadEnd, TooMany, BadVia, BadWeight}
-use Rattle.diagram_read.specs.Values.{Entry, value_at, values_at, id_of, class_of}
+use Rattle.diagram_read.specs.Values.{ListEntry, value_at, values_at, id_of, class_of}
 use Rattle.diagram_read.specs.Faults.{◌>>=◌, need, refuse, each}
 use Rattle.diagram_read.specs.Checkpoints.{checkpoint_of}
 
 -- the node that an end names
-abbrev pub end_in : Scene → Option Content → Option Node
-end_in s value = option_and_then (node_with s) (option_and_then id_of value)
+abbrev pub end_node : Scene → Option Content → Option Node
+end_node s value = option_and_then (node_with s) (option_and_then id_of value)
 
 -- the class, if the node has it
 abbrev pub own_class : Node → ℕ → Option ℕ
@@ -53,7 +53,7 @@ loop_at place id origin =
     record { number = place; from = id; to = id; from_class = 0; to_class = 0; via = []; origin = Some origin; weight = 1 }
 
 -- an edge between two nodes, where the edges before it have so many checkpoints
-abbrev pub connector_in : ℕ → ℕ → Node → Node → Entry → Result Edge DiagramFault
+abbrev pub connector_in : ℕ → ℕ → Node → Node → ListEntry → Result Edge DiagramFault
 connector_in place before from to entry = do
   from_class ← need (BadEnd place) (class_in from (value_at (codes "sourcePin") entry.1))
   to_class ← need (BadEnd place) (class_in to (value_at (codes "targetPin") entry.1))
@@ -71,19 +71,19 @@ connector_in place before from to entry = do
   })
 
 -- the edge of a list, behind the edges of the scene
-abbrev pub edge_in : Scene → Entry → Result Edge DiagramFault
+abbrev pub edge_in : Scene → ListEntry → Result Edge DiagramFault
 edge_in s entry = do
   let place = suc (length s.edges)
   few ← refuse (TooMany part.Edge) (nat_le 512 (length s.edges))
-  from ← need (BadEnd place) (end_in s (value_at (codes "source") entry.1))
-  to ← need (BadEnd place) (end_in s (value_at (codes "target") entry.1))
+  from ← need (BadEnd place) (end_node s (value_at (codes "source") entry.1))
+  to ← need (BadEnd place) (end_node s (value_at (codes "target") entry.1))
   if int_eq from.id to.id then Ok (loop_at place from.id entry.0) else connector_in place (via_count s) from to entry
 
 -- the scene with the edge of the list, and with those of all of them
-abbrev pub with_edge_in : Scene → Entry → Result Scene DiagramFault
+abbrev pub with_edge_in : Scene → ListEntry → Result Scene DiagramFault
 with_edge_in s entry = do
   e ← edge_in s entry
   Ok (with_edge e s)
 
-abbrev pub with_edges_in : Scene → List Entry → Result Scene DiagramFault
+abbrev pub with_edges_in : Scene → List ListEntry → Result Scene DiagramFault
 with_edges_in s entries = each with_edge_in s entries

@@ -35,6 +35,6 @@ IsRead told (Ok x) = told ≡ Ok x
 IsRead told (Err fault) = IsFault told fault
 
 -- the same of a call that leaves what it reads behind a reference
-abbrev pub Leaves : {A : Type 0} → Result A DiagramFault → A → Result Unit DiagramFault → Type 0
-Leaves told x (Ok done) = told ≡ Ok x
-Leaves told x (Err fault) = IsFault told fault
+abbrev pub IsReadInto : {A : Type 0} → Result A DiagramFault → A → Result Unit DiagramFault → Type 0
+IsReadInto told x (Ok done) = told ≡ Ok x
+IsReadInto told x (Err fault) = IsFault told fault

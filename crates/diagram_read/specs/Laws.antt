@@ -5,7 +5,7 @@ use Rattle.gml_text.specs.Tree.{Content, number, text, list, Pairs, pair, ◌the
 use Rattle.gml_text.specs.Printed.{IsGrammaticalValue}
 use Rattle.scene_model.specs.Scene.{Scene}
 use Rattle.diagram_read.specs.declared.fault.DiagramFault.{DiagramFault}
-use Rattle.diagram_read.specs.Values.{Entry, milli_of, is_no_number}
+use Rattle.diagram_read.specs.Values.{ListEntry, milli_of, is_no_number}
 use Rattle.diagram_read.specs.Nodes.{node_in, with_nodes_in}
 use Rattle.diagram_read.specs.Edges.{edge_in, with_edges_in}
 
@@ -21,8 +21,8 @@ NumbersAgree = (value : Content) → IsGrammaticalValue value → is_no_number (
 
 -- the law: a fault of a front of the entries is the fault of all of them
 pub record FirstFaultsCount : Type 0 where
-  pub nodes : (s : Scene) (front more : List Entry) (f : DiagramFault) → with_nodes_in s front ≡ Err f → with_nodes_in s (front ++ more) ≡ Err f
-  pub edges : (s : Scene) (front more : List Entry) (f : DiagramFault) → with_edges_in s front ≡ Err f → with_edges_in s (front ++ more) ≡ Err f
+  pub nodes : (s : Scene) (front more : List ListEntry) (f : DiagramFault) → with_nodes_in s front ≡ Err f → with_nodes_in s (front ++ more) ≡ Err f
+  pub edges : (s : Scene) (front more : List ListEntry) (f : DiagramFault) → with_edges_in s front ≡ Err f → with_edges_in s (front ++ more) ≡ Err f
 
 -- the key is none of these
 abbrev pub is_other : List (List ℕ) → List ℕ → Bool

@@ -10,7 +10,7 @@ use Rattle.scene_model.specs.Loads.{with_node}
 use Rattle.diagram_read.specs.declared.fault.Part.TheVariants as part
 use Rattle.diagram_read.specs.declared.fault.DiagramFault.{DiagramFault}
 use Rattle.diagram_read.specs.declared.fault.DiagramFault.TheVariants.{BadId, SameId, NoPlace, BadNumber, OutOfRange, TooMany, BadPin}
-use Rattle.diagram_read.specs.Values.{Entry, value_at, values_at, as_list, milli_of, in_range, number_in, is_no_number, id_of}
+use Rattle.diagram_read.specs.Values.{ListEntry, value_at, values_at, as_list, milli_of, in_range, number_in, is_no_number, id_of}
 use Rattle.diagram_read.specs.Faults.{◌>>=◌, need, refuse, each}
 use Rattle.diagram_read.specs.Pins.{pin_of}
 
@@ -20,12 +20,12 @@ size_in None = Ok (pos 30000)
 size_in (Some value) = milli_of value
 
 -- a group is marked by a number that is read as one unit
-abbrev pub is_mark : Result ℤ MilliFault → Bool
-is_mark (Ok value) = int_eq value (pos 1000)
-is_mark (Err fault) = false
+abbrev pub is_group_mark : Result ℤ MilliFault → Bool
+is_group_mark (Ok value) = int_eq value (pos 1000)
+is_group_mark (Err fault) = false
 
 -- the node of a list with this centre and size, without its pins; the place is that among the nodes
-abbrev pub boxed : ℕ → ℤ → Entry → Result ℤ MilliFault → Result ℤ MilliFault → Result ℤ MilliFault → Result ℤ MilliFault → Result Node DiagramFault
+abbrev pub boxed : ℕ → ℤ → ListEntry → Result ℤ MilliFault → Result ℤ MilliFault → Result ℤ MilliFault → Result ℤ MilliFault → Result Node DiagramFault
 boxed place id entry x y w h = do
   numbers ← refuse (BadNumber part.Node place) (is_no_number x || (is_no_number y || (is_no_number w || is_no_number h)))
   x ← need (OutOfRange part.Node place) (in_range x)
@@ -40,13 +40,13 @@ boxed place id entry x y w h = do
     y = y;
     half_w = half w;
     half_h = half h;
-    group = is_mark (number_in (value_at (codes "isGroup") entry.1));
+    group = is_group_mark (number_in (value_at (codes "isGroup") entry.1));
     pins = [];
     origin = Some entry.0;
   })
 
 -- the same, with the centre and size of its `graphics`
-abbrev pub bare_node : ℕ → ℤ → Entry → Result Node DiagramFault
+abbrev pub bare_node : ℕ → ℤ → ListEntry → Result Node DiagramFault
 bare_node place id entry = do
   graphics ← need (NoPlace place) (option_and_then as_list (value_at (codes "graphics") entry.1))
   x ← need (NoPlace place) (value_at (codes "x") graphics)
@@ -61,7 +61,7 @@ with_pin place before n value = do
   Ok (record n { pins = n.pins ++ pin ∷ [] })
 
 -- the node of a list, behind the nodes of the scene
-abbrev pub node_in : Scene → Entry → Result Node DiagramFault
+abbrev pub node_in : Scene → ListEntry → Result Node DiagramFault
 node_in s entry = do
   let place = suc (length s.nodes)
   few ← refuse (TooMany part.Node) (nat_le 256 (length s.nodes))
@@ -71,10 +71,10 @@ node_in s entry = do
   each (with_pin place (pin_count s)) bare (values_at (codes "pin") entry.1)
 
 -- the scene with the node of the list, and with those of all of them
-abbrev pub with_node_in : Scene → Entry → Result Scene DiagramFault
+abbrev pub with_node_in : Scene → ListEntry → Result Scene DiagramFault
 with_node_in s entry = do
   n ← node_in s entry
   Ok (with_node n s)
 
-abbrev pub with_nodes_in : Scene → List Entry → Result Scene DiagramFault
+abbrev pub with_nodes_in : Scene → List ListEntry → Result Scene DiagramFault
 with_nodes_in s entries = each with_node_in s entries

@@ -15,15 +15,15 @@ use Rattle.diagram_read.specs.Values.{value_at, milli_of}
 use Rattle.diagram_read.specs.Faults.{◌>>=◌}
 
 -- the scene with the setting that is told, if it is
-abbrev pub with_setting : Setting → Scene → Option (Result ℤ MilliFault) → Result Scene DiagramFault
-with_setting what s None = Ok s
-with_setting what s (Some (Err milli.NotNumber)) = Err (BadNumber Router 0)
-with_setting what s (Some (Err milli.OutOfRange)) = Err (OutOfRange Router 0)
-with_setting what s (Some (Ok value)) = if out_of_limits what value then Err (OutOfRange Router 0) else Ok (changed (Set what value) s)
+abbrev pub with_setting_read : Setting → Scene → Option (Result ℤ MilliFault) → Result Scene DiagramFault
+with_setting_read what s None = Ok s
+with_setting_read what s (Some (Err milli.NotNumber)) = Err (BadNumber Router 0)
+with_setting_read what s (Some (Err milli.OutOfRange)) = Err (OutOfRange Router 0)
+with_setting_read what s (Some (Ok value)) = if out_of_limits what value then Err (OutOfRange Router 0) else Ok (changed (Set what value) s)
 
 -- the same, as the list tells under the key
 abbrev pub with_setting_at : Setting → List ℕ → Pairs → Scene → Result Scene DiagramFault
-with_setting_at what key router s = with_setting what s (option_map milli_of (value_at key router))
+with_setting_at what key router s = with_setting_read what s (option_map milli_of (value_at key router))
 
 -- the scene with the settings that the `router` list tells, if there is one
 abbrev pub with_settings_in : Option Pairs → Scene → Result Scene DiagramFault

@@ -42,16 +42,16 @@ values no_pairs = []
 values (pair k value rest) = value ∷ values rest
 
 -- a list of the diagram that is a node or an edge: its place among the pairs of the graph, from 0, and its pairs
-abbrev pub Entry : Type 0
-Entry = ℕ × Pairs
+abbrev pub ListEntry : Type 0
+ListEntry = ℕ × Pairs
 
 -- this one first, if it is a list
-abbrev pub with_entry : ℕ → Option Pairs → List Entry → List Entry
+abbrev pub with_entry : ℕ → Option Pairs → List ListEntry → List ListEntry
 with_entry place None entries = entries
 with_entry place (Some inner) entries = (place, inner) ∷ entries
 
 -- the lists under the key with their places, of which that of the first pair is this one
-abbrev pub entries_from : ℕ → List ℕ → Pairs → List Entry
+abbrev pub entries_from : ℕ → List ℕ → Pairs → List ListEntry
 entries_from place key no_pairs = []
 entries_from place key (pair k value rest) =
     if bytes_eq k key then with_entry place (as_list value) (entries_from (suc place) key rest) else entries_from (suc place) key rest

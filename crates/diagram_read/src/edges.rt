@@ -3,8 +3,8 @@ ghost use Rattle.std.specs.Prelude.{◌≡◌, ◌≤◌, [], codes, option_map}
 ghost use Rattle.std.specs.Option.{option_copied};
 ghost use Rattle.gml_text.specs.View.{content, pairs};
 ghost use Rattle.diagram_read.specs.Checkpoints.{checkpoint_of};
-ghost use Rattle.diagram_read.specs.Edges.{class_in, connector_in, end_in, loop_at, weight_in, weight_of, with_via};
-ghost use Rattle.diagram_read.specs.Faults.{IsRead, Leaves, each};
+ghost use Rattle.diagram_read.specs.Edges.{class_in, connector_in, end_node, loop_at, weight_in, weight_of, with_via};
+ghost use Rattle.diagram_read.specs.Faults.{IsRead, IsReadInto, each};
 ghost use Rattle.diagram_read.specs.Values.{value_at, values_at};
 
 use crate::fault::{DiagramFault, Part};
@@ -78,7 +78,7 @@ pub(crate) fn connector_in(
 
 /// The node that an end names, whose key this is.
 pub(crate) fn end_at<'a>(scene: &'a Scene, list: &[Pair], key: &[u8]) -> Option<&'a Node>
-    ensures { option_copied result ≡ end_in scene.now (value_at key.now (pairs list.now)) }
+    ensures { option_copied result ≡ end_node scene.now (value_at key.now (pairs list.now)) }
 {
     scene.node(id_at(list, key)?)
 }
@@ -136,7 +136,7 @@ fn via_in(alloc: Global, place: u32, before: usize, list: &[Pair]) -> Result<Via
 /// Puts the checkpoint that a value tells behind the others.
 fn add_via(via: &mut Via, place: u32, before: usize, value: &Value) -> Result<(), DiagramFault>
     requires { before ≤ 256 }
-    ensures { Leaves (with_via place before via.old (content value.now)) via.new result }
+    ensures { IsReadInto (with_via place before via.old (content value.now)) via.new result }
 {
     let count = via.as_slice().len();
     if count >= MOST_VIA_OF_EDGE || before + count >= MOST_VIA {

@@ -2,7 +2,7 @@
 ghost use Rattle.std.specs.Prelude.{◌≡◌, option_map};
 ghost use Rattle.std.specs.Option.{option_copied};
 ghost use Rattle.gml_text.specs.View.{content, pairs};
-ghost use Rattle.diagram_read.specs.Nodes.{bare_node, boxed, is_mark, size_in};
+ghost use Rattle.diagram_read.specs.Nodes.{bare_node, boxed, is_group_mark, size_in};
 
 use crate::fault::{DiagramFault, Part};
 use crate::values::{in_range, inner_at, is_no_number, milli_of, number_at, value_at};
@@ -104,7 +104,7 @@ fn size_in(value: Option<&Value>) -> Result<i64, MilliFault>
 
 /// A group is marked by a number that is read as one unit.
 fn is_mark(number: Result<i64, MilliFault>) -> bool
-    ensures { result ≡ is_mark number }
+    ensures { result ≡ is_group_mark number }
 {
     match number {
         Ok(value) => value == 1_000,

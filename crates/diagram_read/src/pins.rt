@@ -2,7 +2,7 @@
 ghost use Rattle.std.specs.Prelude.{◌≡◌, ◌≤◌, codes, option_map};
 ghost use Rattle.std.specs.Option.{option_copied};
 ghost use Rattle.gml_text.specs.View.{content, pairs};
-ghost use Rattle.diagram_read.specs.Faults.{IsRead, Leaves, each};
+ghost use Rattle.diagram_read.specs.Faults.{IsRead, IsReadInto, each};
 ghost use Rattle.diagram_read.specs.Nodes.{with_pin};
 ghost use Rattle.diagram_read.specs.Pins.{cost_in, dirs_in, pin_of};
 ghost use Rattle.diagram_read.specs.Values.{values_at};
@@ -36,7 +36,7 @@ pub(crate) fn with_pins(
 /// Puts the pin that a value tells behind the others of the node.
 fn add_pin(node: &mut Node, place: u32, before: usize, value: &Value) -> Result<(), DiagramFault>
     requires { before ≤ 256 }
-    ensures { Leaves (with_pin place before node.old (content value.now)) node.new result }
+    ensures { IsReadInto (with_pin place before node.old (content value.now)) node.new result }
 {
     if before + node.pins.as_slice().len() >= MOST_PINS {
         return Err(DiagramFault::TooMany { part: Part::Pin });

@@ -4,7 +4,7 @@ ghost use Rattle.gml_text.specs.View.{pairs, tree};
 ghost use Rattle.scene_model.specs.Scene.{pin_count, via_count};
 ghost use Rattle.diagram_read.specs.declared.fault.DiagramFault.TheVariants.{Memory};
 ghost use Rattle.diagram_read.specs.Edges.{edge_in, with_edge_in, with_edges_in};
-ghost use Rattle.diagram_read.specs.Faults.{IsRead, Leaves};
+ghost use Rattle.diagram_read.specs.Faults.{IsRead, IsReadInto};
 ghost use Rattle.diagram_read.specs.Nodes.{node_in, with_node_in, with_nodes_in};
 ghost use Rattle.diagram_read.specs.Scene.{scene_of};
 ghost use Rattle.diagram_read.specs.Values.{entries_from};
@@ -83,7 +83,7 @@ fn origin_of(index: usize) -> Result<u32, DiagramFault>
 impl Reader {
     /// Puts the nodes of the graph list into the scene.
     fn load_nodes(&mut self, graph: &[Pair]) -> Result<(), DiagramFault>
-        ensures { Leaves (with_nodes_in self.old.scene (entries_from 0 (codes "node") (pairs graph.now))) self.new.scene result }
+        ensures { IsReadInto (with_nodes_in self.old.scene (entries_from 0 (codes "node") (pairs graph.now))) self.new.scene result }
     {
         for (index, pair) in graph.iter().enumerate() {
             if has_key(pair, b"node")
@@ -97,7 +97,7 @@ impl Reader {
 
     /// Puts the edges of the graph list into the scene.
     fn load_edges(&mut self, graph: &[Pair]) -> Result<(), DiagramFault>
-        ensures { Leaves (with_edges_in self.old.scene (entries_from 0 (codes "edge") (pairs graph.now))) self.new.scene result }
+        ensures { IsReadInto (with_edges_in self.old.scene (entries_from 0 (codes "edge") (pairs graph.now))) self.new.scene result }
     {
         for (index, pair) in graph.iter().enumerate() {
             if has_key(pair, b"edge")
@@ -111,7 +111,7 @@ impl Reader {
 
     /// Puts the node of a list into the scene.
     fn load_node(&mut self, origin: u32, list: &[Pair]) -> Result<(), DiagramFault>
-        ensures { Leaves (with_node_in self.old.scene (origin, pairs list.now)) self.new.scene result }
+        ensures { IsReadInto (with_node_in self.old.scene (origin, pairs list.now)) self.new.scene result }
     {
         let node = self.node_in(origin, list)?;
         let pins = node.pins.as_slice().len();
@@ -144,7 +144,7 @@ impl Reader {
 
     /// Puts the edge of a list into the scene.
     fn load_edge(&mut self, origin: u32, list: &[Pair]) -> Result<(), DiagramFault>
-        ensures { Leaves (with_edge_in self.old.scene (origin, pairs list.now)) self.new.scene result }
+        ensures { IsReadInto (with_edge_in self.old.scene (origin, pairs list.now)) self.new.scene result }
     {
         let edge = self.edge_in(origin, list)?;
         let via = edge.via.as_slice().len();

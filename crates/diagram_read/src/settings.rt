@@ -1,7 +1,7 @@
 //! The settings of a diagram.
 ghost use Rattle.std.specs.Prelude.{codes};
 ghost use Rattle.gml_text.specs.View.{pairs};
-ghost use Rattle.diagram_read.specs.Faults.{Leaves};
+ghost use Rattle.diagram_read.specs.Faults.{IsReadInto};
 ghost use Rattle.diagram_read.specs.Settings.{with_setting_at, with_settings_in};
 ghost use Rattle.diagram_read.specs.Values.{list_at};
 
@@ -19,7 +19,7 @@ const OUT_OF_RANGE: DiagramFault = DiagramFault::OutOfRange {
 
 /// Puts the settings that the first `router` list of the graph tells into the scene.
 pub(crate) fn load_settings(scene: &mut Scene, graph: &[Pair]) -> Result<(), DiagramFault>
-    ensures { Leaves (with_settings_in (list_at (codes "router") (pairs graph.now)) scene.old) scene.new result }
+    ensures { IsReadInto (with_settings_in (list_at (codes "router") (pairs graph.now)) scene.old) scene.new result }
 {
     let Some(router) = list_at(graph, b"router") else {
         return Ok(());
@@ -36,7 +36,7 @@ fn load_setting(
     key: &[u8],
     router: &[Pair],
 ) -> Result<(), DiagramFault>
-    ensures { Leaves (with_setting_at what key.now (pairs router.now) scene.old) scene.new result }
+    ensures { IsReadInto (with_setting_at what key.now (pairs router.now) scene.old) scene.new result }
 {
     let Some(value) = value_at(router, key) else {
         return Ok(());

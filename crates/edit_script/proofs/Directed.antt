@@ -8,8 +8,8 @@ use Rattle.scene_model.specs.declared.edit.Command.TheVariants.{Edit, Bad}
 use Rattle.scene_model.specs.Letters.{dirs_of}
 use Rattle.scene_model.specs.Edits.{IsDirected}
 use Rattle.scene_model.specs.World.{IsDirectedCommand}
-use Rattle.edit_script.specs.Values.{number_of, id_of, count_of, setting_of}
-use Rattle.edit_script.specs.Forms.{node_form, move_form, size_form, drop_form, pin_form, unpin_form, edge_form, cut_form, classes_form, via_form, unvia_form, set_form, edit_form, bare_form, form_of}
+use Rattle.edit_script.specs.Values.{number_of, id_of_word, count_of, setting_of}
+use Rattle.edit_script.specs.Forms.{node_form, move_form, size_form, drop_form, pin_form, unpin_form, edge_form, cut_form, classes_form, via_form, unvia_form, set_form, edit_form, bare_form, command_form}
 use Rattle.edit_script.specs.Script.{words, is_comment, command_of, numbered, commands_from, lines, HaveDirections}
 use Rattle.scene_model.proofs.Directions.{dirs_lead}
 
@@ -23,31 +23,31 @@ bound None f h = tt
 bound (Some a) f h = h a refl
 
 node_directed : (args : List (List ℕ)) → Directed (node_form args)
-node_directed (a ∷ b ∷ c ∷ d ∷ e ∷ []) = bound (id_of a) _ (λ v h. bound (number_of b) _ (λ w i. bound (number_of c) _ (λ x j. bound (number_of d) _ (λ y k. bound (number_of e) _ (λ z m. tt)))))
+node_directed (a ∷ b ∷ c ∷ d ∷ e ∷ []) = bound (id_of_word a) _ (λ v h. bound (number_of b) _ (λ w i. bound (number_of c) _ (λ x j. bound (number_of d) _ (λ y k. bound (number_of e) _ (λ z m. tt)))))
 node_directed _ = tt
 
 move_directed : (args : List (List ℕ)) → Directed (move_form args)
-move_directed (a ∷ b ∷ c ∷ []) = bound (id_of a) _ (λ v h. bound (number_of b) _ (λ w i. bound (number_of c) _ (λ x j. tt)))
+move_directed (a ∷ b ∷ c ∷ []) = bound (id_of_word a) _ (λ v h. bound (number_of b) _ (λ w i. bound (number_of c) _ (λ x j. tt)))
 move_directed _ = tt
 
 size_directed : (args : List (List ℕ)) → Directed (size_form args)
-size_directed (a ∷ b ∷ c ∷ []) = bound (id_of a) _ (λ v h. bound (number_of b) _ (λ w i. bound (number_of c) _ (λ x j. tt)))
+size_directed (a ∷ b ∷ c ∷ []) = bound (id_of_word a) _ (λ v h. bound (number_of b) _ (λ w i. bound (number_of c) _ (λ x j. tt)))
 size_directed _ = tt
 
 drop_directed : (args : List (List ℕ)) → Directed (drop_form args)
-drop_directed (a ∷ []) = bound (id_of a) _ (λ v h. tt)
+drop_directed (a ∷ []) = bound (id_of_word a) _ (λ v h. tt)
 drop_directed _ = tt
 
 pin_directed : (args : List (List ℕ)) → Directed (pin_form args)
-pin_directed (a ∷ b ∷ c ∷ d ∷ e ∷ []) = bound (id_of a) _ (λ v h. bound (count_of b) _ (λ w i. bound (number_of c) _ (λ x j. bound (number_of d) _ (λ y k. bound (dirs_of e) _ (λ z m. dirs_lead e z m)))))
+pin_directed (a ∷ b ∷ c ∷ d ∷ e ∷ []) = bound (id_of_word a) _ (λ v h. bound (count_of b) _ (λ w i. bound (number_of c) _ (λ x j. bound (number_of d) _ (λ y k. bound (dirs_of e) _ (λ z m. dirs_lead e z m)))))
 pin_directed _ = tt
 
 unpin_directed : (args : List (List ℕ)) → Directed (unpin_form args)
-unpin_directed (a ∷ b ∷ []) = bound (id_of a) _ (λ v h. bound (count_of b) _ (λ w i. tt))
+unpin_directed (a ∷ b ∷ []) = bound (id_of_word a) _ (λ v h. bound (count_of b) _ (λ w i. tt))
 unpin_directed _ = tt
 
 edge_directed : (args : List (List ℕ)) → Directed (edge_form args)
-edge_directed (a ∷ b ∷ c ∷ d ∷ []) = bound (id_of a) _ (λ v h. bound (id_of b) _ (λ w i. bound (count_of c) _ (λ x j. bound (count_of d) _ (λ y k. tt))))
+edge_directed (a ∷ b ∷ c ∷ d ∷ []) = bound (id_of_word a) _ (λ v h. bound (id_of_word b) _ (λ w i. bound (count_of c) _ (λ x j. bound (count_of d) _ (λ y k. tt))))
 edge_directed _ = tt
 
 cut_directed : (args : List (List ℕ)) → Directed (cut_form args)
@@ -110,7 +110,7 @@ edit_command : (o : Option SceneEdit) → Directed o → DirectedCommand (option
 edit_command None p = tt
 edit_command (Some e) p = p
 
-form_directed : (name : List ℕ) (args : List (List ℕ)) → DirectedCommand (form_of name args)
+form_directed : (name : List ℕ) (args : List (List ℕ)) → DirectedCommand (command_form name args)
 form_directed name [] = bare_directed name
 form_directed name (a ∷ args) = edit_command (edit_form name (a ∷ args)) (edit_directed name (a ∷ args))
 
@@ -120,7 +120,7 @@ or_bad (Some c) p = p
 
 command_directed : (ws : List (List ℕ)) → DirectedCommand (command_of ws)
 command_directed [] = tt
-command_directed (name ∷ args) = chosen_command (is_comment name) None _ tt (or_bad (form_of name args) (form_directed name args))
+command_directed (name ∷ args) = chosen_command (is_comment name) None _ tt (or_bad (command_form name args) (form_directed name args))
 
 abbrev AreDirected : List (ℕ × Command) → Type 0
 AreDirected cs = AllByRecursion (λ c. IsDirectedCommand c.1) cs

@@ -5,7 +5,7 @@ use Rattle.scene_model.specs.declared.edit.Edit.TheVariants.{AddNode, MoveNode, 
 use Rattle.scene_model.specs.declared.edit.Command.{Command}
 use Rattle.scene_model.specs.declared.edit.Command.TheVariants.{Begin, Edit, Commit, Abort, Undo, Redo}
 use Rattle.scene_model.specs.Letters.{dirs_of}
-use Rattle.edit_script.specs.Values.{number_of, id_of, count_of, setting_of}
+use Rattle.edit_script.specs.Values.{number_of, id_of_word, count_of, setting_of}
 
 infixl 10 ◌>>=◌
 abbrev pub ◌>>=◌ : {A B : Type 0} → Option A → (A → Option B) → Option B
@@ -14,7 +14,7 @@ o >>= f = option_and_then f o
 -- ID X Y W H
 abbrev pub node_form : List (List ℕ) → Option SceneEdit
 node_form (a ∷ b ∷ c ∷ d ∷ e ∷ []) = do
-  id ← id_of a
+  id ← id_of_word a
   x ← number_of b
   y ← number_of c
   w ← number_of d
@@ -25,7 +25,7 @@ node_form _ = None
 -- ID X Y
 abbrev pub move_form : List (List ℕ) → Option SceneEdit
 move_form (a ∷ b ∷ c ∷ []) = do
-  id ← id_of a
+  id ← id_of_word a
   x ← number_of b
   y ← number_of c
   Some (MoveNode id x y)
@@ -34,7 +34,7 @@ move_form _ = None
 -- ID W H
 abbrev pub size_form : List (List ℕ) → Option SceneEdit
 size_form (a ∷ b ∷ c ∷ []) = do
-  id ← id_of a
+  id ← id_of_word a
   w ← number_of b
   h ← number_of c
   Some (SizeNode id w h)
@@ -43,14 +43,14 @@ size_form _ = None
 -- ID
 abbrev pub drop_form : List (List ℕ) → Option SceneEdit
 drop_form (a ∷ []) = do
-  id ← id_of a
+  id ← id_of_word a
   Some (DropNode id)
 drop_form _ = None
 
 -- ID CLASS DX DY DIRS
 abbrev pub pin_form : List (List ℕ) → Option SceneEdit
 pin_form (a ∷ b ∷ c ∷ d ∷ e ∷ []) = do
-  id ← id_of a
+  id ← id_of_word a
   class ← count_of b
   dx ← number_of c
   dy ← number_of d
@@ -61,7 +61,7 @@ pin_form _ = None
 -- ID PLACE
 abbrev pub unpin_form : List (List ℕ) → Option SceneEdit
 unpin_form (a ∷ b ∷ []) = do
-  id ← id_of a
+  id ← id_of_word a
   place ← count_of b
   Some (DropPin id place)
 unpin_form _ = None
@@ -69,8 +69,8 @@ unpin_form _ = None
 -- ID ID CLASS CLASS
 abbrev pub edge_form : List (List ℕ) → Option SceneEdit
 edge_form (a ∷ b ∷ c ∷ d ∷ []) = do
-  from ← id_of a
-  to ← id_of b
+  from ← id_of_word a
+  to ← id_of_word b
   from_class ← count_of c
   to_class ← count_of d
   Some (AddEdge from to from_class to_class)
@@ -144,6 +144,6 @@ bare_form name =
     else if bytes_eq name (codes "redo") then Some Redo else None
 
 -- the command of a name and the words behind it, if they have a form
-abbrev pub form_of : List ℕ → List (List ℕ) → Option Command
-form_of name [] = bare_form name
-form_of name (arg ∷ args) = option_map Edit (edit_form name (arg ∷ args))
+abbrev pub command_form : List ℕ → List (List ℕ) → Option Command
+command_form name [] = bare_form name
+command_form name (arg ∷ args) = option_map Edit (edit_form name (arg ∷ args))

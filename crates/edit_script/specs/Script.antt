@@ -5,7 +5,7 @@ use Rattle.std.specs.Str.Lines.{strip_carriage_return}
 use Rattle.scene_model.specs.declared.edit.Command.{Command}
 use Rattle.scene_model.specs.declared.edit.Command.TheVariants.{Bad}
 use Rattle.scene_model.specs.World.{IsDirectedCommand}
-use Rattle.edit_script.specs.Forms.{form_of}
+use Rattle.edit_script.specs.Forms.{command_form}
 
 -- words are separated by spaces and tabs
 abbrev pub is_blank : ℕ → Bool
@@ -23,7 +23,7 @@ is_comment (b ∷ bs) = b == 35
 -- the command of the words of a line: no words and a comment are none, and what has no form is bad
 abbrev pub command_of : List (List ℕ) → Option Command
 command_of [] = None
-command_of (name ∷ args) = if is_comment name then None else Some (unwrap_or (form_of name args) Bad)
+command_of (name ∷ args) = if is_comment name then None else Some (unwrap_or (command_form name args) Bad)
 
 -- a command with the number of its line, if there is one
 abbrev pub numbered : ℕ → Option Command → List (ℕ × Command) → List (ℕ × Command)

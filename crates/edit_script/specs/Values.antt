@@ -24,8 +24,8 @@ abbrev pub number_of : List ℕ → Option ℤ
 number_of word = within word (read word)
 
 -- an id: an optional sign and 1 to 18 digits
-abbrev pub id_of : List ℕ → Option ℤ
-id_of word = read_whole 18 word
+abbrev pub id_of_word : List ℕ → Option ℤ
+id_of_word word = read_whole 18 word
 
 -- a class, a place or an edge number: 1 to 9 digits
 abbrev pub count_of : List ℕ → Option ℕ

@@ -7,7 +7,7 @@ ghost use Rattle.edit_script.specs.Forms.{
   drop_form,
   edge_form,
   edit_form,
-  form_of,
+  command_form,
   move_form,
   node_form,
   pin_form,
@@ -23,7 +23,7 @@ use scene_model::{Command, Dirs, Edit};
 
 /// The command of a name and the words behind it, if they have a form.
 pub(crate) fn form_of(name: &[u8], args: &[&[u8]]) -> Option<Command>
-    ensures { result ≡ form_of name.now (map (λ w. w.now) args.now) }
+    ensures { result ≡ command_form name.now (map (λ w. w.now) args.now) }
 {
     if args.is_empty() {
         bare_form(name)

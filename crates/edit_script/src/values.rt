@@ -1,6 +1,6 @@
 //! What a word of a script stands for.
 ghost use Rattle.std.specs.Prelude.{◌≡◌};
-ghost use Rattle.edit_script.specs.Values.{beyond, count_of, id_of, number_of, setting_of};
+ghost use Rattle.edit_script.specs.Values.{beyond, count_of, id_of_word, number_of, setting_of};
 ghost use Rattle.fixed_milli.specs.Milli.{with_sign};
 ghost use Rattle.fixed_milli.specs.Value.{signed};
 
@@ -33,7 +33,7 @@ fn beyond(word: &[u8]) -> i64
 
 /// An id: an optional sign and 1 to 18 digits.
 pub(crate) fn id_of(word: &[u8]) -> Option<i64>
-    ensures { result ≡ id_of word.now }
+    ensures { result ≡ id_of_word word.now }
 {
     read_whole(word, 18)
 }

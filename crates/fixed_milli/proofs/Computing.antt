@@ -9,7 +9,7 @@ use Rattle.fixed_milli.specs.declared.milli.MilliFault.TheVariants.{NotNumber, O
 use Rattle.fixed_milli.specs.Number.{Number, IsNumber, IsExponent, Spells, SpellsNothing}
 use Rattle.fixed_milli.specs.Split.{SplitsSign, SplitsDigits, SplitsFraction, EndsDigits}
 use Rattle.fixed_milli.specs.Milli.{Reads, magnitude, thousandths, most_thousandths}
-use Rattle.fixed_milli.specs.Value.{signed, front_digits, behind_digits, spelled_fraction, signed_digits, spelled_exponent, number_with, spelled_number, value_of, read}
+use Rattle.fixed_milli.specs.Value.{signed, front_digits, behind_digits, spelled_fraction, signed_digits, spelled_exponent, number_with, spelled_number, thousandths_of, read}
 use Rattle.fixed_milli.proofs.Splitting.{Parts, parts_of, no_digits, no_exponent, parts_spell, no_power, exponent_of}
 use Rattle.fixed_milli.proofs.Reading.{read_same}
 
@@ -140,10 +140,10 @@ number_found bytes =
     (exponent_found fraction.1)
 
 -- a number that was found is read as its value
-value_reads : (bytes : List ℕ) (n : Option Number) → IsFoundNumber bytes n → Reads bytes (value_of n)
+value_reads : (bytes : List ℕ) (n : Option Number) → IsFoundNumber bytes n → Reads bytes (thousandths_of n)
 value_reads bytes None none = none
 value_reads bytes (Some n) spells =
-    elim (cases_Bool (nat_le (magnitude n) most_thousandths)) as (λ _. Reads bytes (value_of (Some n))) [
+    elim (cases_Bool (nat_le (magnitude n) most_thousandths)) as (λ _. Reads bytes (thousandths_of (Some n))) [
       | inl within ↦ rw within (n, spells, leb-true (magnitude n) most_thousandths within, refl)
       | inr beyond ↦ rw beyond (n, spells, leb-false (magnitude n) most_thousandths beyond)
     ]

@@ -11,7 +11,7 @@ use Rattle.std.proofs.lemmas.Str.Parse.{digit_from_value}
 use Rattle.std.proofs.Math.Nat.{pow-suc, one-le-pow, pow-le-pow_right, mul-le-mul_left, mul-le-mul_right, div-eq_of_lt-le, mul-div-mul_right}
 use Rattle.fixed_milli.specs.declared.digits.TheConstants.{LIMIT}
 use Rattle.fixed_milli.specs.Digits.{carry}
-use Rattle.fixed_milli.specs.Milli.{rounded, distance}
+use Rattle.fixed_milli.specs.Milli.{rounded, absolute_difference}
 use Rattle.fixed_milli.proofs.Decimals.{after-append, after_is, capped_after, capped_mul}
 
 -- the rounded ratio is the whole number that it is nearest to
@@ -30,7 +30,7 @@ rounded_bounds a b some =
     (omega arith, omega arith)
 
 -- so it is at most half a unit away
-pub rounded_near : (a b : ℕ) → 0 < b → 2 * distance a (rounded a b * b) ≤ b
+pub rounded_near : (a b : ℕ) → 0 < b → 2 * absolute_difference a (rounded a b * b) ≤ b
 rounded_near a b some = let bounds = rounded_bounds a b some in omega (arith, bounds)
 
 -- and the greater one where two are as near

@@ -10,8 +10,8 @@ unfoldable pub rounded : ℕ → ℕ → ℕ
 rounded a b = (2 * a + b) / (2 * b)
 
 -- how far two numbers are apart
-abbrev pub distance : ℕ → ℕ → ℕ
-distance m n = (m - n) + (n - m)
+abbrev pub absolute_difference : ℕ → ℕ → ℕ
+absolute_difference m n = (m - n) + (n - m)
 
 -- the absolute value in whole thousandths, rounded with halves away from zero
 abbrev pub magnitude : Number → ℕ

@@ -51,10 +51,10 @@ spelled_number bytes =
     number_with s.0 (front_digits s.1) f.0 (spelled_exponent f.1)
 
 -- the thousandths of a number, or the fault of one that is too great or is none
-abbrev pub value_of : Option Number → Result ℤ MilliFault
-value_of None = Err NotNumber
-value_of (Some n) = if nat_le (magnitude n) most_thousandths then Ok (thousandths n) else Err OutOfRange
+abbrev pub thousandths_of : Option Number → Result ℤ MilliFault
+thousandths_of None = Err NotNumber
+thousandths_of (Some n) = if nat_le (magnitude n) most_thousandths then Ok (thousandths n) else Err OutOfRange
 
 -- what the bytes are read as
 abbrev pub read : List ℕ → Result ℤ MilliFault
-read bytes = value_of (spelled_number bytes)
+read bytes = thousandths_of (spelled_number bytes)

@@ -1,7 +1,7 @@
 //! Laws of reading, rounding and writing.
 
 ghost use Rattle.std.specs.Prelude.{◌≡◌, ◌≢◌, ◌≤◌, ◌<◌, ◌+◌, ◌*◌, ◌↔◌, ℤ, List, ℕ, Ok, Err, Result, unsigned_abs};
-ghost use Rattle.fixed_milli.specs.Milli.{Reads, distance, milli_text, most_thousandths, rounded};
+ghost use Rattle.fixed_milli.specs.Milli.{Reads, absolute_difference, milli_text, most_thousandths, rounded};
 ghost use Rattle.fixed_milli.specs.Number.{IsNumber};
 ghost use Rattle.fixed_milli.specs.Value.{read};
 ghost use Rattle.fixed_milli.specs.declared.milli.MilliFault.{MilliFault};
@@ -25,7 +25,7 @@ pub fn number_is_read()
 /// A rounded ratio is the nearest whole number, and the greater one where two are as near. So a
 /// number's thousandths, of which the absolute value is rounded, go away from zero at halves.
 pub fn rounded_is_nearest()
-    ensures near { (a b : ℕ) → 0 < b → 2 * distance a (rounded a b * b) ≤ b }
+    ensures near { (a b : ℕ) → 0 < b → 2 * absolute_difference a (rounded a b * b) ≤ b }
     ensures halves { (a b k : ℕ) → 0 < b → 2 * a ≡ 2 * k * b + b → rounded a b ≡ k + 1 }
 {}
 

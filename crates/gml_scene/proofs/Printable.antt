@@ -16,21 +16,21 @@ use Rattle.scene_model.specs.Scene.{Scene, default_settings, is_loop}
 use Rattle.scene_model.specs.Letters.{letters}
 use Rattle.diagram_read.specs.Values.{list_at}
 use Rattle.gml_scene.specs.Changes.{one}
-use Rattle.gml_scene.specs.Forms.{length_of, class_of, id_of, point_pairs, cost_pairs, pin_pairs, pin_pair, via_pair, line_point, line_content, line_pairs, box_pairs, node_pair, node_pairs, class_pairs, edge_pairs, edge_pair, settings_pairs}
+use Rattle.gml_scene.specs.Forms.{length_content, class_content, id_content, point_pairs, cost_pairs, pin_pairs, pin_pair, via_pair, line_point, line_content, line_pairs, box_pairs, node_pair, node_pairs, class_pairs, edge_pairs, edge_pair, settings_pairs}
 use Rattle.gml_scene.specs.Nodes.{pin_eq, put_length, put_box, put_pins, node_again}
 use Rattle.gml_scene.specs.Edges.{point_eq, put_class, put_via, put_line_in, put_line, edge_again}
 use Rattle.gml_scene.specs.Tree.{line_for, node_from, edge_from, kept_node, kept_edge, kept, kept_from, put_settings, settings_eq, router_pairs, appended, graph_again, tree_of}
 use Rattle.gml_scene.proofs.Numerals.{decimal_number, signed_decimal_number, milli_number, letters_lack}
 use Rattle.gml_scene.proofs.Fitting.{Fits, FitsValue, Keeps, none_fit, one_fits, number_fits, text_fits, list_fits, then_fits, all_fit, choice_fits, put_fits, without_fits, put_only_fits, change_fits}
 
-length_fits : (d : ℕ) (key : List ℕ) (z : ℤ) → IsKey key → Fits d (one key (length_of z))
-length_fits d key z is_key = one_fits d key (length_of z) is_key (number_fits d _ (milli_number z))
+length_fits : (d : ℕ) (key : List ℕ) (z : ℤ) → IsKey key → Fits d (one key (length_content z))
+length_fits d key z is_key = one_fits d key (length_content z) is_key (number_fits d _ (milli_number z))
 
-class_fits : (d : ℕ) (key : List ℕ) (class : ℕ) → IsKey key → Fits d (one key (class_of class))
-class_fits d key class is_key = one_fits d key (class_of class) is_key (number_fits d _ (decimal_number class))
+class_fits : (d : ℕ) (key : List ℕ) (class : ℕ) → IsKey key → Fits d (one key (class_content class))
+class_fits d key class is_key = one_fits d key (class_content class) is_key (number_fits d _ (decimal_number class))
 
-id_fits : (d : ℕ) (key : List ℕ) (id : ℤ) → IsKey key → Fits d (one key (id_of id))
-id_fits d key id is_key = one_fits d key (id_of id) is_key (number_fits d _ (signed_decimal_number id))
+id_fits : (d : ℕ) (key : List ℕ) (id : ℤ) → IsKey key → Fits d (one key (id_content id))
+id_fits d key id is_key = one_fits d key (id_content id) is_key (number_fits d _ (signed_decimal_number id))
 
 inner_fits : (d : ℕ) (key : List ℕ) (inner : Pairs) → IsKey key → Fits d inner → Fits (suc d) (one key (list inner))
 inner_fits d key inner is_key fits = one_fits (suc d) key (list inner) is_key (list_fits d inner fits)
@@ -100,7 +100,7 @@ settings_fit d t =
 
 put_length_fits : (d : ℕ) (key : List ℕ) (was now : ℤ) → IsKey key → Keeps d (put_length key was now)
 put_length_fits d key was now is_key ps fits =
-    choice_fits d (int_eq was now) ps _ fits (put_fits d key (length_of now) ps is_key (number_fits d _ (milli_number now)) fits)
+    choice_fits d (int_eq was now) ps _ fits (put_fits d key (length_content now) ps is_key (number_fits d _ (milli_number now)) fits)
 
 put_box_fits : (d : ℕ) (was n : Node) → Keeps d (put_box was n)
 put_box_fits d was n ps fits =
@@ -120,7 +120,7 @@ node_again_fits d was n ps fits =
 
 put_class_fits : (d : ℕ) (key : List ℕ) (was now : ℕ) → IsKey key → Keeps d (put_class key was now)
 put_class_fits d key was now is_key ps fits =
-    choice_fits d (was == now) ps _ fits (put_fits d key (class_of now) ps is_key (number_fits d _ (decimal_number now)) fits)
+    choice_fits d (was == now) ps _ fits (put_fits d key (class_content now) ps is_key (number_fits d _ (decimal_number now)) fits)
 
 put_via_fits : (d : ℕ) (was via : List Point) → Keeps (suc d) (put_via was via)
 put_via_fits d was via ps fits =

@@ -8,14 +8,14 @@ use Rattle.scene_model.specs.declared.edge.Edge.{Edge}
 use Rattle.scene_model.specs.Scene.{is_loop}
 use Rattle.diagram_read.specs.Values.{list_at}
 use Rattle.gml_scene.specs.Changes.{all_of, put, put_only, without, change_list}
-use Rattle.gml_scene.specs.Forms.{class_of, via_pair, line_content, line_pairs}
+use Rattle.gml_scene.specs.Forms.{class_content, via_pair, line_content, line_pairs}
 
 abbrev pub point_eq : Point → Point → Bool
 point_eq a b = int_eq a.x b.x && int_eq a.y b.y
 
 -- a class is written where it is not as it was
 abbrev pub put_class : List ℕ → ℕ → ℕ → Pairs → Pairs
-put_class key was now pairs = if was == now then pairs else put key (class_of now) pairs
+put_class key was now pairs = if was == now then pairs else put key (class_content now) pairs
 
 -- all checkpoints are written anew, last, where they are not as they were
 abbrev pub put_via : List Point → List Point → Pairs → Pairs

@@ -13,30 +13,30 @@ use Rattle.scene_model.specs.Letters.{letters}
 use Rattle.gml_scene.specs.Changes.{one, all_of}
 
 -- a length in units, with three digits behind the point
-abbrev pub length_of : ℤ → Content
-length_of z = number (milli_text z)
+abbrev pub length_content : ℤ → Content
+length_content z = number (milli_text z)
 
 -- a class as a plain whole number
-abbrev pub class_of : ℕ → Content
-class_of class = number (decimal class)
+abbrev pub class_content : ℕ → Content
+class_content class = number (decimal class)
 
 -- an id, in the same way
-abbrev pub id_of : ℤ → Content
-id_of id = number (signed_decimal id)
+abbrev pub id_content : ℤ → Content
+id_content id = number (signed_decimal id)
 
 -- the two coordinates of a point
 abbrev pub point_pairs : Point → Pairs
-point_pairs p = one (codes "x") (length_of p.x) then one (codes "y") (length_of p.y)
+point_pairs p = one (codes "x") (length_content p.x) then one (codes "y") (length_content p.y)
 
 -- what a cost adds to a pin's pairs: nothing where it is 0
 abbrev pub cost_pairs : ℤ → Pairs
-cost_pairs cost = if int_eq cost (pos 0) then no_pairs else one (codes "cost") (length_of cost)
+cost_pairs cost = if int_eq cost (pos 0) then no_pairs else one (codes "cost") (length_content cost)
 
 abbrev pub pin_pairs : Pin → Pairs
 pin_pairs p =
-    one (codes "class") (class_of p.class)
-    then (one (codes "x") (length_of p.dx)
-    then (one (codes "y") (length_of p.dy)
+    one (codes "class") (class_content p.class)
+    then (one (codes "x") (length_content p.dx)
+    then (one (codes "y") (length_content p.dy)
     then (one (codes "dirs") (text (letters p.dirs))
     then cost_pairs p.cost)))
 
@@ -61,25 +61,25 @@ line_pairs (Some points) = one (codes "graphics") (list (one (codes "Line") (lin
 -- centre and size
 abbrev pub box_pairs : Node → Pairs
 box_pairs n =
-    one (codes "x") (length_of n.x)
-    then (one (codes "y") (length_of n.y)
-    then (one (codes "w") (length_of (pos 2 *ℤ n.half_w))
-    then one (codes "h") (length_of (pos 2 *ℤ n.half_h))))
+    one (codes "x") (length_content n.x)
+    then (one (codes "y") (length_content n.y)
+    then (one (codes "w") (length_content (pos 2 *ℤ n.half_w))
+    then one (codes "h") (length_content (pos 2 *ℤ n.half_h))))
 
 abbrev pub node_pairs : Node → Pairs
-node_pairs n = one (codes "id") (id_of n.id) then (one (codes "graphics") (list (box_pairs n)) then all_of pin_pair n.pins)
+node_pairs n = one (codes "id") (id_content n.id) then (one (codes "graphics") (list (box_pairs n)) then all_of pin_pair n.pins)
 
 abbrev pub node_pair : Node → Pairs
 node_pair n = one (codes "node") (list (node_pairs n))
 
 -- a class of an edge's end; nothing where it is 0
 abbrev pub class_pairs : List ℕ → ℕ → Pairs
-class_pairs key class = if class == 0 then no_pairs else one key (class_of class)
+class_pairs key class = if class == 0 then no_pairs else one key (class_content class)
 
 abbrev pub edge_pairs : Option (List Point) → Edge → Pairs
 edge_pairs line e =
-    one (codes "source") (id_of e.from)
-    then (one (codes "target") (id_of e.to)
+    one (codes "source") (id_content e.from)
+    then (one (codes "target") (id_content e.to)
     then (class_pairs (codes "sourcePin") e.from_class
     then (class_pairs (codes "targetPin") e.to_class
     then (all_of via_pair e.via
@@ -90,6 +90,6 @@ edge_pair line e = one (codes "edge") (list (edge_pairs line e))
 
 abbrev pub settings_pairs : Settings → Pairs
 settings_pairs t =
-    one (codes "penalty") (length_of t.penalty)
-    then (one (codes "buffer") (length_of t.buffer)
-    then one (codes "nudge") (length_of t.nudge))
+    one (codes "penalty") (length_content t.penalty)
+    then (one (codes "buffer") (length_content t.buffer)
+    then one (codes "nudge") (length_content t.nudge))

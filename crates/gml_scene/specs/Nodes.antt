@@ -8,7 +8,7 @@ use Rattle.scene_model.specs.declared.node.Node.{Node}
 use Rattle.scene_model.specs.declared.pin.Pin.{Pin}
 use Rattle.scene_model.specs.declared.pin.Dirs.{Dirs}
 use Rattle.gml_scene.specs.Changes.{all_of, put, without, change_list}
-use Rattle.gml_scene.specs.Forms.{length_of, pin_pair}
+use Rattle.gml_scene.specs.Forms.{length_content, pin_pair}
 
 -- two pins are the same where all is, their directions and costs too
 abbrev pub dirs_eq : Dirs → Dirs → Bool
@@ -19,7 +19,7 @@ pin_eq a b = a.class == b.class && (int_eq a.dx b.dx && (int_eq a.dy b.dy && (di
 
 -- a length is written where it is not as it was
 abbrev pub put_length : List ℕ → ℤ → ℤ → Pairs → Pairs
-put_length key was now pairs = if int_eq was now then pairs else put key (length_of now) pairs
+put_length key was now pairs = if int_eq was now then pairs else put key (length_content now) pairs
 
 -- centre and size in the `graphics`; a size is twice its half
 abbrev pub put_box : Node → Node → Pairs → Pairs

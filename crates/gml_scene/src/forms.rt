@@ -5,7 +5,7 @@ ghost use Rattle.gml_text.specs.View.{content, pairs};
 ghost use Rattle.scene_model.specs.Letters.{letters};
 ghost use Rattle.scene_model.specs.Valid.{IsNode};
 ghost use Rattle.gml_scene.specs.Changes.{all_of, one};
-ghost use Rattle.gml_scene.specs.Forms.{box_pairs, class_of, class_pairs, cost_pairs, edge_pair, id_of, length_of, line_content, line_pairs, node_pair, pin_pair, pin_pairs, point_pairs, settings_pairs, via_pair};
+ghost use Rattle.gml_scene.specs.Forms.{box_pairs, class_content, class_pairs, cost_pairs, edge_pair, id_content, length_content, line_content, line_pairs, node_pair, pin_pair, pin_pairs, point_pairs, settings_pairs, via_pair};
 
 use crate::changes::push;
 use crate::copies::bytes_of;
@@ -17,7 +17,7 @@ use std::alloc::{AllocError, Global};
 
 /// A length in units.
 pub(crate) fn length_of(alloc: Global, length: i64) -> Result<Value, AllocError>
-    ensures { IfOk result (λ v. content v ≡ length_of length) }
+    ensures { IfOk result (λ v. content v ≡ length_content length) }
 {
     let text = write_milli(alloc, length)?;
     Ok(Value::Number(bytes_of(alloc, text.as_bytes())?))
@@ -25,7 +25,7 @@ pub(crate) fn length_of(alloc: Global, length: i64) -> Result<Value, AllocError>
 
 /// A class as a plain whole number.
 pub(crate) fn class_of(alloc: Global, class: u32) -> Result<Value, AllocError>
-    ensures { IfOk result (λ v. content v ≡ class_of class) }
+    ensures { IfOk result (λ v. content v ≡ class_content class) }
 {
     let text = format!(in alloc; "{class}")?;
     Ok(Value::Number(bytes_of(alloc, text.as_bytes())?))
@@ -33,7 +33,7 @@ pub(crate) fn class_of(alloc: Global, class: u32) -> Result<Value, AllocError>
 
 /// An id as a plain whole number.
 fn id_of(alloc: Global, id: i64) -> Result<Value, AllocError>
-    ensures { IfOk result (λ v. content v ≡ id_of id) }
+    ensures { IfOk result (λ v. content v ≡ id_content id) }
 {
     let text = format!(in alloc; "{id}")?;
     Ok(Value::Number(bytes_of(alloc, text.as_bytes())?))
@@ -46,7 +46,7 @@ fn push_length(
     key: &[u8],
     length: i64,
 ) -> Result<(), AllocError>
-    ensures { OnOk result (pairs list.new.items ≡ pairs list.old.items then one key.now (length_of length)) }
+    ensures { OnOk result (pairs list.new.items ≡ pairs list.old.items then one key.now (length_content length)) }
 {
     push(alloc, list, key, length_of(alloc, length)?)
 }

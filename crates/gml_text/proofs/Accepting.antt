@@ -7,7 +7,7 @@ use Rattle.std.proofs.lemmas.List.{append-nil}
 use Rattle.gml_text.specs.Bytes.{is_space, begins_key, is_key_byte, is_word_byte}
 use Rattle.gml_text.specs.Tree.{Content, number, text, list, Pairs, no_pairs, pair, ◌then◌}
 use Rattle.fixed_milli.specs.Number.{IsNumber}
-use Rattle.gml_text.specs.Grammar.{Lacks, IsBlank, IsGap, IsKey, EndsWord, StandsApart, SpellsPairs, SpellsValue, IsEnding, Spells}
+use Rattle.gml_text.specs.Grammar.{Lacks, IsBlank, IsWhiteSpace, IsKey, EndsWord, StandsApart, SpellsPairs, SpellsValue, IsEnding, SpellsDocument}
 use Rattle.gml_text.specs.Reading.{Where, between, behind, Mode, in_gap, in_comment, in_key, in_number, in_text, Frame, State, start, number_step, accepted}
 use Rattle.gml_text.specs.Token.{begun, after, is_complete}
 use Rattle.gml_text.specs.declared.token.NumberPart.{NumberPart}
@@ -51,7 +51,7 @@ blanks_pass (x ∷ xs) more place fs ps h =
     ∙ (blank_passes x (concat xs ++ more) place fs ps h.0 ∙ blanks_pass xs more place fs ps h.1)
 
 -- white space changes nothing
-pub gap_passes : (gap more : List ℕ) (place : Where) (fs : List Frame) (ps : Pairs) → IsGap gap
+pub gap_passes : (gap more : List ℕ) (place : Where) (fs : List Frame) (ps : Pairs) → IsWhiteSpace gap
     → accepted (gap ++ more) (at (in_gap place) fs ps) ≡ accepted more (at (in_gap place) fs ps)
 gap_passes gap more place fs ps g =
     subst (λ x. accepted (x ++ more) (at (in_gap place) fs ps) ≡ accepted more (at (in_gap place) fs ps)) (sym g.1)
@@ -69,7 +69,7 @@ blanks_end_word (x ∷ xs) more h either =
     subst EndsWord (sym (append_assoc x (concat xs) more)) (blank_ends_word x (concat xs ++ more) h.0)
 
 -- a word ends before white space, and where white space may be missing before what stands behind it
-pub gap_ends_word : (gap more : List ℕ) → IsGap gap → (0 < length gap) ⊎ EndsWord more → EndsWord (gap ++ more)
+pub gap_ends_word : (gap more : List ℕ) → IsWhiteSpace gap → (0 < length gap) ⊎ EndsWord more → EndsWord (gap ++ more)
 gap_ends_word gap more g either =
     subst (λ x. EndsWord (x ++ more)) (sym g.1)
     (blanks_end_word g.0 more g.2 (subst (λ x. (0 < length x) ⊎ EndsWord more) g.1 either))
@@ -169,7 +169,7 @@ stands_apart_append (number digits) space after_it more h e = (h.0, ends_word_ap
 stands_apart_append (text inner) space after_it more h e = tt
 stands_apart_append (list inner) space after_it more h e = tt
 
-value_ends_word : (value : Content) (space written after_it more : List ℕ) → IsGap space → SpellsValue value written → StandsApart value space after_it
+value_ends_word : (value : Content) (space written after_it more : List ℕ) → IsWhiteSpace space → SpellsValue value written → StandsApart value space after_it
     → EndsWord (space ++ (written ++ more))
 value_ends_word (number digits) space written after_it more g v a = gap_ends_word space (written ++ more) g (inl a.0)
 value_ends_word (text inner) space written after_it more g v a =
@@ -226,7 +226,7 @@ document_ends ending ps (inr c) =
     subst (λ x. EndsWord x × (accepted x (at (in_gap between) [] ps) ≡ Some ps)) (sym c.1) (refl, comment_ends c.0 ps c.2)
 
 -- a document is accepted as its pairs
-pub spelled_is_accepted : (tree : Pairs) (bytes : List ℕ) → Spells tree bytes → accepted bytes start ≡ Some tree
+pub spelled_is_accepted : (tree : Pairs) (bytes : List ℕ) → SpellsDocument tree bytes → accepted bytes start ≡ Some tree
 spelled_is_accepted tree bytes s =
     let ended = document_ends s.ending tree s.is_ending in
     ap (λ x. accepted x start) s.spelled ∙ (pairs_are_read tree s.body s.ending [] no_pairs s.pairs ended.0 ∙ ended.1)

@@ -1,7 +1,7 @@
 -- What a document and a fault of the bytes say of each answer.
 use Rattle.std.proofs.Common.{◌≡◌, ℕ, List, IfOk, IsErrAnd, Result, Ok, Err, sym, subst}
 use Rattle.gml_text.specs.Tree.{Pairs}
-use Rattle.gml_text.specs.Parse.{IsDocument, IsSyntaxAt, IsTooDeepAt, Reads}
+use Rattle.gml_text.specs.Parse.{IsDocument, IsSyntaxAt, IsTooDeepAt, ParsesAs}
 use Rattle.gml_text.specs.Printed.{IsPrintable}
 use Rattle.gml_text.specs.Standing.{IsAnswer, IsFaultOf}
 use Rattle.gml_text.specs.View.{Answers, tree}
@@ -32,6 +32,6 @@ pub answer_printable : (bytes : List ℕ) (r : Result Doc GmlFault) → IsAnswer
 answer_printable bytes (Ok doc) a = document_is_printable (tree doc) bytes a
 answer_printable bytes (Err fault) a = tt
 
-pub answer_exact : (bytes : List ℕ) (r : Result Doc GmlFault) → IsAnswer bytes r → (answer : Result Pairs GmlFault) → Reads bytes answer → Answers r answer
+pub answer_exact : (bytes : List ℕ) (r : Result Doc GmlFault) → IsAnswer bytes r → (answer : Result Pairs GmlFault) → ParsesAs bytes answer → Answers r answer
 answer_exact bytes (Ok doc) a answer reads = reads_once bytes answer (Ok (tree doc)) reads a
 answer_exact bytes (Err fault) a answer reads = fault_answers bytes fault a answer reads

@@ -6,8 +6,8 @@ use Rattle.std.proofs.lemmas.Option.{none-some, same_Some}
 use Rattle.std.proofs.lemmas.List.{append-nil}
 use Rattle.std.proofs.Math.Seq.{take-length}
 use Rattle.gml_text.specs.Tree.{Pairs, depth}
-use Rattle.gml_text.specs.Grammar.{Spells}
-use Rattle.gml_text.specs.Parse.{most_open, Begins, BeginsWithinLimit, IsTooDeepAt, IsSyntaxAt, IsDocument, Reads}
+use Rattle.gml_text.specs.Grammar.{SpellsDocument}
+use Rattle.gml_text.specs.Parse.{most_open, Begins, BeginsWithinLimit, IsTooDeepAt, IsSyntaxAt, IsDocument, ParsesAs}
 use Rattle.gml_text.specs.Standing.{height, Leads, LeadsWithinLimit, IsFaultOf}
 use Rattle.gml_text.specs.View.{Answers}
 use Rattle.gml_text.specs.declared.fault.GmlFault.{GmlFault}
@@ -48,7 +48,7 @@ refused front b s leads e h =
     ∙ (sym (leads (b ∷ h.0)) ∙ (ap (λ x. accepted x start) (sym (append_assoc front (b ∷ []) h.0)) ∙ spelled_is_accepted h.1 ((front ++ b ∷ []) ++ h.0) h.2)))
 
 -- whatever begins so is at least as deep
-pub as_deep : (front : List ℕ) (s : State) → Leads front s → (more : List ℕ) (tree : Pairs) → Spells tree (front ++ more) → height s ≤ depth tree
+pub as_deep : (front : List ℕ) (s : State) → Leads front s → (more : List ℕ) (tree : Pairs) → SpellsDocument tree (front ++ more) → height s ≤ depth tree
 as_deep front s leads more tree h = accepted_height more s tree (sym (leads more) ∙ spelled_is_accepted tree (front ++ more) h)
 
 -- a longer front begins with a shorter one
@@ -61,13 +61,13 @@ longer_front (suc m) (suc n) (b ∷ bytes) h = let r = longer_front m n bytes (o
 shorter_begins : (m n : ℕ) (bytes : List ℕ) → m ≤ n → Begins (take n bytes) → Begins (take m bytes)
 shorter_begins m n bytes h b =
     let r = longer_front m n bytes h in
-    (r.0 ++ b.0, b.1, subst (Spells b.1) (ap (λ x. x ++ b.0) r.1 ∙ append_assoc (take m bytes) r.0 b.0) b.2)
+    (r.0 ++ b.0, b.1, subst (SpellsDocument b.1) (ap (λ x. x ++ b.0) r.1 ∙ append_assoc (take m bytes) r.0 b.0) b.2)
 
 -- no list is too deep in a front that begins a document within the limit
 shallow_front : (deep n : ℕ) (bytes : List ℕ) → deep < n → BeginsWithinLimit (take n bytes) → IsTooDeepAt bytes deep → ⊥
 shallow_front deep n bytes h b t =
     let r = longer_front (deep + 1) n bytes (omega arith) in
-    let over = t.deeper (r.0 ++ b.0) b.1 (subst (Spells b.1) (ap (λ x. x ++ b.0) r.1 ∙ append_assoc (take (deep + 1) bytes) r.0 b.0) b.2) in
+    let over = t.deeper (r.0 ++ b.0) b.1 (subst (SpellsDocument b.1) (ap (λ x. x ++ b.0) r.1 ∙ append_assoc (take (deep + 1) bytes) r.0 b.0) b.2) in
     omega (arith, over, b.3)
 
 -- where a byte is refused, the bytes before it are all that begin a document
@@ -77,7 +77,7 @@ syntax_at_byte bytes at b s h more r e =
     let none : (n : ℕ) → at < n → Begins (take n bytes) → ⊥ = λ n above begun.
     refused (take at bytes) b s r.leads e (subst Begins more (shorter_begins (at + 1) n bytes (omega arith) begun)) in
     record {
-      no_document = λ tree spelled. none (length bytes) h ([], tree, subst (Spells tree) (sym (take-length bytes) ∙ sym (append-nil (take (length bytes) bytes))) spelled);
+      no_document = λ tree spelled. none (length bytes) h ([], tree, subst (SpellsDocument tree) (sym (take-length bytes) ∙ sym (append-nil (take (length bytes) bytes))) spelled);
       not_too_deep = λ deep t. elim (cases_lt deep at) [
         | inl before ↦ shallow_front deep at bytes before (begins_within (take at bytes) s r) t
         | inr from ↦ none (deep + 1) (omega arith) t.begins
@@ -110,22 +110,22 @@ too_deep_at bytes at b s t h more r e many =
       before = begins_within (take at bytes) s r;
       begins = subst Begins (sym more) (begins_at (take at bytes ++ b ∷ []) t leads);
       deeper = λ rest tree spelled.
-          let over = as_deep (take at bytes ++ b ∷ []) t leads rest tree (subst (λ x. Spells tree (x ++ rest)) more spelled) in
+          let over = as_deep (take at bytes ++ b ∷ []) t leads rest tree (subst (λ x. SpellsDocument tree (x ++ rest)) more spelled) in
           omega (arith, many, over, lists_below t);
     }
 
 -- at the end of a document
-pub document_at_end : (bytes : List ℕ) (s : State) (tree : Pairs) → LeadsWithinLimit bytes s → accepted [] s ≡ Some tree → Spells tree bytes
+pub document_at_end : (bytes : List ℕ) (s : State) (tree : Pairs) → LeadsWithinLimit bytes s → accepted [] s ≡ Some tree → SpellsDocument tree bytes
 document_at_end bytes s tree r e =
     accepted_is_spelled bytes tree (ap (λ x. accepted x start) (sym (append-nil bytes)) ∙ (r.leads [] ∙ e))
 
-spelled_one : (tree other : Pairs) (bytes : List ℕ) → Spells tree bytes → Spells other bytes → tree ≡ other
+spelled_one : (tree other : Pairs) (bytes : List ℕ) → SpellsDocument tree bytes → SpellsDocument other bytes → tree ≡ other
 spelled_one tree other bytes s t = same_Some tree other (sym (spelled_is_accepted tree bytes s) ∙ spelled_is_accepted other bytes t)
 
 document_not_deep : (bytes : List ℕ) (tree : Pairs) (deep : ℕ) → IsDocument tree bytes → IsTooDeepAt bytes deep → ⊥
 document_not_deep bytes tree deep d t =
     shallow_front deep (length bytes) bytes t.within
-    ([], tree, subst (Spells tree) (sym (take-length bytes) ∙ sym (append-nil (take (length bytes) bytes))) d.spelled, d.within_limit) t
+    ([], tree, subst (SpellsDocument tree) (sym (take-length bytes) ∙ sym (append-nil (take (length bytes) bytes))) d.spelled, d.within_limit) t
 
 one_syntax : (bytes : List ℕ) (a b : ℕ) → IsSyntaxAt bytes a → IsSyntaxAt bytes b → a ≡ b
 one_syntax bytes a b s t =
@@ -148,7 +148,7 @@ one_too_deep bytes a b s t =
     ]
 
 -- bytes are read in one way
-pub reads_once : (bytes : List ℕ) (r s : Result Pairs GmlFault) → Reads bytes r → Reads bytes s → r ≡ s
+pub reads_once : (bytes : List ℕ) (r s : Result Pairs GmlFault) → ParsesAs bytes r → ParsesAs bytes s → r ≡ s
 reads_once bytes (Ok tree) (Ok other) x y = ap Ok (spelled_one tree other bytes x.spelled y.spelled)
 reads_once bytes (Ok tree) (Err (faults.Syntax at)) x y = absurd (y.no_document tree x.spelled)
 reads_once bytes (Ok tree) (Err (faults.TooDeep at)) x y = absurd (document_not_deep bytes tree at x y)
@@ -164,7 +164,7 @@ reads_once bytes (Err (faults.TooDeep at)) (Err faults.Memory) x y = absurd y
 reads_once bytes (Err faults.Memory) s x y = absurd x
 
 -- what a fault of the bytes says of each answer
-pub fault_answers : (bytes : List ℕ) (fault : GmlFault) → IsFaultOf bytes fault → (answer : Result Pairs GmlFault) → Reads bytes answer → Answers (Err fault) answer
+pub fault_answers : (bytes : List ℕ) (fault : GmlFault) → IsFaultOf bytes fault → (answer : Result Pairs GmlFault) → ParsesAs bytes answer → Answers (Err fault) answer
 fault_answers bytes (faults.Syntax at) f answer r = reads_once bytes answer (Err (faults.Syntax at)) r f
 fault_answers bytes (faults.TooDeep at) f answer r = reads_once bytes answer (Err (faults.TooDeep at)) r f
 fault_answers bytes faults.Memory f answer r = tt

@@ -5,7 +5,7 @@ use Rattle.gml_text.proofs.Views.{pairs-push}
 use Rattle.gml_text.specs.Tree.{Content, number, text, list, Pairs, no_pairs, pair, depth, ◌then◌}
 use Rattle.std.specs.List.{AllByRecursion, concat}
 use Rattle.std.proofs.lemmas.List.{append-nil}
-use Rattle.gml_text.specs.Grammar.{IsBlank, IsGap, EndsWord, SpellsPairs, SpellsValue, StandsApart, Spells}
+use Rattle.gml_text.specs.Grammar.{IsBlank, IsWhiteSpace, EndsWord, SpellsPairs, SpellsValue, StandsApart, SpellsDocument}
 use Rattle.gml_text.specs.Parse.{IsDocument}
 use Rattle.gml_text.specs.Printed.{indent, printed, printed_inside, printed_value, IsGrammatical, IsGrammaticalValue, IsPrintable}
 use Rattle.gml_text.proofs.Accepting.{gap_ends_word, stands_apart_append}
@@ -48,15 +48,15 @@ fits_inside ps i p level h e within =
     let same : depth (pairs (p ∷ [])) ≡ depth (pairs (get_or ps i p ∷ [])) = ap (λ x. depth (pairs (x ∷ []))) e in
     omega arith
 
-blanks_then_gap : (blanks : List (List ℕ)) (gap : List ℕ) → AllByRecursion IsBlank blanks → IsGap gap → IsGap (concat blanks ++ gap)
+blanks_then_gap : (blanks : List (List ℕ)) (gap : List ℕ) → AllByRecursion IsBlank blanks → IsWhiteSpace gap → IsWhiteSpace (concat blanks ++ gap)
 blanks_then_gap [] gap h g = g
 blanks_then_gap (x ∷ xs) gap h g =
-    subst IsGap (sym (append_assoc x (concat xs) gap)) (gap_cons x (concat xs ++ gap) h.0 (blanks_then_gap xs gap h.1 g))
+    subst IsWhiteSpace (sym (append_assoc x (concat xs) gap)) (gap_cons x (concat xs ++ gap) h.0 (blanks_then_gap xs gap h.1 g))
 
-gap_append : (a b : List ℕ) → IsGap a → IsGap b → IsGap (a ++ b)
-gap_append a b g h = subst (λ x. IsGap (x ++ b)) (sym g.1) (blanks_then_gap g.0 b g.2 h)
+gap_append : (a b : List ℕ) → IsWhiteSpace a → IsWhiteSpace b → IsWhiteSpace (a ++ b)
+gap_append a b g h = subst (λ x. IsWhiteSpace (x ++ b)) (sym g.1) (blanks_then_gap g.0 b g.2 h)
 
-indent_gap : (level : ℕ) → IsGap (indent level)
+indent_gap : (level : ℕ) → IsWhiteSpace (indent level)
 indent_gap zero = no_gap
 indent_gap (suc level) =
     gap_cons (32 ∷ []) (32 ∷ indent level) (space_blank 32 refl) (gap_cons (32 ∷ []) (indent level) (space_blank 32 refl) (indent_gap level))
@@ -65,7 +65,7 @@ regroup : (a b c d e f : List ℕ) → (a ++ (b ++ (c ++ (d ++ e)))) ++ f ≡ a 
 regroup a b c d e f = simp append_assoc
 
 -- white space may stand behind pairs
-gap_behind : (tree : Pairs) (bytes gap : List ℕ) → SpellsPairs tree bytes → IsGap gap → SpellsPairs tree (bytes ++ gap)
+gap_behind : (tree : Pairs) (bytes gap : List ℕ) → SpellsPairs tree bytes → IsWhiteSpace gap → SpellsPairs tree (bytes ++ gap)
 gap_behind no_pairs bytes gap h g = gap_append bytes gap h g
 gap_behind (pair key value rest) bytes gap h g =
     let ends = subst EndsWord (append-nil gap) (gap_ends_word gap [] g (inr tt)) in (
@@ -118,7 +118,7 @@ mutual
   )
 
 -- what is printed is a spelling
-pub printed_is_spelling : (tree : Pairs) → IsGrammatical tree → Spells tree (printed tree)
+pub printed_is_spelling : (tree : Pairs) → IsGrammatical tree → SpellsDocument tree (printed tree)
 printed_is_spelling tree g = record {
   body = printed tree;
   ending = [];

@@ -8,7 +8,7 @@ use Rattle.std.proofs.lemmas.Option.{none-some, same_Some}
 use Rattle.gml_text.specs.Bytes.{is_space, begins_key, is_key_byte, is_word_byte}
 use Rattle.gml_text.specs.Tree.{Content, number, text, list, Pairs, no_pairs, pair, ◌then◌}
 use Rattle.fixed_milli.specs.Number.{IsNumber}
-use Rattle.gml_text.specs.Grammar.{Lacks, IsBlank, IsGap, IsKey, EndsWord, StandsApart, SpellsPairs, SpellsValue, Spells}
+use Rattle.gml_text.specs.Grammar.{Lacks, IsBlank, IsWhiteSpace, IsKey, EndsWord, StandsApart, SpellsPairs, SpellsValue, SpellsDocument}
 use Rattle.gml_text.specs.Reading.{Where, between, behind, Mode, in_gap, in_comment, in_key, in_number, in_text, Frame, State, start, closed, begins, in_space, key_step, number_step, text_step, mode_step, stepped, whole, finished, accepted}
 use Rattle.gml_text.specs.Token.{begun, after, is_complete}
 use Rattle.gml_text.specs.declared.token.NumberPart.{NumberPart}
@@ -18,7 +18,7 @@ use Rattle.gml_text.proofs.Accepting.{at, then_assoc, then-none}
 
 -- between two pairs: pairs may come, then the brackets that close the lists, and at last the end of the document
 abbrev pub Rest : List Frame → Pairs → List ℕ → Pairs → Type 0
-Rest [] ps more tree = (next : Pairs) × Spells next more × (tree ≡ ps then next)
+Rest [] ps more tree = (next : Pairs) × SpellsDocument next more × (tree ≡ ps then next)
 Rest (f ∷ fs) ps more tree =
     (next : Pairs) × (body : List ℕ) × (rest : List ℕ) × (more ≡ body ++ 93 ∷ rest) × SpellsPairs next body
     × Rest fs (f.before then pair f.key (list (ps then next)) no_pairs) rest tree
@@ -30,7 +30,7 @@ pub record BehindKey (key : List ℕ) (fs : List Frame) (ps : Pairs) (more : Lis
   pub rest : List ℕ
   pub value : Content
   pub is_more : more ≡ space ++ (written ++ rest)
-  pub is_gap : IsGap space
+  pub is_gap : IsWhiteSpace space
   pub spelled : SpellsValue value written
   pub apart : StandsApart value (32 ∷ space) rest
   pub then_rest : Rest fs (ps then pair key value no_pairs) rest tree
@@ -44,7 +44,7 @@ pub record KeyRest (key : List ℕ) (fs : List Frame) (ps : Pairs) (more : List 
   pub value : Content
   pub is_more : more ≡ goes_on ++ (space ++ (written ++ rest))
   pub key_bytes : list_all is_key_byte goes_on ≡ true
-  pub is_gap : IsGap space
+  pub is_gap : IsWhiteSpace space
   pub spelled : SpellsValue value written
   pub apart : StandsApart value space rest
   pub then_rest : Rest fs (ps then pair (key ++ goes_on) value no_pairs) rest tree
@@ -77,10 +77,10 @@ went : (t : Bool) (x y : Option State) (more : List ℕ) (tree : Pairs) → Afte
 went true x y more tree h = inl (refl, h)
 went false x y more tree h = inr (refl, h)
 
-pub gap_cons : (blank gap : List ℕ) → IsBlank blank → IsGap gap → IsGap (blank ++ gap)
+pub gap_cons : (blank gap : List ℕ) → IsBlank blank → IsWhiteSpace gap → IsWhiteSpace (blank ++ gap)
 gap_cons blank gap b g = (blank ∷ g.0, ap (λ x. blank ++ x) g.1, (b, g.2))
 
-pub no_gap : IsGap []
+pub no_gap : IsWhiteSpace []
 no_gap = ([], refl, tt)
 
 pub blank_in_front : (tree : Pairs) (blank bytes : List ℕ) → IsBlank blank → SpellsPairs tree bytes → SpellsPairs tree (blank ++ bytes)
@@ -129,7 +129,7 @@ regroup : (a b c d e : List ℕ) → a ++ (b ++ (c ++ (d ++ e))) ≡ (a ++ (b ++
 regroup a b c d e = simp append_assoc
 
 -- a pair may stand in front of what comes between two pairs
-add_pair : (fs : List Frame) (ps : Pairs) (key space written rest : List ℕ) (value : Content) (tree : Pairs) → IsKey key → IsGap space
+add_pair : (fs : List Frame) (ps : Pairs) (key space written rest : List ℕ) (value : Content) (tree : Pairs) → IsKey key → IsWhiteSpace space
     → SpellsValue value written → StandsApart value space rest → Rest fs (ps then pair key value no_pairs) rest tree
     → Rest fs ps (key ++ (space ++ (written ++ rest))) tree
 add_pair [] ps key space written rest value tree k g v a r =
@@ -457,7 +457,7 @@ accepted_completes (b ∷ bs) s tree h =
     step_back s.mode s.lists s.pairs b bs tree (after_step (stepped s b) bs tree (λ t. accepted_completes bs t tree) h)
 
 -- what is accepted is spelled
-pub accepted_is_spelled : (bytes : List ℕ) (tree : Pairs) → accepted bytes start ≡ Some tree → Spells tree bytes
+pub accepted_is_spelled : (bytes : List ℕ) (tree : Pairs) → accepted bytes start ≡ Some tree → SpellsDocument tree bytes
 accepted_is_spelled bytes tree h =
     let r = accepted_completes bytes start tree h in
-    subst (λ x. Spells x bytes) (sym r.2) r.1
+    subst (λ x. SpellsDocument x bytes) (sym r.2) r.1

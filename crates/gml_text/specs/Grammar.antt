@@ -16,8 +16,8 @@ IsBlank bytes =
     ⊎ ((line : List ℕ) × (bytes ≡ codes "#" ++ (line ++ codes "\n")) × Lacks line_feed line)
 
 -- white space: any number of blanks
-abbrev pub IsGap : List ℕ → Type 0
-IsGap bytes = (blanks : List (List ℕ)) × (bytes ≡ concat blanks) × AllByRecursion IsBlank blanks
+abbrev pub IsWhiteSpace : List ℕ → Type 0
+IsWhiteSpace bytes = (blanks : List (List ℕ)) × (bytes ≡ concat blanks) × AllByRecursion IsBlank blanks
 
 -- a letter or `_`, then letters, digits and `_`
 abbrev pub IsKey : List ℕ → Type 0
@@ -38,11 +38,11 @@ StandsApart (list inner) space behind = Unit {0}
 abbrev mutual
   -- the bytes spell the pairs: a key, its value and white space before, between and behind them
   pub SpellsPairs : Pairs → List ℕ → Type 0
-  SpellsPairs no_pairs bytes = IsGap bytes
+  SpellsPairs no_pairs bytes = IsWhiteSpace bytes
   SpellsPairs (pair key value rest) bytes =
       (gap : List ℕ) × (space : List ℕ) × (written : List ℕ) × (behind : List ℕ)
       × (bytes ≡ gap ++ (key ++ (space ++ (written ++ behind))))
-      × IsGap gap × IsKey key × IsGap space × SpellsValue value written
+      × IsWhiteSpace gap × IsKey key × IsWhiteSpace space × SpellsValue value written
       × StandsApart value space behind × SpellsPairs rest behind
 
   -- the bytes spell the value: a number, bytes between quotes, or pairs between brackets
@@ -56,7 +56,7 @@ abbrev pub IsEnding : List ℕ → Type 0
 IsEnding bytes = (bytes ≡ []) ⊎ ((line : List ℕ) × (bytes ≡ codes "#" ++ line) × Lacks line_feed line)
 
 -- the bytes are a document, and spell its pairs
-pub record Spells (tree : Pairs) (bytes : List ℕ) : Type 0 where
+pub record SpellsDocument (tree : Pairs) (bytes : List ℕ) : Type 0 where
   pub body : List ℕ
   pub ending : List ℕ
   pub spelled : bytes ≡ body ++ ending

@@ -1,7 +1,7 @@
 -- What bytes are read as: a document within the limit of depth, or one of two faults.
 use Rattle.std.specs.Prelude.{ℕ, ◌+◌, ◌<◌, ◌≤◌, List, ◌++◌, length, take, Result, Ok, Err}
 use Rattle.gml_text.specs.Tree.{Pairs, depth}
-use Rattle.gml_text.specs.Grammar.{Spells}
+use Rattle.gml_text.specs.Grammar.{SpellsDocument}
 use Rattle.gml_text.specs.declared.fault.GmlFault.{GmlFault}
 use Rattle.gml_text.specs.declared.fault.GmlFault.TheVariants.{Syntax, TooDeep, Memory}
 
@@ -11,22 +11,22 @@ most_open = 64
 
 -- some document begins with the bytes: there are bytes that complete them
 abbrev pub Begins : List ℕ → Type 0
-Begins bytes = (more : List ℕ) × (tree : Pairs) × Spells tree (bytes ++ more)
+Begins bytes = (more : List ℕ) × (tree : Pairs) × SpellsDocument tree (bytes ++ more)
 
 -- and one that is not too deep
 abbrev pub BeginsWithinLimit : List ℕ → Type 0
-BeginsWithinLimit bytes = (more : List ℕ) × (tree : Pairs) × Spells tree (bytes ++ more) × (depth tree ≤ most_open)
+BeginsWithinLimit bytes = (more : List ℕ) × (tree : Pairs) × SpellsDocument tree (bytes ++ more) × (depth tree ≤ most_open)
 
 -- the byte there opens the first list too many: up to it a document within the limit begins, and with it deeper ones alone
 pub record IsTooDeepAt (bytes : List ℕ) (at : ℕ) : Type 0 where
   pub within : at < length bytes
   pub before : BeginsWithinLimit (take at bytes)
   pub begins : Begins (take (at + 1) bytes)
-  pub deeper : (more : List ℕ) (tree : Pairs) → Spells tree (take (at + 1) bytes ++ more) → most_open < depth tree
+  pub deeper : (more : List ℕ) (tree : Pairs) → SpellsDocument tree (take (at + 1) bytes ++ more) → most_open < depth tree
 
 -- the bytes are no document, no list is too deep, and so many of the bytes, and no more, begin a document
 pub record IsSyntaxAt (bytes : List ℕ) (at : ℕ) : Type 0 where
-  pub no_document : (tree : Pairs) → Spells tree bytes → ⊥
+  pub no_document : (tree : Pairs) → SpellsDocument tree bytes → ⊥
   pub not_too_deep : (deep : ℕ) → IsTooDeepAt bytes deep → ⊥
   pub within : at ≤ length bytes
   pub begins : Begins (take at bytes)
@@ -34,12 +34,12 @@ pub record IsSyntaxAt (bytes : List ℕ) (at : ℕ) : Type 0 where
 
 -- the bytes are a document within the limit, and spell the pairs
 pub record IsDocument (tree : Pairs) (bytes : List ℕ) : Type 0 where
-  pub spelled : Spells tree bytes
+  pub spelled : SpellsDocument tree bytes
   pub within_limit : depth tree ≤ most_open
 
 -- what the bytes are read as; that memory is wanting the bytes do not say
-abbrev pub Reads : List ℕ → Result Pairs GmlFault → Type 0
-Reads bytes (Ok tree) = IsDocument tree bytes
-Reads bytes (Err (Syntax at)) = IsSyntaxAt bytes at
-Reads bytes (Err (TooDeep at)) = IsTooDeepAt bytes at
-Reads bytes (Err Memory) = ⊥
+abbrev pub ParsesAs : List ℕ → Result Pairs GmlFault → Type 0
+ParsesAs bytes (Ok tree) = IsDocument tree bytes
+ParsesAs bytes (Err (Syntax at)) = IsSyntaxAt bytes at
+ParsesAs bytes (Err (TooDeep at)) = IsTooDeepAt bytes at
+ParsesAs bytes (Err Memory) = ⊥

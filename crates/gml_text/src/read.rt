@@ -1,7 +1,7 @@
 //! Reading a document.
 
 ghost use Rattle.std.specs.Prelude.{◌≡◌, ℕ, IfOk, Ok, Err, Result};
-ghost use Rattle.gml_text.specs.Parse.{IsDocument, IsSyntaxAt, IsTooDeepAt, Reads};
+ghost use Rattle.gml_text.specs.Parse.{IsDocument, IsSyntaxAt, IsTooDeepAt, ParsesAs};
 ghost use Rattle.gml_text.specs.Printed.{IsPrintable};
 ghost use Rattle.gml_text.specs.Tree.{Pairs};
 ghost use Rattle.gml_text.specs.View.{Answers, tree};
@@ -31,7 +31,7 @@ pub fn parse(alloc: Global, bytes: &[u8]) -> Result<Doc, GmlFault>
     ensures printable { IfOk result (λ doc. IsPrintable (tree doc)) }
 
     // Whatever the bytes are read as is the answer, unless memory is wanting.
-    ensures exact { (answer : Result Pairs GmlFault) → Reads bytes.now answer → Answers result answer }
+    ensures exact { (answer : Result Pairs GmlFault) → ParsesAs bytes.now answer → Answers result answer }
 {
     let mut reader = Reader::new(alloc);
     let mut at = scan::gap_end(bytes, 0);

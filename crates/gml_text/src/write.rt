@@ -1,7 +1,7 @@
 //! Writing a document in its printed form.
 
 ghost use Rattle.std.specs.Prelude.{◌≡◌, ◌+◌, ◌++◌, ◌≤◌, ◌∷◌, [], IfOk, OnOk};
-ghost use Rattle.gml_text.specs.Grammar.{Spells};
+ghost use Rattle.gml_text.specs.Grammar.{SpellsDocument};
 ghost use Rattle.gml_text.specs.Parse.{most_open};
 ghost use Rattle.gml_text.specs.Printed.{indent, printed, printed_inside, printed_value, IsPrintable};
 ghost use Rattle.gml_text.specs.Tree.{depth, value_depth, pair};
@@ -89,7 +89,7 @@ pub fn print(alloc: Global, doc: &Doc) -> Result<Vec<u8>, AllocError>
     ensures printed { IfOk result (λ out. out.items ≡ printed (tree doc.now)) }
 
     // So it is read again as the same tree.
-    ensures spelled { IfOk result (λ out. Spells (tree doc.now) out.items) }
+    ensures spelled { IfOk result (λ out. SpellsDocument (tree doc.now) out.items) }
 {
     let mut out = Vec::new(alloc);
     put_lines(&mut out, &doc.pairs, 0)?;

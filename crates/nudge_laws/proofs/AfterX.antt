@@ -10,17 +10,17 @@ use Rattle.plane_geom.specs.declared.rect.Solid.{Solid}
 use Rattle.separation_model.specs.declared.bundle.Solution.{Solution}
 use Rattle.plane_geom.specs.Floor.{Holds}
 use Rattle.segment_order.specs.declared.run.Run.{Run}
-use Rattle.segment_order.specs.Run.{AreRunsOf, run_at, no_run, line_of}
+use Rattle.segment_order.specs.Run.{AreRunsOf, run_at, no_run, line_of_run}
 use Rattle.walk_model.specs.declared.task.Choice.{Choice}
 use Rattle.walk_model.specs.Choice.{IsChoice}
 use Rattle.walk_model.specs.Legal.{IsLegal}
 use Rattle.channel_bundles.specs.declared.route.PhaseRoute.{PhaseRoute}
-use Rattle.run_laws.specs.LegalRuns.{walk_along, steps_of_run}
+use Rattle.nudge_laws.specs.LegalRuns.{walk_along, steps_of_run}
 use Rattle.nudge_laws.specs.Phase.{IsPhase}
 use Rattle.nudge_laws.specs.Ready.{AreRaw, HaveLength, HoldsPorts, IsReady}
 use Rattle.channel_bundles.specs.Limits.{MayMove}
 use Rattle.nudge_laws.proofs.Corners.{may_stay, short_may_stay}
-use Rattle.run_laws.proofs.FromTheWalk.{from_walk, source_held, target_held}
+use Rattle.nudge_laws.proofs.AlongRuns.FromTheWalk.{from_walk, source_held, target_held}
 use Rattle.nudge_laws.proofs.PhaseKept.{phase_ready, phase_edges, phase_long, phase_legal, phase_short}
 
 some_steps : (r : Run) → r.lo <ℤ r.hi → 0 < steps_of_run r
@@ -70,6 +70,6 @@ ports_of_walk solids route s e are hs he long from to legal =
     let via = route.anchors.via.items in
     let steps : (k : ℕ) → k < length rs → 0 < steps_of_run (run_at rs k) = λ k h. some_steps (run_at rs k) (long k no_run h) in
     record {
-      source = subst (Holds (line_of (run_at rs 0))) from (source_held solids via s rs e route.edge are hs he are.some steps legal);
-      target = subst (Holds (line_of (run_at rs (length rs - 1)))) to (target_held solids via s rs e route.edge are hs he are.some steps legal);
+      source = subst (Holds (line_of_run (run_at rs 0))) from (source_held solids via s rs e route.edge are hs he are.some steps legal);
+      target = subst (Holds (line_of_run (run_at rs (length rs - 1)))) to (target_held solids via s rs e route.edge are hs he are.some steps legal);
     }

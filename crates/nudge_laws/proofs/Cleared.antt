@@ -17,8 +17,8 @@ use Rattle.plane_geom.proofs.Pieces.{covered}
 use Rattle.segment_order.specs.declared.run.Run.{Run}
 use Rattle.segment_order.specs.Run.{IsRun, end_in}
 use Rattle.channel_bundles.specs.Limits.{Sweeps}
-use Rattle.run_laws.specs.LegalRuns.{IsClear}
-use Rattle.run_laws.proofs.Ends.{far_end, end_far}
+use Rattle.nudge_laws.specs.LegalRuns.{IsClear}
+use Rattle.nudge_laws.proofs.AlongRuns.Ends.{far_end, end_far}
 use Rattle.nudge_laws.proofs.Ends.{turned}
 
 -- the rectangle's open range across lines of the way has a place in common with the closed one

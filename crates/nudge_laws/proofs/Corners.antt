@@ -12,15 +12,15 @@ use Rattle.plane_geom.specs.Along.{across, along, reach}
 use Rattle.plane_geom.specs.Point.{IsCoordinate, opposite}
 use Rattle.plane_geom.specs.Floor.{point_on, Holds}
 use Rattle.segment_order.specs.declared.run.Run.{Run}
-use Rattle.segment_order.specs.Run.{AreRunsOf, IsRun, run_at, no_run, line_of, start_of, end_of, end_in}
+use Rattle.segment_order.specs.Run.{AreRunsOf, IsRun, run_at, no_run, line_of_run, start_of_run, end_of_run, end_in}
 use Rattle.channel_bundles.specs.declared.route.PhaseRoute.{PhaseRoute}
 use Rattle.channel_bundles.specs.Route.{IsFixed, HasToReach, HasToLeave}
 use Rattle.channel_bundles.specs.Limits.{IsReached, MayStandAt, MayMove}
 use Rattle.nudge_laws.specs.Moved.{corner, runs_way, stretch, moved_run}
 use Rattle.walk_model.specs.declared.task.Choice.{Choice}
-use Rattle.run_laws.specs.LegalRuns.{IsClear, IsLegalAlong, PassesOn, Station}
+use Rattle.nudge_laws.specs.LegalRuns.{IsClear, IsLegalAlong, PassesOn, Station}
 use Rattle.nudge_laws.specs.Ready.{HoldsPorts}
-use Rattle.run_laws.proofs.Ends.{far_end, end_far}
+use Rattle.nudge_laws.proofs.AlongRuns.Ends.{far_end, end_far}
 use Rattle.channel_bundles.proofs.Placing.{is_own}
 use Rattle.nudge_laws.proofs.Ends.{turned, by_way, on_turned, end_moved, here_on, stretch_way, stretch_heading, stretch_edge, stretch_place, stretch_begin, stretch_end, stretch_is_run, stretch_holds, stretch_same, other_way, across_end, along_end, across_turned, along_turned, from_begin, to_end, held_from, held_to, reached_on, reached_back, back_reached, far_coordinate, reached_same}
 use Rattle.nudge_laws.proofs.Cleared.{Moves, end_moves, clear_moved, run_clear, stays_free}
@@ -76,14 +76,14 @@ module _ (route : PhaseRoute) (edge : ℕ) (are : AreRunsOf edge route.runs.item
 
   pub behind_begin : (k : ℕ) (c : Point) → k < size → HasToLeave route k c → IsReached (run k).heading (old_begin k) (along (run k).way c)
   behind_begin k c h (HasToLeave.target_port e f) =
-      held_from (run k).heading (run k) c (subst (λ (p : Point). Holds (line_of (run k)) p) (sym f) (subst (λ j. Holds (line_of (run_at rs j)) route.anchors.target_port) (omega (arith, e)) ports.target))
+      held_from (run k).heading (run k) c (subst (λ (p : Point). Holds (line_of_run (run k)) p) (sym f) (subst (λ j. Holds (line_of_run (run_at rs j)) route.anchors.target_port) (omega (arith, e)) ports.target))
   behind_begin k c h (HasToLeave.last_tip m e f) =
       subst (IsReached (run k).heading (old_begin k)) (sym (ap (along (run k).way) f ∙ along_end (run k).heading (run k))) (ordered k h)
   behind_begin k c h (HasToLeave.checkpoint_behind m e) = held_from (run k).heading (run k) c e
 
   pub before_end : (k : ℕ) (c : Point) → k < size → HasToReach route k c → IsReached (run k).heading (along (run k).way c) (old_end k)
   before_end k c h (HasToReach.source_port e f) =
-      held_to (run k).heading (run k) c (subst (λ (p : Point). Holds (line_of (run k)) p) (sym f) (subst (λ j. Holds (line_of (run_at rs j)) route.anchors.source_port) (sym e) ports.source))
+      held_to (run k).heading (run k) c (subst (λ (p : Point). Holds (line_of_run (run k)) p) (sym f) (subst (λ j. Holds (line_of_run (run_at rs j)) route.anchors.source_port) (sym e) ports.source))
   before_end k c h (HasToReach.first_tip m e f) =
       subst (λ z. IsReached (run k).heading z (old_end k)) (sym (ap (along (run k).way) f ∙ along_end (opposite (run k).heading) (run k))) (ordered k h)
   before_end k c h (HasToReach.checkpoint_ahead m e) = held_to (run k).heading (run k) c e
@@ -94,8 +94,8 @@ module _ (route : PhaseRoute) (edge : ℕ) (are : AreRunsOf edge route.runs.item
       let d = (run k).heading in
       let e = opposite (run (k + 1)).heading in
       let join = are.joined k h in (
-        sym (along_end e (run (k + 1))) ∙ ap (λ w. along w (start_of (run (k + 1)))) other ∙ along_turned way (start_of (run (k + 1))) ∙ ap (across way) (sym join) ∙ ap (λ w. across w (end_of (run k))) (sym own) ∙ across_end d (run k),
-        sym (along_end d (run k)) ∙ ap (λ w. along w (end_of (run k))) own ∙ ap (along way) join ∙ sym (across_turned way (start_of (run (k + 1)))) ∙ ap (λ w. across w (start_of (run (k + 1)))) (sym other) ∙ across_end e (run (k + 1)),
+        sym (along_end e (run (k + 1))) ∙ ap (λ w. along w (start_of_run (run (k + 1)))) other ∙ along_turned way (start_of_run (run (k + 1))) ∙ ap (across way) (sym join) ∙ ap (λ w. across w (end_of_run (run k))) (sym own) ∙ across_end d (run k),
+        sym (along_end d (run k)) ∙ ap (λ w. along w (end_of_run (run k))) own ∙ ap (along way) join ∙ sym (across_turned way (start_of_run (run (k + 1)))) ∙ ap (λ w. across w (start_of_run (run (k + 1)))) (sym other) ∙ across_end e (run (k + 1)),
       )
 
   pub end_at : (way : Way) (k : ℕ) → k + 1 < size → (run (k + 1)).way ≡ way → (run k).way ≡ turned way → (old_end k ≡ (run (k + 1)).at) × (far_end (opposite (run (k + 1)).heading) (run (k + 1)) ≡ (run k).at)
@@ -103,12 +103,12 @@ module _ (route : PhaseRoute) (edge : ℕ) (are : AreRunsOf edge route.runs.item
       let d = (run k).heading in
       let e = opposite (run (k + 1)).heading in
       let join = are.joined k h in (
-        sym (along_end d (run k)) ∙ ap (λ w. along w (end_of (run k))) other ∙ along_turned way (end_of (run k)) ∙ ap (across way) join ∙ ap (λ w. across w (start_of (run (k + 1)))) (sym own) ∙ across_end e (run (k + 1)),
-        sym (along_end e (run (k + 1))) ∙ ap (λ w. along w (start_of (run (k + 1)))) own ∙ ap (along way) (sym join) ∙ sym (across_turned way (end_of (run k))) ∙ ap (λ w. across w (end_of (run k))) (sym other) ∙ across_end d (run k),
+        sym (along_end d (run k)) ∙ ap (λ w. along w (end_of_run (run k))) other ∙ along_turned way (end_of_run (run k)) ∙ ap (across way) join ∙ ap (λ w. across w (start_of_run (run (k + 1)))) (sym own) ∙ across_end e (run (k + 1)),
+        sym (along_end e (run (k + 1))) ∙ ap (λ w. along w (start_of_run (run (k + 1)))) own ∙ ap (along way) (sym join) ∙ sym (across_turned way (end_of_run (run k))) ∙ ap (λ w. across w (end_of_run (run k))) (sym other) ∙ across_end d (run k),
       )
 
   -- a route that is legal along its runs may stand where it stands
-  pub may_stay : (solids : List Solid) (way : Way) → ((k : ℕ) → 0 < k → k + 1 < size → IsClear solids (start_of (run k)) (end_of (run k))) → MayMove solids way route
+  pub may_stay : (solids : List Solid) (way : Way) → ((k : ℕ) → 0 < k → k + 1 < size → IsClear solids (start_of_run (run k)) (end_of_run (run k))) → MayMove solids way route
   may_stay solids way clear k h own movable =
       let r = run k in
       let begun : 0 < k = elim (cases_lt 0 k) as (λ _. 0 < k) [ inl l ↦ l | inr none ↦ absurd (movable (IsFixed.is_first (omega arith))) ] in
@@ -145,10 +145,10 @@ module _ (route : PhaseRoute) (edge : ℕ) (are : AreRunsOf edge route.runs.item
   module _ (solids : List Solid) (way : Way) (ats : List ℤ) (settled : IsSettled solids way route ats) where
     -- the new coordinate along the run, of its begin and of its end
     abbrev pub new_begin : ℕ → ℤ
-    new_begin k = corner way rs ats (k - 1) (along (run k).way (start_of (run k)))
+    new_begin k = corner way rs ats (k - 1) (along (run k).way (start_of_run (run k)))
 
     abbrev pub new_end : ℕ → ℤ
-    new_end k = corner way rs ats (k + 1) (along (run k).way (end_of (run k)))
+    new_end k = corner way rs ats (k + 1) (along (run k).way (end_of_run (run k)))
 
     -- the new begin of a run across the way
     pub record IsBegin (k : ℕ) : Type 0 where
@@ -183,7 +183,7 @@ module _ (route : PhaseRoute) (edge : ℕ) (are : AreRunsOf edge route.runs.item
     }
 
     new_begin_own : (k : ℕ) → k + 1 < size → (run k).way ≡ way → new_begin (k + 1) ≡ int_at ats k
-    new_begin_own k h own = ap (λ i. corner way rs ats i (along (run (k + 1)).way (start_of (run (k + 1))))) (omega arith) ∙ corner_own way rs ats k _ (omega arith) own
+    new_begin_own k h own = ap (λ i. corner way rs ats i (along (run (k + 1)).way (start_of_run (run (k + 1))))) (omega arith) ∙ corner_own way rs ats k _ (omega arith) own
 
     new_end_own : (k : ℕ) → k + 1 < size → (run (k + 1)).way ≡ way → new_end k ≡ int_at ats (k + 1)
     new_end_own k h own = corner_own way rs ats (k + 1) _ h own
@@ -239,7 +239,7 @@ module _ (route : PhaseRoute) (edge : ℕ) (are : AreRunsOf edge route.runs.item
     begin_same : (k : ℕ) → k + 1 < size → (run k).way ≡ turned way → new_begin (k + 1) ≡ old_begin (k + 1)
     begin_same k h one =
         let back : k + 1 - 1 ≡ k = omega arith in
-        ap (λ i. corner way rs ats i (along (run (k + 1)).way (start_of (run (k + 1))))) back ∙ corner_other way rs ats k _ (omega arith) one ∙ along_end (opposite (run (k + 1)).heading) (run (k + 1))
+        ap (λ i. corner way rs ats i (along (run (k + 1)).way (start_of_run (run (k + 1))))) back ∙ corner_other way rs ats k _ (omega arith) one ∙ along_end (opposite (run (k + 1)).heading) (run (k + 1))
 
     end_same : (k : ℕ) → k + 1 < size → (run (k + 1)).way ≡ turned way → new_end k ≡ old_end k
     end_same k h one = corner_other way rs ats (k + 1) _ h one ∙ along_end (run k).heading (run k)
@@ -248,7 +248,7 @@ module _ (route : PhaseRoute) (edge : ℕ) (are : AreRunsOf edge route.runs.item
     end_past k e = corner_past way rs ats (k + 1) _ (omega (arith, e)) ∙ along_end (run k).heading (run k)
 
     begin_zero : 0 < size → (run 0).way ≡ turned way → new_begin 0 ≡ old_begin 0
-    begin_zero h other = ap (λ i. corner way rs ats i (along (run 0).way (start_of (run 0)))) (omega arith) ∙ corner_other way rs ats 0 _ h other ∙ along_end (opposite (run 0).heading) (run 0)
+    begin_zero h other = ap (λ i. corner way rs ats i (along (run 0).way (start_of_run (run 0)))) (omega arith) ∙ corner_other way rs ats 0 _ h other ∙ along_end (opposite (run 0).heading) (run 0)
 
     begin_first : 0 < size → (run 0).way ≡ turned way → IsBegin 0
     begin_first h other =
@@ -260,7 +260,7 @@ module _ (route : PhaseRoute) (edge : ℕ) (are : AreRunsOf edge route.runs.item
         let d = (run (k + 1)).heading in
         let back : k + 1 - 1 ≡ k = omega arith in
         let begin = along_end (opposite d) (run (k + 1)) in
-        begin_stays (k + 1) (start_of (run (k + 1))) h (begin_same k h one)
+        begin_stays (k + 1) (start_of_run (run (k + 1))) h (begin_same k h one)
         (HasToReach.first_tip (omega arith) (ap (λ i. (run i).way) back ∙ one ∙ sym other) refl)
         (subst (IsReached d (old_begin (k + 1))) (sym begin) (reached_same d (old_begin (k + 1))))
 
@@ -268,13 +268,13 @@ module _ (route : PhaseRoute) (edge : ℕ) (are : AreRunsOf edge route.runs.item
     end_last k e =
         end_stays k route.anchors.target_port (omega (arith, e))
         (end_past k e)
-        (HasToLeave.target_port e refl) (held_to (run k).heading (run k) _ (subst (λ j. Holds (line_of (run_at rs j)) route.anchors.target_port) (omega (arith, e)) ports.target))
+        (HasToLeave.target_port e refl) (held_to (run k).heading (run k) _ (subst (λ j. Holds (line_of_run (run_at rs j)) route.anchors.target_port) (omega (arith, e)) ports.target))
 
     end_tip : (k : ℕ) → k + 1 < size → (run (k + 1)).way ≡ turned way → (run k).way ≡ turned way → IsFinish k
     end_tip k h one other =
         let d = (run k).heading in
         let finish = along_end d (run k) in
-        end_stays k (end_of (run k)) (omega arith)
+        end_stays k (end_of_run (run k)) (omega arith)
         (end_same k h one)
         (HasToLeave.last_tip h (one ∙ sym other) refl)
         (subst (λ z. IsReached d z (old_end k)) (sym finish) (reached_same d (old_end k)))
@@ -334,21 +334,21 @@ module _ (route : PhaseRoute) (edge : ℕ) (are : AreRunsOf edge route.runs.item
     pub new_place : (k : ℕ) → (new k).place ≡ (run k).place
     new_place k = by_way (run k).way way (λ own. ap (λ (r : Run). r.place) (new_own k own)) (λ other. ap (λ (r : Run). r.place) (new_other k other) ∙ stretch_place _ _ _ _)
 
-    start_own : (k : ℕ) → (run k).way ≡ way → start_of (new k) ≡ point_on (run k).way (int_at ats k) (old_begin k)
-    start_own k own = ap start_of (new_own k own) ∙ end_moved (opposite (run k).heading) (run k) (int_at ats k)
+    start_own : (k : ℕ) → (run k).way ≡ way → start_of_run (new k) ≡ point_on (run k).way (int_at ats k) (old_begin k)
+    start_own k own = ap start_of_run (new_own k own) ∙ end_moved (opposite (run k).heading) (run k) (int_at ats k)
 
-    end_own : (k : ℕ) → (run k).way ≡ way → end_of (new k) ≡ point_on (run k).way (int_at ats k) (old_end k)
-    end_own k own = ap end_of (new_own k own) ∙ end_moved (run k).heading (run k) (int_at ats k)
+    end_own : (k : ℕ) → (run k).way ≡ way → end_of_run (new k) ≡ point_on (run k).way (int_at ats k) (old_end k)
+    end_own k own = ap end_of_run (new_own k own) ∙ end_moved (run k).heading (run k) (int_at ats k)
 
-    start_other : (k : ℕ) → (run k).way ≡ turned way → start_of (new k) ≡ point_on (run k).way (run k).at (new_begin k)
+    start_other : (k : ℕ) → (run k).way ≡ turned way → start_of_run (new k) ≡ point_on (run k).way (run k).at (new_begin k)
     start_other k other =
         let s = stretch (run k).heading (run k) (new_begin k) (new_end k) in
-        ap start_of (new_other k other) ∙ ap (λ e. end_in (opposite e) s) (stretch_heading _ _ _ _) ∙ stretch_begin (run k).heading (run k) (new_begin k) (new_end k)
+        ap start_of_run (new_other k other) ∙ ap (λ e. end_in (opposite e) s) (stretch_heading _ _ _ _) ∙ stretch_begin (run k).heading (run k) (new_begin k) (new_end k)
 
-    end_other : (k : ℕ) → (run k).way ≡ turned way → end_of (new k) ≡ point_on (run k).way (run k).at (new_end k)
+    end_other : (k : ℕ) → (run k).way ≡ turned way → end_of_run (new k) ≡ point_on (run k).way (run k).at (new_end k)
     end_other k other =
         let s = stretch (run k).heading (run k) (new_begin k) (new_end k) in
-        ap end_of (new_other k other) ∙ ap (λ e. end_in e s) (stretch_heading _ _ _ _) ∙ stretch_end (run k).heading (run k) (new_begin k) (new_end k)
+        ap end_of_run (new_other k other) ∙ ap (λ e. end_in e s) (stretch_heading _ _ _ _) ∙ stretch_end (run k).heading (run k) (new_begin k) (new_end k)
 
     new_is_run : (k : ℕ) → k < size → IsRun (new k)
     new_is_run k h =
@@ -364,7 +364,7 @@ module _ (route : PhaseRoute) (edge : ℕ) (are : AreRunsOf edge route.runs.item
         (λ other. subst IsRun (sym (new_other k other))
         (stretch_is_run (run k).heading (run k) (new_begin k) (new_end k) is refl (begun k h other).coordinate (finished k h other).coordinate (keeps_order k h other)))
 
-    new_joined : (k : ℕ) → k + 1 < size → end_of (new k) ≡ start_of (new (k + 1))
+    new_joined : (k : ℕ) → k + 1 < size → end_of_run (new k) ≡ start_of_run (new (k + 1))
     new_joined k h =
         by_way (run k).way way
         (λ one. by_way (run (k + 1)).way way
@@ -372,7 +372,7 @@ module _ (route : PhaseRoute) (edge : ℕ) (are : AreRunsOf edge route.runs.item
         let back : k + 1 - 1 ≡ k = omega arith in
         let first = new_stays k one (settled.stays k (omega arith) one (IsFixed.doubles_back h (two ∙ sym one))) in
         let second = new_stays (k + 1) two (settled.stays (k + 1) h two (IsFixed.was_doubled_back (omega arith) (ap (λ i. (run i).way) back ∙ one ∙ sym two))) in
-        ap end_of first ∙ are.joined k h ∙ sym (ap start_of second))
+        ap end_of_run first ∙ are.joined k h ∙ sym (ap start_of_run second))
         (λ two.
         let at = begin_at way k h one two in
         end_own k one ∙ ap (λ w. point_on w (int_at ats k) (old_end k)) one ∙ on_turned way (int_at ats k) (old_end k)
@@ -395,56 +395,56 @@ module _ (route : PhaseRoute) (edge : ℕ) (are : AreRunsOf edge route.runs.item
       each = λ k h. subst IsRun (sym (moved k (omega (arith, count)))) (new_is_run k (omega (arith, count)));
       edges = λ k h. ap (λ (r : Run). r.edge) (moved k (omega (arith, count))) ∙ new_edge k ∙ are.edges k (omega (arith, count));
       places = λ k h. ap (λ (r : Run). r.place) (moved k (omega (arith, count))) ∙ new_place k ∙ are.places k (omega (arith, count));
-      joined = λ k h. ap end_of (moved k (omega (arith, count))) ∙ new_joined k (omega (arith, count)) ∙ sym (ap start_of (moved (k + 1) (omega (arith, count))));
+      joined = λ k h. ap end_of_run (moved k (omega (arith, count))) ∙ new_joined k (omega (arith, count)) ∙ sym (ap start_of_run (moved (k + 1) (omega (arith, count))));
       turns = λ k h e. are.turns k (omega (arith, count))
           (sym (new_heading k) ∙ sym (ap (λ (r : Run). r.heading) (moved k (omega (arith, count)))) ∙ e ∙ ap (λ (r : Run). r.heading) (moved (k + 1) (omega (arith, count))) ∙ new_heading (k + 1));
     }
 
     -- a point of a run that keeps between the new ends is on the run as it is now
-    held_other : (k : ℕ) (c : Point) → k < size → (run k).way ≡ turned way → Holds (line_of (run k)) c → IsReached (run k).heading (new_begin k) (along (run k).way c) → IsReached (run k).heading (along (run k).way c) (new_end k) → Holds (line_of (new k)) c
+    held_other : (k : ℕ) (c : Point) → k < size → (run k).way ≡ turned way → Holds (line_of_run (run k)) c → IsReached (run k).heading (new_begin k) (along (run k).way c) → IsReached (run k).heading (along (run k).way c) (new_end k) → Holds (line_of_run (new k)) c
     held_other k c h other holds from to =
-        subst (λ (r : Run). Holds (line_of r) c) (sym (new_other k other)) (stretch_holds (run k).heading (run k) (new_begin k) (new_end k) (along (run k).way c) c from to (here_on (run k) c holds))
+        subst (λ (r : Run). Holds (line_of_run r) c) (sym (new_other k other)) (stretch_holds (run k).heading (run k) (new_begin k) (new_end k) (along (run k).way c) c from to (here_on (run k) c holds))
 
-    held_same : (k : ℕ) (c : Point) → new k ≡ run k → Holds (line_of (run k)) c → Holds (line_of (new k)) c
-    held_same k c e holds = subst (λ (r : Run). Holds (line_of r) c) (sym e) holds
+    held_same : (k : ℕ) (c : Point) → new k ≡ run k → Holds (line_of_run (run k)) c → Holds (line_of_run (new k)) c
+    held_same k c e holds = subst (λ (r : Run). Holds (line_of_run r) c) (sym e) holds
 
     -- checkpoints stay on their runs
-    pub keeps_checkpoint : (k : ℕ) (c : Point) → k < size → Contains route.anchors.via.items c → Holds (line_of (run k)) c → Holds (line_of (new k)) c
+    pub keeps_checkpoint : (k : ℕ) (c : Point) → k < size → Contains route.anchors.via.items c → Holds (line_of_run (run k)) c → Holds (line_of_run (new k)) c
     keeps_checkpoint k c h has holds =
-        by_way {P = Holds (line_of (new k)) c} (run k).way way
+        by_way {P = Holds (line_of_run (new k)) c} (run k).way way
         (λ own.
-        let some : Any (Holds (line_of (run k))) route.anchors.via.items = (has.0, c, has.1, has.2, holds) in
+        let some : Any (Holds (line_of_run (run k))) route.anchors.via.items = (has.0, c, has.1, has.2, holds) in
         held_same k c (new_stays k own (settled.stays k h own (IsFixed.has_checkpoint some))) holds)
         (λ other. held_other k c h other holds ((begun k h other).leaves c (HasToLeave.checkpoint_behind has holds)) ((finished k h other).reaches c (HasToReach.checkpoint_ahead has holds)))
 
     -- the first run and the last one
-    pub keeps_start : 0 < size → start_of (new 0) ≡ start_of (run 0)
+    pub keeps_start : 0 < size → start_of_run (new 0) ≡ start_of_run (run 0)
     keeps_start h =
         by_way (run 0).way way
-        (λ own. ap start_of (new_stays 0 own (settled.stays 0 h own (IsFixed.is_first refl))))
+        (λ own. ap start_of_run (new_stays 0 own (settled.stays 0 h own (IsFixed.is_first refl))))
         (λ other. start_other 0 other ∙ ap (point_on (run 0).way (run 0).at) (begin_zero h other) ∙ sym (end_far (opposite (run 0).heading) (run 0)))
 
-    pub keeps_end : (k : ℕ) → k + 1 ≡ size → end_of (new k) ≡ end_of (run k)
+    pub keeps_end : (k : ℕ) → k + 1 ≡ size → end_of_run (new k) ≡ end_of_run (run k)
     keeps_end k e =
         by_way (run k).way way
-        (λ own. ap end_of (new_stays k own (settled.stays k (omega (arith, e)) own (IsFixed.is_last e))))
+        (λ own. ap end_of_run (new_stays k own (settled.stays k (omega (arith, e)) own (IsFixed.is_last e))))
         (λ other. end_other k other ∙ ap (point_on (run k).way (run k).at) (end_past k e) ∙ sym (end_far (run k).heading (run k)))
 
-    pub keeps_source : 0 < size → Holds (line_of (new 0)) route.anchors.source_port
+    pub keeps_source : 0 < size → Holds (line_of_run (new 0)) route.anchors.source_port
     keeps_source h =
-        by_way {P = Holds (line_of (new 0)) route.anchors.source_port} (run 0).way way
+        by_way {P = Holds (line_of_run (new 0)) route.anchors.source_port} (run 0).way way
         (λ own. held_same 0 _ (new_stays 0 own (settled.stays 0 h own (IsFixed.is_first refl))) ports.source)
         (λ other. held_other 0 _ h other ports.source
         (subst (λ z. IsReached (run 0).heading z (along (run 0).way route.anchors.source_port)) (sym (begin_zero h other)) (held_from (run 0).heading (run 0) _ ports.source))
         ((finished 0 h other).reaches _ (HasToReach.source_port refl refl)))
 
-    target_held : (k : ℕ) → k + 1 ≡ size → Holds (line_of (run k)) route.anchors.target_port
-    target_held k e = subst (λ j. Holds (line_of (run_at rs j)) route.anchors.target_port) (omega (arith, e)) ports.target
+    target_held : (k : ℕ) → k + 1 ≡ size → Holds (line_of_run (run k)) route.anchors.target_port
+    target_held k e = subst (λ j. Holds (line_of_run (run_at rs j)) route.anchors.target_port) (omega (arith, e)) ports.target
 
-    pub keeps_target : (k : ℕ) → k + 1 ≡ size → Holds (line_of (new k)) route.anchors.target_port
+    pub keeps_target : (k : ℕ) → k + 1 ≡ size → Holds (line_of_run (new k)) route.anchors.target_port
     keeps_target k e =
         let h : k < size = omega (arith, e) in
-        by_way {P = Holds (line_of (new k)) route.anchors.target_port} (run k).way way
+        by_way {P = Holds (line_of_run (new k)) route.anchors.target_port} (run k).way way
         (λ own. held_same k _ (new_stays k own (settled.stays k h own (IsFixed.is_last e))) (target_held k e))
         (λ other. held_other k _ h other (target_held k e)
         ((begun k h other).leaves _ (HasToLeave.target_port e refl))
@@ -454,10 +454,10 @@ module _ (route : PhaseRoute) (edge : ℕ) (are : AreRunsOf edge route.runs.item
     clear_points : (p p' q q' : Point) → p ≡ p' → q ≡ q' → IsClear solids p q → IsClear solids p' q'
     clear_points p p' q q' e f c = subst (λ a. IsClear solids a q') e (subst (λ b. IsClear solids p b) f c)
 
-    pub keeps_clear_from : 0 < size → IsClear solids route.anchors.source_port (end_of (run 0)) → IsClear solids route.anchors.source_port (end_of (new 0))
+    pub keeps_clear_from : 0 < size → IsClear solids route.anchors.source_port (end_of_run (run 0)) → IsClear solids route.anchors.source_port (end_of_run (new 0))
     keeps_clear_from h clear =
-        by_way {P = IsClear solids route.anchors.source_port (end_of (new 0))} (run 0).way way
-        (λ own. clear_points _ _ _ _ refl (sym (ap end_of (new_stays 0 own (settled.stays 0 h own (IsFixed.is_first refl))))) clear)
+        by_way {P = IsClear solids route.anchors.source_port (end_of_run (new 0))} (run 0).way way
+        (λ own. clear_points _ _ _ _ refl (sym (ap end_of_run (new_stays 0 own (settled.stays 0 h own (IsFixed.is_first refl))))) clear)
         (λ other.
         let c = route.anchors.source_port in
         let on = here_on (run 0) c ports.source in
@@ -465,11 +465,11 @@ module _ (route : PhaseRoute) (edge : ℕ) (are : AreRunsOf edge route.runs.item
         clear_points _ _ _ _ (sym on) (sym (end_other 0 other))
         (clear_moved solids (run 0).way (run 0).at z (old_end 0) z (new_end 0) (clear_points _ _ _ _ on (end_far (run 0).heading (run 0)) clear) (inl refl) (finished 0 h other).moves))
 
-    pub keeps_clear_to : (k : ℕ) → k + 1 ≡ size → IsClear solids (start_of (run k)) route.anchors.target_port → IsClear solids (start_of (new k)) route.anchors.target_port
+    pub keeps_clear_to : (k : ℕ) → k + 1 ≡ size → IsClear solids (start_of_run (run k)) route.anchors.target_port → IsClear solids (start_of_run (new k)) route.anchors.target_port
     keeps_clear_to k e clear =
         let h : k < size = omega (arith, e) in
-        by_way {P = IsClear solids (start_of (new k)) route.anchors.target_port} (run k).way way
-        (λ own. clear_points _ _ _ _ (sym (ap start_of (new_stays k own (settled.stays k h own (IsFixed.is_last e))))) refl clear)
+        by_way {P = IsClear solids (start_of_run (new k)) route.anchors.target_port} (run k).way way
+        (λ own. clear_points _ _ _ _ (sym (ap start_of_run (new_stays k own (settled.stays k h own (IsFixed.is_last e))))) refl clear)
         (λ other.
         let c = route.anchors.target_port in
         let on = here_on (run k) c (target_held k e) in
@@ -477,11 +477,11 @@ module _ (route : PhaseRoute) (edge : ℕ) (are : AreRunsOf edge route.runs.item
         clear_points _ _ _ _ (sym (start_other k other)) (sym on)
         (clear_moved solids (run k).way (run k).at (old_begin k) z (new_begin k) z (clear_points _ _ _ _ (end_far (opposite (run k).heading) (run k)) on clear) (begun k h other).moves (inl refl)))
 
-    pub keeps_clear : (k : ℕ) → k < size → IsClear solids (start_of (run k)) (end_of (run k)) → IsClear solids (start_of (new k)) (end_of (new k))
+    pub keeps_clear : (k : ℕ) → k < size → IsClear solids (start_of_run (run k)) (end_of_run (run k)) → IsClear solids (start_of_run (new k)) (end_of_run (new k))
     keeps_clear k h clear =
-        by_way {P = IsClear solids (start_of (new k)) (end_of (new k))} (run k).way way
-        (λ own. elim (settled.stands k h own) as (λ _. IsClear solids (start_of (new k)) (end_of (new k))) [
-          | inl same ↦ (let e = new_stays k own same in clear_points _ _ _ _ (sym (ap start_of e)) (sym (ap end_of e)) clear)
+        by_way {P = IsClear solids (start_of_run (new k)) (end_of_run (new k))} (run k).way way
+        (λ own. elim (settled.stands k h own) as (λ _. IsClear solids (start_of_run (new k)) (end_of_run (new k))) [
+          | inl same ↦ (let e = new_stays k own same in clear_points _ _ _ _ (sym (ap start_of_run e)) (sym (ap end_of_run e)) clear)
           | inr may ↦ clear_points _ _ _ _ (sym (start_own k own)) (sym (end_own k own)) (run_clear solids (run k).heading (run k) (int_at ats k) (are.each k h) may.free)
         ])
         (λ other. clear_points _ _ _ _ (sym (start_other k other)) (sym (end_other k other))
@@ -525,7 +525,7 @@ module _ (route : PhaseRoute) (edge : ℕ) (are : AreRunsOf edge route.runs.item
             omega (arith, count, p.1),
             p.2,
             p.3,
-            subst (λ (r : Run). Holds (line_of r) c) (sym (moved k p.1)) (keeps_checkpoint k c p.1 (within c (0, omega arith, refl)) p.4),
+            subst (λ (r : Run). Holds (line_of_run r) c) (sym (moved k p.1)) (keeps_checkpoint k c p.1 (within c (0, omega arith, refl)) p.4),
             p.5 ∙ ap (λ d. reach d c) (sym (new_heading k) ∙ sym (ap (λ (r : Run). r.heading) (moved k p.1))),
             keeps_passes cs at to (λ b has. within b (suc has.0, omega (arith, has.1), has.2)) p.6,
           )
@@ -540,16 +540,16 @@ module _ (route : PhaseRoute) (edge : ℕ) (are : AreRunsOf edge route.runs.item
           let at_last : run_at after (length after - 1) ≡ new (size - 1) = ap (λ n. run_at after (n - 1)) count ∙ moved (size - 1) fewer in
           record {
             some = omega (arith, legal.some, count);
-            begins = ap start_of at_first ∙ keeps_start first ∙ legal.begins;
+            begins = ap start_of_run at_first ∙ keeps_start first ∙ legal.begins;
             leaves = ap (λ (r : Run). r.heading) at_first ∙ new_heading 0 ∙ legal.leaves;
-            source_port = subst (λ (r : Run). Holds (line_of r) s.port) (sym at_first) (subst (Holds (line_of (new 0))) (sym from) (keeps_source first));
-            ends = ap end_of at_last ∙ keeps_end (size - 1) last ∙ legal.ends;
+            source_port = subst (λ (r : Run). Holds (line_of_run r) s.port) (sym at_first) (subst (Holds (line_of_run (new 0))) (sym from) (keeps_source first));
+            ends = ap end_of_run at_last ∙ keeps_end (size - 1) last ∙ legal.ends;
             arrives = ap (λ (r : Run). r.heading) at_last ∙ new_heading (size - 1) ∙ legal.arrives;
-            target_port = subst (λ (r : Run). Holds (line_of r) e.port) (sym at_last) (subst (Holds (line_of (new (size - 1)))) (sym to) (keeps_target (size - 1) last));
-            from_port = clear_points _ _ _ _ (sym from) (sym (ap end_of at_first)) (keeps_clear_from first (clear_points _ _ _ _ from refl legal.from_port));
-            between = λ k h g. clear_points _ _ _ _ (sym (ap start_of (moved k (omega (arith, count))))) (sym (ap end_of (moved k (omega (arith, count)))))
+            target_port = subst (λ (r : Run). Holds (line_of_run r) e.port) (sym at_last) (subst (Holds (line_of_run (new (size - 1)))) (sym to) (keeps_target (size - 1) last));
+            from_port = clear_points _ _ _ _ (sym from) (sym (ap end_of_run at_first)) (keeps_clear_from first (clear_points _ _ _ _ from refl legal.from_port));
+            between = λ k h g. clear_points _ _ _ _ (sym (ap start_of_run (moved k (omega (arith, count))))) (sym (ap end_of_run (moved k (omega (arith, count)))))
                 (keeps_clear k (omega (arith, count)) (legal.between k h (omega (arith, count))));
-            to_port = clear_points _ _ _ _ (sym (ap start_of at_last)) (sym to) (keeps_clear_to (size - 1) last (clear_points _ _ _ _ refl to legal.to_port));
+            to_port = clear_points _ _ _ _ (sym (ap start_of_run at_last)) (sym to) (keeps_clear_to (size - 1) last (clear_points _ _ _ _ refl to legal.to_port));
             passes = subst (λ n. PassesOn after (record { run = 0; reach = reach s.dir s.port }) (record { run = n - 1; reach = reach (opposite e.dir) e.port }) route.anchors.via.items) (sym count)
                 (keeps_passes route.anchors.via.items _ _ (λ c has. has) legal.passes);
           }

@@ -10,8 +10,8 @@ use Rattle.plane_geom.specs.Point.{IsCoordinate, opposite}
 use Rattle.plane_geom.specs.Floor.{point_on, Holds}
 use Rattle.segment_order.specs.declared.run.Run.{Run}
 use Rattle.plane_geom.specs.Along.{across, along}
-use Rattle.segment_order.specs.Run.{IsRun, end_in, line_of}
-use Rattle.run_laws.proofs.Ends.{far_end, end_far}
+use Rattle.segment_order.specs.Run.{IsRun, end_in, line_of_run}
+use Rattle.nudge_laws.proofs.AlongRuns.Ends.{far_end, end_far}
 use Rattle.channel_bundles.specs.Route.{is_way}
 use Rattle.channel_bundles.specs.Limits.{IsReached}
 use Rattle.nudge_laws.specs.Moved.{stretch}
@@ -142,7 +142,7 @@ stretch_end South r p q = refl
 stretch_end West r p q = refl
 stretch_end North r p q = refl
 
-pub stretch_holds : (d : Dir) (r : Run) (p q z : ℤ) (c : Point) → IsReached d p z → IsReached d z q → c ≡ point_on r.way r.at z → Holds (line_of (stretch d r p q)) c
+pub stretch_holds : (d : Dir) (r : Run) (p q z : ℤ) (c : Point) → IsReached d p z → IsReached d z q → c ≡ point_on r.way r.at z → Holds (line_of_run (stretch d r p q)) c
 stretch_holds East r p q z c h k e = record { along = z; from = h; to = k; here = e }
 stretch_holds South r p q z c h k e = record { along = z; from = h; to = k; here = e }
 stretch_holds West r p q z c h k e = record { along = z; from = k; to = h; here = e }
@@ -161,13 +161,13 @@ far_coordinate West r h = h.lo
 far_coordinate North r h = h.lo
 
 -- the place of a point on a run
-pub holds_along : (r : Run) (c : Point) (h : Holds (line_of r) c) → along r.way c ≡ h.along
+pub holds_along : (r : Run) (c : Point) (h : Holds (line_of_run r) c) → along r.way c ≡ h.along
 holds_along r c h = ap (along r.way) h.here ∙ along_on r.way r.at h.along
 
-pub held_from : (d : Dir) (r : Run) (c : Point) → Holds (line_of r) c → IsReached d (far_end (opposite d) r) (along r.way c)
+pub held_from : (d : Dir) (r : Run) (c : Point) → Holds (line_of_run r) c → IsReached d (far_end (opposite d) r) (along r.way c)
 held_from d r c h = subst (IsReached d (far_end (opposite d) r)) (sym (holds_along r c h)) (from_begin d r h.along h.from h.to)
 
-pub held_to : (d : Dir) (r : Run) (c : Point) → Holds (line_of r) c → IsReached d (along r.way c) (far_end d r)
+pub held_to : (d : Dir) (r : Run) (c : Point) → Holds (line_of_run r) c → IsReached d (along r.way c) (far_end d r)
 held_to d r c h = subst (λ z. IsReached d z (far_end d r)) (sym (holds_along r c h)) (to_end d r h.along h.from h.to)
 
 -- the run at another coordinate
@@ -177,7 +177,7 @@ end_moved South r z = refl
 end_moved West r z = refl
 end_moved North r z = refl
 
-pub here_on : (r : Run) (c : Point) → Holds (line_of r) c → c ≡ point_on r.way r.at (along r.way c)
+pub here_on : (r : Run) (c : Point) → Holds (line_of_run r) c → c ≡ point_on r.way r.at (along r.way c)
 here_on r c h = h.here ∙ ap (point_on r.way r.at) (sym (holds_along r c h))
 
 pub stretch_same : (d : Dir) (r : Run) → stretch d r (far_end (opposite d) r) (far_end d r) ≡ r

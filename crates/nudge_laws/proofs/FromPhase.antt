@@ -36,7 +36,7 @@ use Rattle.separation_model.specs.Rounded.{IsRoundedDown}
 use Rattle.nudge_laws.specs.Moved.{IsPutAt}
 use Rattle.nudge_laws.specs.Phase.{IsSolutionOf}
 use Rattle.nudge_laws.specs.Ready.{HaveLength, HoldsPorts}
-use Rattle.run_laws.proofs.Ends.{far_end}
+use Rattle.nudge_laws.proofs.AlongRuns.Ends.{far_end}
 use Rattle.nudge_laws.proofs.Ends.{turned}
 use Rattle.nudge_laws.proofs.Corners.{IsSettled, begin_at, end_at}
 

@@ -1,4 +1,5 @@
 -- The lemmas on both phases, callees first.
+pub mod AlongRuns
 pub mod Ends
 pub mod Cleared
 pub mod Corners

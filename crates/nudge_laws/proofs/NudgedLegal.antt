@@ -12,13 +12,13 @@ use Rattle.walk_model.specs.declared.route.WrittenRoute.{WrittenRoute}
 use Rattle.walk_model.specs.Legal.{IsLegal}
 use Rattle.walk_laws.proofs.Tours.{tour_from_legal}
 use Rattle.channel_bundles.specs.declared.route.PhaseRoute.{PhaseRoute}
-use Rattle.run_laws.specs.LegalRuns.{IsLegalAlong, walk_along}
+use Rattle.nudge_laws.specs.LegalRuns.{IsLegalAlong, walk_along}
 use Rattle.nudge_laws.specs.Nudged.{IsNudged, KeepsLegal}
 use Rattle.channel_bundles.specs.Route.{IsPhaseRoute}
 use Rattle.nudge_laws.specs.Apart.{KeepsApart}
 use Rattle.nudge_laws.specs.Ready.{AreRaw, HaveLength, IsReady}
-use Rattle.run_laws.proofs.FromTheWalk.{from_walk}
-use Rattle.run_laws.proofs.ToTheWalk.{legal_walk}
+use Rattle.nudge_laws.proofs.AlongRuns.FromTheWalk.{from_walk}
+use Rattle.nudge_laws.proofs.AlongRuns.ToTheWalk.{legal_walk}
 use Rattle.nudge_laws.proofs.AfterX.{horizontal, x_ready, x_edges, x_vertical}
 use Rattle.nudge_laws.proofs.PhaseKept.{keeps_apart, phase_ready, phase_legal, phase_short}
 

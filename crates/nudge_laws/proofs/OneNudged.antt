@@ -17,9 +17,9 @@ use Rattle.channel_bundles.specs.declared.channel.RunBundle.{RunBundle}
 use Rattle.channel_bundles.specs.Route.{IsPhaseRoute}
 use Rattle.channel_bundles.specs.Limits.{MayMove}
 use Rattle.channel_bundles.specs.Links.{IsNudge}
-use Rattle.run_laws.specs.LegalRuns.{walk_along}
+use Rattle.nudge_laws.specs.LegalRuns.{walk_along}
 use Rattle.nudge_laws.specs.Alike.{AreRoutesAlike, IsRouteAlike}
-use Rattle.nudge_laws.specs.Nudged.{IsNudged, IsWritten}
+use Rattle.nudge_laws.specs.Nudged.{IsNudged, IsWrittenLine}
 use Rattle.nudge_laws.specs.Ready.{AreRaw, AreWalked, IsReady}
 use Rattle.nudge_laws.proofs.OneResult.{one_phase}
 use Rattle.nudge_laws.proofs.AfterX.{both_may_move, x_ready, x_edges}
@@ -34,7 +34,7 @@ like_itself routes = record {
 }
 
 -- routes that are alike have one written line
-one_line : (a b : PhaseRoute) (line other : WrittenRoute) → IsRouteAlike a b → IsWritten a line → IsWritten b other → line ≡ other
+one_line : (a b : PhaseRoute) (line other : WrittenRoute) → IsRouteAlike a b → IsWrittenLine a line → IsWrittenLine b other → line ≡ other
 one_line a b line other same one two =
     let w = walk_along a.runs.items in
     let draws : Draws other.points w = subst (λ rs. Draws other.points (walk_along rs)) (sym same.runs) two.draws in

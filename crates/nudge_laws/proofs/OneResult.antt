@@ -8,7 +8,7 @@ use Rattle.std.proofs.lemmas.Option.{slice_get_within, slice_get-get_or, slice_g
 use Rattle.plane_geom.specs.declared.point.Way.{Way}
 use Rattle.plane_geom.specs.declared.rect.Solid.{Solid}
 use Rattle.segment_order.specs.declared.run.Run.{Run}
-use Rattle.segment_order.specs.Run.{no_run, run_at, start_of, end_of}
+use Rattle.segment_order.specs.Run.{no_run, run_at, start_of_run, end_of_run}
 use Rattle.plane_geom.specs.Along.{along}
 use Rattle.separation_model.specs.declared.bundle.Bundle.{Bundle}
 use Rattle.separation_model.specs.declared.bundle.Rule.{Rule}
@@ -146,8 +146,8 @@ module _ (way : Way) (runs : List Run) (ats others : List ℤ) (agree : (k : ℕ
   pub moved_same : (k : ℕ) → k < length runs → moved_run way runs ats k ≡ moved_run way runs others k
   moved_same k h =
       let r = run_at runs k in
-      let from = along r.way (start_of r) in
-      let to = along r.way (end_of r) in
+      let from = along r.way (start_of_run r) in
+      let to = along r.way (end_of_run r) in
       moved_by (is_way r.way way) r (int_at ats k) (int_at others k)
       (stretch r.heading r (corner way runs ats (k - 1) from) (corner way runs ats (k + 1) to)) (stretch r.heading r (corner way runs others (k - 1) from) (corner way runs others (k + 1) to))
       (λ own. agree k h (own_way r.way way own))

@@ -10,7 +10,7 @@ use Rattle.plane_geom.specs.Point.{PointIsOnSheet}
 use Rattle.plane_geom.specs.Floor.{Holds}
 use Rattle.separation_model.specs.declared.bundle.Solution.{Solution}
 use Rattle.segment_order.specs.declared.run.Run.{Run}
-use Rattle.segment_order.specs.Run.{AreRunsOf, run_at, line_of, no_run}
+use Rattle.segment_order.specs.Run.{AreRunsOf, run_at, line_of_run, no_run}
 use Rattle.walk_model.specs.declared.task.Choice.{Choice}
 use Rattle.channel_bundles.specs.declared.route.PhaseRoute.{PhaseRoute}
 use Rattle.channel_bundles.specs.declared.channel.RunBundle.{RunBundle}
@@ -18,7 +18,7 @@ use Rattle.channel_bundles.specs.Route.{IsPhaseRoute}
 use Rattle.channel_bundles.specs.Limits.{MayMove}
 use Rattle.nudge_laws.specs.Moved.{IsMoved, moved_run}
 use Rattle.nudge_laws.specs.Phase.{IsPhase}
-use Rattle.run_laws.specs.LegalRuns.{IsLegalAlong}
+use Rattle.nudge_laws.specs.LegalRuns.{IsLegalAlong}
 use Rattle.nudge_laws.specs.Ready.{HaveLength, IsReady}
 use Rattle.nudge_laws.proofs.Ends.{turned}
 use Rattle.nudge_laws.proofs.Corners.{IsSettled, moved_runs, keeps_source, keeps_target, keeps_length, keeps_legal_along, new_way, short_stays, may_stay}
@@ -46,10 +46,10 @@ module _ (solids : List Solid) (way : Way) (found : List RunBundle) (solutions :
           weight_high = omega (arith, moved.weight, ready.phase.weight_high);
         };
         ports = record {
-          source = subst (λ (r : Run). Holds (line_of r) after.anchors.source_port) (sym (moved.runs 0 first))
-              (subst (Holds (line_of (moved_run way before.runs.items moved.ats 0))) (sym moved.source) (keeps_source before before.edge are ready.ports solids way moved.ats settled first));
-          target = subst (λ (r : Run). Holds (line_of r) after.anchors.target_port) (sym at_last)
-              (subst (Holds (line_of (moved_run way before.runs.items moved.ats (n - 1)))) (sym moved.target) (keeps_target before before.edge are ready.ports solids way moved.ats settled (n - 1) last));
+          source = subst (λ (r : Run). Holds (line_of_run r) after.anchors.source_port) (sym (moved.runs 0 first))
+              (subst (Holds (line_of_run (moved_run way before.runs.items moved.ats 0))) (sym moved.source) (keeps_source before before.edge are ready.ports solids way moved.ats settled first));
+          target = subst (λ (r : Run). Holds (line_of_run r) after.anchors.target_port) (sym at_last)
+              (subst (Holds (line_of_run (moved_run way before.runs.items moved.ats (n - 1)))) (sym moved.target) (keeps_target before before.edge are ready.ports solids way moved.ats settled (n - 1) last));
         };
       }
 

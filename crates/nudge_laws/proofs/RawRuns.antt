@@ -10,12 +10,12 @@ use Rattle.plane_geom.specs.Along.{way_of, along}
 use Rattle.plane_geom.specs.Point.{IsStraight, distance, heading}
 use Rattle.plane_geom.proofs.Headings.{same_point}
 use Rattle.segment_order.specs.declared.run.Run.{Run}
-use Rattle.segment_order.specs.Run.{point_at, run_between, runs_along}
+use Rattle.segment_order.specs.Run.{point_at_index, run_between, runs_along}
 use Rattle.segment_order.proofs.Headings.{Goes, goes}
 use Rattle.segment_order.proofs.Runs.{from_to}
 use Rattle.walk_model.specs.Line.{AreStraight, Draws, IsStraightLine, steps_through}
 use Rattle.walk_model.specs.Walk.{Walk}
-use Rattle.run_laws.specs.LegalRuns.{steps_of_run, steps_along, walk_along}
+use Rattle.nudge_laws.specs.LegalRuns.{steps_of_run, steps_along, walk_along}
 
 steps_with : (d : Dir) (p q : Point) → Goes d p q → unsigned_abs (int_max (along (way_of d) p) (along (way_of d) q) -ℤ int_min (along (way_of d) p) (along (way_of d) q)) ≡ distance p q
 steps_with East p q g = omega (arith, ints, clamps, g.0, g.1)
@@ -48,10 +48,10 @@ long_with West p q g apart = omega (arith, ints, clamps, g.0)
 long_with North p q g apart = by_lt_z q.y p.y (λ l. omega (arith, ints, clamps, l)) (λ l. absurd (apart (same_point p q g.1 (omega (arith, ints, g.0, l)))))
 
 -- where neighbouring corners differ, the runs all have some length
-pub long_runs : (edge place : ℕ) (points : List Point) → IsStraightLine points → ((k : ℕ) → k + 1 < length points → point_at points k ≢ point_at points (k + 1)) → All (λ (r : Run). r.lo <ℤ r.hi) (runs_along edge place points)
+pub long_runs : (edge place : ℕ) (points : List Point) → IsStraightLine points → ((k : ℕ) → k + 1 < length points → point_at_index points k ≢ point_at_index points (k + 1)) → All (λ (r : Run). r.lo <ℤ r.hi) (runs_along edge place points)
 long_runs edge place [] straight apart = All-nil (λ (r : Run). r.lo <ℤ r.hi)
 long_runs edge place (p ∷ []) straight apart = All-nil (λ (r : Run). r.lo <ℤ r.hi)
 long_runs edge place (p ∷ q ∷ qs) straight apart =
     All-cons (λ (r : Run). r.lo <ℤ r.hi) (run_between edge place p q) (runs_along edge (place + 1) (q ∷ qs))
     (long_with (heading p q) p q (goes p q straight.0) (λ e. apart 0 (omega arith) e))
-    (long_runs edge (place + 1) (q ∷ qs) straight.1 (λ k h e. apart (suc k) (omega arith) (e ∙ ap (point_at (p ∷ q ∷ qs)) (let n : suc (k + 1) ≡ suc k + 1 = omega arith in n))))
+    (long_runs edge (place + 1) (q ∷ qs) straight.1 (λ k h e. apart (suc k) (omega arith) (e ∙ ap (point_at_index (p ∷ q ∷ qs)) (let n : suc (k + 1) ≡ suc k + 1 = omega arith in n))))

@@ -14,7 +14,7 @@ use Rattle.plane_geom.specs.Point.{opposite}
 use Rattle.plane_geom.specs.Along.{across}
 use Rattle.plane_geom.specs.Floor.{Holds}
 use Rattle.segment_order.specs.declared.run.Run.{Run}
-use Rattle.segment_order.specs.Run.{run_at, line_of, start_of, end_of}
+use Rattle.segment_order.specs.Run.{run_at, line_of_run, start_of_run, end_of_run}
 use Rattle.segment_order.specs.Order.{Key, compare_keys, key_of}
 use Rattle.channel_bundles.specs.declared.route.PhaseRoute.{PhaseRoute}
 use Rattle.channel_bundles.specs.declared.member.Member.{Member}
@@ -42,23 +42,23 @@ module _ (a b : PhaseRoute) (same : IsRouteAlike a b) where
   fixed_alike k (IsFixed.is_first e) = IsFixed.is_first e
   fixed_alike k (IsFixed.is_last e) = IsFixed.is_last (e ∙ ap length same.runs)
   fixed_alike k (IsFixed.has_checkpoint some) =
-      IsFixed.has_checkpoint (subst (λ rs. Any (Holds (line_of (run_at rs k))) b.anchors.via.items) same.runs (subst (Any (Holds (line_of (run_at a.runs.items k)))) same.via some))
+      IsFixed.has_checkpoint (subst (λ rs. Any (Holds (line_of_run (run_at rs k))) b.anchors.via.items) same.runs (subst (Any (Holds (line_of_run (run_at a.runs.items k)))) same.via some))
   fixed_alike k (IsFixed.doubles_back h e) = IsFixed.doubles_back (omega (arith, h, ap length same.runs)) (subst (λ rs. (run_at rs (k + 1)).way ≡ (run_at rs k).way) same.runs e)
   fixed_alike k (IsFixed.was_doubled_back h e) = IsFixed.was_doubled_back h (subst (λ rs. (run_at rs (k - 1)).way ≡ (run_at rs k).way) same.runs e)
 
   reach_alike : (k : ℕ) (p : Point) → HasToReach a k p → HasToReach b k p
   reach_alike k p (HasToReach.source_port e f) = HasToReach.source_port e (f ∙ same.source)
   reach_alike k p (HasToReach.first_tip h e f) =
-      HasToReach.first_tip h (subst (λ rs. (run_at rs (k - 1)).way ≡ (run_at rs k).way) same.runs e) (f ∙ ap (λ rs. start_of (run_at rs k)) same.runs)
+      HasToReach.first_tip h (subst (λ rs. (run_at rs (k - 1)).way ≡ (run_at rs k).way) same.runs e) (f ∙ ap (λ rs. start_of_run (run_at rs k)) same.runs)
   reach_alike k p (HasToReach.checkpoint_ahead has holds) =
-      HasToReach.checkpoint_ahead (subst (λ ps. Contains ps p) same.via has) (subst (λ rs. Holds (line_of (run_at rs k)) p) same.runs holds)
+      HasToReach.checkpoint_ahead (subst (λ ps. Contains ps p) same.via has) (subst (λ rs. Holds (line_of_run (run_at rs k)) p) same.runs holds)
 
   leave_alike : (k : ℕ) (p : Point) → HasToLeave a k p → HasToLeave b k p
   leave_alike k p (HasToLeave.target_port e f) = HasToLeave.target_port (e ∙ ap length same.runs) (f ∙ same.target)
   leave_alike k p (HasToLeave.last_tip h e f) =
-      HasToLeave.last_tip (omega (arith, h, ap length same.runs)) (subst (λ rs. (run_at rs (k + 1)).way ≡ (run_at rs k).way) same.runs e) (f ∙ ap (λ rs. end_of (run_at rs k)) same.runs)
+      HasToLeave.last_tip (omega (arith, h, ap length same.runs)) (subst (λ rs. (run_at rs (k + 1)).way ≡ (run_at rs k).way) same.runs e) (f ∙ ap (λ rs. end_of_run (run_at rs k)) same.runs)
   leave_alike k p (HasToLeave.checkpoint_behind has holds) =
-      HasToLeave.checkpoint_behind (subst (λ ps. Contains ps p) same.via has) (subst (λ rs. Holds (line_of (run_at rs k)) p) same.runs holds)
+      HasToLeave.checkpoint_behind (subst (λ ps. Contains ps p) same.via has) (subst (λ rs. Holds (line_of_run (run_at rs k)) p) same.runs holds)
 
 module _ (solids : List Solid) (a b : PhaseRoute) (same : IsRouteAlike a b) where
   stands_alike : (k : ℕ) (z : ℤ) → MayStandAt solids a k z → MayStandAt solids b k z

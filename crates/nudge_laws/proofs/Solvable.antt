@@ -12,7 +12,7 @@ use Rattle.plane_geom.specs.declared.rect.Solid.{Solid}
 use Rattle.plane_geom.specs.Point.{IsCoordinate}
 use Rattle.segment_order.specs.declared.run.Run.{Run}
 use Rattle.plane_geom.specs.Along.{along}
-use Rattle.segment_order.specs.Run.{run_at, start_of, end_of}
+use Rattle.segment_order.specs.Run.{run_at, start_of_run, end_of_run}
 use Rattle.separation_model.specs.declared.bundle.Solution.{Solution}
 use Rattle.separation_model.specs.Bundle.{IsBundle, int_at, most_items}
 use Rattle.channel_bundles.specs.declared.route.PhaseRoute.{PhaseRoute}
@@ -138,8 +138,8 @@ way_by false r s t e f = f
 moved_way : (way : Way) (runs : List Run) (ats : List ℤ) (k : ℕ) → (moved_run way runs ats k).way ≡ (run_at runs k).way
 moved_way way runs ats k =
     let r = run_at runs k in
-    let from = corner way runs ats (k - 1) (along r.way (start_of r)) in
-    let to = corner way runs ats (k + 1) (along r.way (end_of r)) in
+    let from = corner way runs ats (k - 1) (along r.way (start_of_run r)) in
+    let to = corner way runs ats (k + 1) (along r.way (end_of_run r)) in
     way_by (is_way r.way way) r (record r { at = int_at ats k }) (stretch r.heading r from to) refl (stretch_way r.heading r from to)
 
 as_many_by : (way : Way) (a b : Way) (r s : Run) (rs ss : List Run) → a ≡ b → length rs ≡ length ss → length (if is_way a way then r ∷ rs else rs) ≡ length (if is_way b way then s ∷ ss else ss)

@@ -8,7 +8,7 @@ use Rattle.separation_model.specs.declared.bundle.Solution.{Solution}
 use Rattle.separation_model.specs.Bundle.{int_at}
 use Rattle.separation_model.specs.Rounded.{IsRoundedDown}
 use Rattle.segment_order.specs.declared.run.Run.{Run}
-use Rattle.segment_order.specs.Run.{run_at, start_of, end_of}
+use Rattle.segment_order.specs.Run.{run_at, start_of_run, end_of_run}
 use Rattle.channel_bundles.specs.declared.route.PhaseRoute.{PhaseRoute}
 use Rattle.channel_bundles.specs.declared.channel.RunBundle.{RunBundle}
 use Rattle.channel_bundles.specs.Route.{is_way}
@@ -45,7 +45,7 @@ abbrev pub moved_run : Way → List Run → List ℤ → ℕ → Run
 moved_run way runs ats k =
     let r = run_at runs k in
     if is_way r.way way then record r { at = int_at ats k }
-    else stretch r.heading r (corner way runs ats (k - 1) (along r.way (start_of r))) (corner way runs ats (k + 1) (along r.way (end_of r)))
+    else stretch r.heading r (corner way runs ats (k - 1) (along r.way (start_of_run r))) (corner way runs ats (k + 1) (along r.way (end_of_run r)))
 
 -- the route, with its runs of the way where the solutions put them
 pub record IsMoved (way : Way) (found : List RunBundle) (solutions : List Solution) (before after : PhaseRoute) : Type 0 where

@@ -12,10 +12,10 @@ use Rattle.walk_model.specs.Legal.{IsLegal}
 use Rattle.walk_model.specs.Choice.{IsChoice}
 use Rattle.channel_bundles.specs.declared.route.PhaseRoute.{PhaseRoute}
 use Rattle.nudge_laws.specs.Phase.{IsPhase}
-use Rattle.run_laws.specs.LegalRuns.{walk_along}
+use Rattle.nudge_laws.specs.LegalRuns.{walk_along}
 
 -- the line goes along the walk of the route, and has a point at each end and where a run of the walk begins, and no other
-pub record IsWritten (route : PhaseRoute) (line : WrittenRoute) : Type 0 where
+pub record IsWrittenLine (route : PhaseRoute) (line : WrittenRoute) : Type 0 where
   pub edge : line.edge ≡ route.edge
   pub draws : Draws line.points (walk_along route.runs.items)
   pub corners : length line.points ≡ runs (walk_along route.runs.items).steps + 1
@@ -27,7 +27,7 @@ pub record IsNudged (solids : List Solid) (raw : List PhaseRoute) (nudge : ℤ) 
   pub x : IsPhase solids raw Vertical nudge after_x x_solutions
   pub y : IsPhase solids after_x Horizontal nudge after_y y_solutions
   pub count : length lines ≡ length after_y
-  pub written : (k : ℕ) (route : PhaseRoute) (line : WrittenRoute) → slice_get after_y k ≡ Some route → slice_get lines k ≡ Some line → IsWritten route line
+  pub written : (k : ℕ) (route : PhaseRoute) (line : WrittenRoute) → slice_get after_y k ≡ Some route → slice_get lines k ≡ Some line → IsWrittenLine route line
 
 -- where the walk of a raw route is legal with two choices at its ports, so is the walk that its line draws
 abbrev pub KeepsLegal : List Solid → List PhaseRoute → List WrittenRoute → Type 0

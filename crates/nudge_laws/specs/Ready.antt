@@ -4,14 +4,14 @@ use Rattle.plane_geom.specs.declared.point.Way.{Way}
 use Rattle.plane_geom.specs.declared.rect.Solid.{Solid}
 use Rattle.plane_geom.specs.Floor.{Holds}
 use Rattle.segment_order.specs.declared.run.Run.{Run}
-use Rattle.segment_order.specs.Run.{run_at, line_of}
+use Rattle.segment_order.specs.Run.{run_at, line_of_run}
 use Rattle.channel_bundles.specs.declared.route.PhaseRoute.{PhaseRoute}
 use Rattle.channel_bundles.specs.Route.{IsPhaseRoute, runs_of_way}
 use Rattle.separation_model.specs.Bundle.{most_items}
 use Rattle.walk_model.specs.declared.task.Choice.{Choice}
 use Rattle.walk_model.specs.Choice.{IsChoice}
 use Rattle.walk_model.specs.Legal.{IsLegal}
-use Rattle.run_laws.specs.LegalRuns.{walk_along}
+use Rattle.nudge_laws.specs.LegalRuns.{walk_along}
 
 -- the runs of the way have some length, so that the runs beside them stand in the order of its heading
 abbrev pub HaveLength : Way → List Run → Type 0
@@ -19,8 +19,8 @@ HaveLength way runs = All (λ r. r.way ≡ way → r.lo <ℤ r.hi) runs
 
 -- the ports of the route lie on its first and on its last run
 pub record HoldsPorts (route : PhaseRoute) : Type 0 where
-  pub source : Holds (line_of (run_at route.runs.items 0)) route.anchors.source_port
-  pub target : Holds (line_of (run_at route.runs.items (length route.runs.items - 1))) route.anchors.target_port
+  pub source : Holds (line_of_run (run_at route.runs.items 0)) route.anchors.source_port
+  pub target : Holds (line_of_run (run_at route.runs.items (length route.runs.items - 1))) route.anchors.target_port
 
 -- a route of a phase, with its ports on its end runs
 pub record IsReady (route : PhaseRoute) : Type 0 where

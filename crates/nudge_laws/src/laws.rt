@@ -5,7 +5,7 @@ ghost use Rattle.plane_geom.specs.declared.point.Way.{Way};
 ghost use Rattle.plane_geom.specs.declared.point.Way.TheVariants.{Vertical, Horizontal};
 ghost use Rattle.plane_geom.specs.declared.rect.Solid.{Solid};
 ghost use Rattle.segment_order.specs.declared.run.Run.{Run};
-ghost use Rattle.segment_order.specs.Run.{AreRunsOf, point_at, runs_along};
+ghost use Rattle.segment_order.specs.Run.{AreRunsOf, point_at_index, runs_along};
 ghost use Rattle.separation_model.specs.declared.bundle.Solution.{Solution};
 ghost use Rattle.separation_model.specs.Bundle.{IsBundle, most_items};
 ghost use Rattle.channel_bundles.specs.declared.route.PhaseRoute.{PhaseRoute};
@@ -20,7 +20,7 @@ ghost use Rattle.walk_model.specs.Choice.{IsChoice};
 ghost use Rattle.walk_model.specs.Legal.{IsLegal};
 ghost use Rattle.walk_model.specs.Line.{Draws, IsStraightLine};
 ghost use Rattle.walk_model.specs.Walk.{Walk};
-ghost use Rattle.run_laws.specs.LegalRuns.{IsLegalAlong, walk_along};
+ghost use Rattle.nudge_laws.specs.LegalRuns.{IsLegalAlong, walk_along};
 ghost use Rattle.nudge_laws.specs.Alike.{AreAlike};
 ghost use Rattle.nudge_laws.specs.Apart.{KeepsApart};
 ghost use Rattle.nudge_laws.specs.Nudged.{IsNudged, KeepsLegal};
@@ -41,7 +41,7 @@ pub fn runs_go_along_lines()
     ensures walk { (edge : ℕ) (points : List Point) (w : Walk) →
         1 < length points → Draws points w → walk_along (runs_along edge 1 points) ≡ w }
     ensures long { (edge : ℕ) (points : List Point) → IsStraightLine points →
-        ((k : ℕ) → k + 1 < length points → point_at points k ≢ point_at points (k + 1)) →
+        ((k : ℕ) → k + 1 < length points → point_at_index points k ≢ point_at_index points (k + 1)) →
         All (λ (r : Run). r.lo <ℤ r.hi) (runs_along edge 1 points) }
 {}
 

@@ -21,7 +21,7 @@ use Rattle.nudge_laws.specs.Moved.{IsMoved, IsPutAt, moved_run}
 use Rattle.nudge_laws.specs.Phase.{IsPhase}
 use Rattle.nudge_laws.proofs.OneNudged.{one_nudged}
 use Rattle.nudge_laws.proofs.RouteTwins.{bundles_alike}
-use Rattle.nudge_lines.proofs.Routes.{some_read}
+use Rattle.nudge_routes.proofs.Routes.{some_read}
 use Rattle.nudge_phases.specs.Nudged.{HaveOneNudged}
 use Rattle.nudge_phases.specs.Raw.{AreRawRoutes, IsRawRoute, routed}
 use Rattle.nudge_phases.proofs.SceneLines.{raw_are, raw_few, raw_legal}

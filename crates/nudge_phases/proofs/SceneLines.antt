@@ -22,11 +22,11 @@ use Rattle.nudge_laws.specs.Apart.{KeepsApart}
 use Rattle.nudge_laws.specs.Nudged.{IsNudged, KeepsLegal}
 use Rattle.nudge_laws.specs.Ready.{AreRaw}
 use Rattle.nudge_laws.proofs.NudgedLegal.{nudged_is_apart, nudged_is_legal}
-use Rattle.nudge_lines.specs.declared.nudging.Nudged.{Nudged}
+use Rattle.nudge_routes.specs.declared.nudging.Nudged.{Nudged}
 use Rattle.nudge_laws.specs.Ready.{HasLegalWalk}
-use Rattle.nudge_lines.specs.Rising.{EdgesRise}
-use Rattle.nudge_lines.proofs.Routes.{some_read}
-use Rattle.nudge_phases.specs.Nudged.{AreLegalLines, IsLegalLine, IsNudgedScene}
+use Rattle.nudge_routes.specs.Rising.{EdgesRise}
+use Rattle.nudge_routes.proofs.Routes.{some_read}
+use Rattle.nudge_phases.specs.Nudged.{AreLegalNudgedLines, IsLegalNudgedLine, IsNudgedScene}
 use Rattle.nudge_phases.specs.Raw.{AreRawRoutes, routed}
 use Rattle.nudge_phases.proofs.Answered.{answered, few_answered, numbers_rise}
 use Rattle.nudge_phases.proofs.RawReady.{AreGood, IsGoodRaw, all_good, all_legal, are_raw, edges_rise, few_enough}
@@ -38,8 +38,8 @@ module _ (s : Scene) (answers : List Answer) (raw : List PhaseRoute) (nudge : �
       let a = zip_count (λ p r. IsGoodRaw s p.0 p.1 r) (routed answers) raw good in
       let b = nudged.count in let d = nudged.y.count in let e = nudged.x.count in omega (arith, a, b, d, e)
 
-  pub lines_legal : KeepsLegal (solids s) raw lines → AreLegalLines s answers lines
-  lines_legal keeps = zip_from (λ p line. IsLegalLine s p.0 p.1 line) (routed answers) lines as_many
+  pub lines_legal : KeepsLegal (solids s) raw lines → AreLegalNudgedLines s answers lines
+  lines_legal keeps = zip_from (λ p line. IsLegalNudgedLine s p.0 p.1 line) (routed answers) lines as_many
       (λ k p line at_p at_line.
       let count = zip_count (λ p r. IsGoodRaw s p.0 p.1 r) (routed answers) raw good in
       let r = some_read raw k (let h = slice_get_within (routed answers) k p at_p in omega (arith, h, count)) in
@@ -105,7 +105,7 @@ module _ (s : Scene) (answers : List Answer) (v : IsValid s) (are : AreAnswers s
   }
   made (Err x) floor raw nudge e f zip is = tt
 
-  pub legal : (r : Result Nudged AllocError) → IfOk r IsOf → IfOk r (λ n. AreLegalLines s answers n.routes.items)
+  pub legal : (r : Result Nudged AllocError) → IfOk r IsOf → IfOk r (λ n. AreLegalNudgedLines s answers n.routes.items)
   legal (Ok n) p =
       lines_legal s answers p.raw s.settings.nudge n.x_solutions.items n.y_solutions.items n.routes.items (good_raws p.raw p.are_raw) p.nudged
       (nudged_is_legal (solids s) p.raw s.settings.nudge n.x_solutions.items n.y_solutions.items n.routes.items p.nudged (raw_are p.raw p.are_raw))

@@ -10,7 +10,7 @@ use Rattle.plane_geom.specs.declared.point.Way.TheVariants.{Vertical, Horizontal
 use Rattle.plane_geom.specs.Along.{way_of}
 use Rattle.plane_geom.specs.Point.{PointIsOnSheet, distance, forward, heading, opposite}
 use Rattle.plane_geom.proofs.Headings.{forward_distance, forward_heading}
-use Rattle.segment_order.specs.Run.{AreCorners, point_at, run_between, runs_along}
+use Rattle.segment_order.specs.Run.{AreCorners, point_at_index, run_between, runs_along}
 use Rattle.walk_model.specs.Cost.{turn, runs}
 use Rattle.walk_model.specs.Line.{Draws, IsStraightLine, steps_through}
 use Rattle.walk_model.specs.Walk.{Walk}
@@ -76,34 +76,34 @@ line_turns points w draws h = by w.start w.steps (points_are points w draws h)
 distance_same : (p q : Point) → p ≡ q → distance p q ≡ 0
 distance_same p q e = let x = ap (λ (r : Point). r.x) e in let y = ap (λ (r : Point). r.y) e in omega (arith, ints, x, y)
 
-differ_at : (d : Dir) (p : Point) (qs : List Point) (k : ℕ) → Turns d p qs → k + 1 < length (p ∷ qs) → point_at (p ∷ qs) k ≢ point_at (p ∷ qs) (k + 1)
+differ_at : (d : Dir) (p : Point) (qs : List Point) (k : ℕ) → Turns d p qs → k + 1 < length (p ∷ qs) → point_at_index (p ∷ qs) k ≢ point_at_index (p ∷ qs) (k + 1)
 differ_at d p [] k t h e = omega arith
-differ_at d p (q ∷ qs) zero t h e = let z = distance_same p q (e ∙ ap (point_at (p ∷ q ∷ qs)) (let n : 0 + 1 ≡ 1 = refl in n)) in let some = t.1 in omega (arith, z, some)
+differ_at d p (q ∷ qs) zero t h e = let z = distance_same p q (e ∙ ap (point_at_index (p ∷ q ∷ qs)) (let n : 0 + 1 ≡ 1 = refl in n)) in let some = t.1 in omega (arith, z, some)
 differ_at d p (q ∷ qs) (suc k) t h e =
-    differ_at (heading p q) q qs k t.2 (omega (arith, h)) (e ∙ ap (point_at (p ∷ q ∷ qs)) (let n : suc k + 1 ≡ suc (k + 1) = omega arith in n))
+    differ_at (heading p q) q qs k t.2 (omega (arith, h)) (e ∙ ap (point_at_index (p ∷ q ∷ qs)) (let n : suc k + 1 ≡ suc (k + 1) = omega arith in n))
 
 turns_at : (d : Dir) (p : Point) (qs : List Point) (k : ℕ) → Turns d p qs → k + 2 < length (p ∷ qs) →
-    heading (point_at (p ∷ qs) k) (point_at (p ∷ qs) (k + 1)) ≢ heading (point_at (p ∷ qs) (k + 1)) (point_at (p ∷ qs) (k + 2))
+    heading (point_at_index (p ∷ qs) k) (point_at_index (p ∷ qs) (k + 1)) ≢ heading (point_at_index (p ∷ qs) (k + 1)) (point_at_index (p ∷ qs) (k + 2))
 turns_at d p [] k t h e = omega arith
 turns_at d p (q ∷ []) k t h e = omega arith
 turns_at d p (q ∷ r ∷ rs) zero t h e = t.2.0 (sym e)
 turns_at d p (q ∷ r ∷ rs) (suc k) t h e =
     let one : suc k + 1 ≡ suc (k + 1) = omega arith in
     let two : suc k + 2 ≡ suc (k + 2) = omega arith in
-    let at = point_at (p ∷ q ∷ r ∷ rs) in
+    let at = point_at_index (p ∷ q ∷ r ∷ rs) in
     turns_at (heading p q) q (r ∷ rs) k t.2 (omega (arith, h))
-    (ap (λ n. heading (point_at (q ∷ r ∷ rs) k) (at n)) (sym one) ∙ e ∙ ap (λ n. heading (at n) (at (suc k + 2))) one ∙ ap (λ n. heading (point_at (q ∷ r ∷ rs) (k + 1)) (at n)) two)
+    (ap (λ n. heading (point_at_index (q ∷ r ∷ rs) k) (at n)) (sym one) ∙ e ∙ ap (λ n. heading (at n) (at (suc k + 2))) one ∙ ap (λ n. heading (point_at_index (q ∷ r ∷ rs) (k + 1)) (at n)) two)
 
-pub corners_differ : (points : List Point) → IsTurning points → (k : ℕ) → k + 1 < length points → point_at points k ≢ point_at points (k + 1)
+pub corners_differ : (points : List Point) → IsTurning points → (k : ℕ) → k + 1 < length points → point_at_index points k ≢ point_at_index points (k + 1)
 corners_differ points t k h =
-    subst (λ ps. point_at ps k ≢ point_at ps (k + 1)) (sym t.is) (differ_at t.behind t.first t.others k t.turns (omega (arith, h, ap length t.is)))
+    subst (λ ps. point_at_index ps k ≢ point_at_index ps (k + 1)) (sym t.is) (differ_at t.behind t.first t.others k t.turns (omega (arith, h, ap length t.is)))
 
 pub are_corners : (points : List Point) → IsTurning points → 1 < length points → All PointIsOnSheet points → IsStraightLine points → AreCorners points
 are_corners points t some within straight = record {
   some = some;
   on_sheet = within;
   straight = straight;
-  turns = λ k h. subst (λ ps. heading (point_at ps k) (point_at ps (k + 1)) ≢ heading (point_at ps (k + 1)) (point_at ps (k + 2))) (sym t.is)
+  turns = λ k h. subst (λ ps. heading (point_at_index ps k) (point_at_index ps (k + 1)) ≢ heading (point_at_index ps (k + 1)) (point_at_index ps (k + 2))) (sym t.is)
       (turns_at t.behind t.first t.others k t.turns (omega (arith, h, ap length t.is)));
 }
 

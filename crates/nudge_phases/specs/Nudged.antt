@@ -24,7 +24,7 @@ pub record IsNudgedScene (s : Scene) (answers : List Answer) (x_solutions y_solu
   pub nudged : IsNudged (solids s) raw s.settings.nudge x_solutions y_solutions lines
 
 -- the line of the edge with the number draws a walk that is legal with the choices of its route
-pub record IsLegalLine (s : Scene) (number : ℕ) (route : Route) (line : WrittenRoute) : Type 0 where
+pub record IsLegalNudgedLine (s : Scene) (number : ℕ) (route : Route) (line : WrittenRoute) : Type 0 where
   pub edge : Edge
   pub is_edge : edge_with s number ≡ Some edge
   pub walk : Walk
@@ -32,8 +32,8 @@ pub record IsLegalLine (s : Scene) (number : ℕ) (route : Route) (line : Writte
   pub legal : IsLegalTriple (solids s) (task_of s edge) (record { start = route.start; walk = walk; end = route.end })
 
 -- each line is legal for its answer, of those that have a route
-abbrev pub AreLegalLines : Scene → List Answer → List WrittenRoute → Type 0
-AreLegalLines s answers lines = AllZip (λ p line. IsLegalLine s p.0 p.1 line) (routed answers) lines
+abbrev pub AreLegalNudgedLines : Scene → List Answer → List WrittenRoute → Type 0
+AreLegalNudgedLines s answers lines = AllZip (λ p line. IsLegalNudgedLine s p.0 p.1 line) (routed answers) lines
 
 -- right answers of a scene have one list of nudged lines at most
 abbrev pub HaveOneNudged : Type 0

@@ -8,5 +8,5 @@ mod nudging;
 mod raw;
 
 pub use laws::one_nudged_scene;
-pub use nudge_lines::Nudged;
+pub use nudge_routes::Nudged;
 pub use nudging::nudge;

@@ -3,10 +3,10 @@ ghost use Rattle.std.specs.Prelude.{◌≡◌, IfOk, map};
 ghost use Rattle.scene_model.specs.Answers.{AreAnswers};
 ghost use Rattle.nudge_laws.specs.Apart.{KeepsApart};
 ghost use Rattle.nudge_phases.specs.Raw.{routed};
-ghost use Rattle.nudge_phases.specs.Nudged.{AreLegalLines, IsNudgedScene};
+ghost use Rattle.nudge_phases.specs.Nudged.{AreLegalNudgedLines, IsNudgedScene};
 
 use crate::raw::raw_routes;
-use nudge_lines::{Nudged, nudge_routes};
+use nudge_routes::{Nudged, nudge_routes};
 use scene_store::Scene;
 use std::alloc::{AllocError, Global};
 use walk_model::Answer;
@@ -25,7 +25,7 @@ pub fn nudge(alloc: Global, scene: &Scene, answers: &[Answer]) -> Result<Nudged,
     ensures apart { IfOk result (λ n. (p : IsNudgedScene scene.now answers.now n.x_solutions.items n.y_solutions.items n.routes.items) →
         KeepsApart p.nudged.x × KeepsApart p.nudged.y) }
     // Every line is a legal walk of its connector, with the choices of its route.
-    ensures legal { IfOk result (λ n. AreLegalLines scene.now answers.now n.routes.items) }
+    ensures legal { IfOk result (λ n. AreLegalNudgedLines scene.now answers.now n.routes.items) }
     // One line for each answer with a route, in order.
     ensures edges { IfOk result (λ n. map (λ l. l.edge) n.routes.items ≡ map (λ p. p.0) (routed answers.now)) }
 {

@@ -1,5 +1,5 @@
 //! Phases without routes.
-use nudge_lines::{nudge_routes, phase};
+use nudge_routes::{nudge_routes, phase};
 use plane_geom::Way;
 use std::test::Fail;
 

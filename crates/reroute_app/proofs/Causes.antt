@@ -8,7 +8,7 @@ use Rattle.host_edge.specs.Folder.{ToldFiles}
 use Rattle.host_edge.specs.Note.{Note}
 use Rattle.plane_geom.specs.declared.point.Point.{Point}
 use Rattle.gml_text.specs.Tree.{Pairs}
-use Rattle.gml_text.specs.Parse.{Reads}
+use Rattle.gml_text.specs.Parse.{ParsesAs}
 use Rattle.gml_text.specs.declared.fault.GmlFault.{GmlFault}
 use Rattle.gml_text.proofs.Parsing.{reads_once}
 use Rattle.scene_model.specs.declared.edge.Edge.{Edge}
@@ -25,12 +25,12 @@ use Rattle.edit_script.specs.Script.{commands}
 use Rattle.report_text.specs.declared.finding.Finding.{Finding}
 use Rattle.report_text.specs.declared.finding.Finding.TheVariants.{Judged}
 use Rattle.report_text.specs.declared.finding.EdgeFinding.{EdgeFinding}
-use Rattle.route_replay.specs.Replies.{AreReplies, HaveOneListOfReplies, world_after}
-use Rattle.route_report.specs.Report.{has_refusal}
+use Rattle.script_replay.specs.Replies.{AreReplies, HaveOneListOfReplies, world_after}
+use Rattle.form_route.specs.Report.{has_refusal}
 use Rattle.command_words.specs.Words.{Form, check, route, make, form_of}
 use Rattle.reroute_app.specs.declared.status.Status.{Status}
 use Rattle.reroute_app.specs.declared.status.Status.TheVariants as status
-use Rattle.reroute_app.specs.Status.{IsWritten}
+use Rattle.reroute_app.specs.Status.{IsOutputWritten}
 use Rattle.reroute_app.specs.Outcome.{Outcome, Course, Ends}
 use Rattle.reroute_app.specs.Reads.{HasRead, HasFailed, HasMore, ReadsFile}
 use Rattle.reroute_app.specs.Reads.ReadsFile.{fails, is_too_long, goes_on}
@@ -136,13 +136,13 @@ not_refused bytes tree scene (inr other) is lines =
     let gone : first_line_fault other.tree other.scene.edges ≡ None = rw (same.tree, same.scene) lines in
     true≢false (sym (subst IsSome gone other.fault))
 
-no_scene : (bytes : List ℕ) (tree : Pairs) (fault : DiagramFault) → Reads bytes (Ok tree) → scene_of tree ≡ Err fault → IsNoDiagram bytes
+no_scene : (bytes : List ℕ) (tree : Pairs) (fault : DiagramFault) → ParsesAs bytes (Ok tree) → scene_of tree ≡ Err fault → IsNoDiagram bytes
 no_scene bytes tree fault reads is t s other =
     let same : t ≡ tree = (let e = reads_once bytes (Ok t) (Ok tree) other.document reads in cc) in
     let e = sym other.is_scene ∙ ap scene_of same ∙ is in
     absurd cc
 
-no_document : (bytes : List ℕ) (fault : GmlFault) → Reads bytes (Err fault) → IsNoDiagram bytes
+no_document : (bytes : List ℕ) (fault : GmlFault) → ParsesAs bytes (Err fault) → IsNoDiagram bytes
 no_document bytes fault reads t s other = (let e = reads_once bytes (Ok t) (Err fault) other.document reads in absurd cc)
 
 -- ---- the last note
@@ -273,13 +273,13 @@ module _ (words : List (List ℕ)) (files : Option ToldFiles) (old new : List No
     read_to_end : (bytes : List ℕ) (middle : List Note) → new ≡ middle → HasRead files name most_bytes old middle bytes → HasRead files name most_bytes old new bytes
     read_to_end bytes middle same read = subst (λ (ns : List Note). HasRead files name most_bytes old ns bytes) (sym same) read
 
-    end_scene : (bytes : List ℕ) (middle : List Note) (tree : Pairs) (r : Result Scene DiagramFault) → HasRead files name most_bytes old middle bytes → Reads bytes (Ok tree) → scene_of tree ≡ r
+    end_scene : (bytes : List ℕ) (middle : List Note) (tree : Pairs) (r : Result Scene DiagramFault) → HasRead files name most_bytes old middle bytes → ParsesAs bytes (Ok tree) → scene_of tree ≡ r
         → TakesScene (next tree) r middle new o → Ending words files old new o
     end_scene bytes middle tree (Ok scene) read reads is later = goes bytes middle tree scene read (record { document = reads; is_scene = is }) later
     end_scene bytes middle tree (Err fault) read reads is later =
         by_diagram (refuses bytes (read_to_end bytes middle later.0 read) (no_scene bytes tree fault reads is)) (read_status o _ later.1)
 
-    end_tree : (bytes : List ℕ) (middle : List Note) (r : Result Pairs GmlFault) → HasRead files name most_bytes old middle bytes → Reads bytes r → TakesTree next r middle new o → Ending words files old new o
+    end_tree : (bytes : List ℕ) (middle : List Note) (r : Result Pairs GmlFault) → HasRead files name most_bytes old middle bytes → ParsesAs bytes r → TakesTree next r middle new o → Ending words files old new o
     end_tree bytes middle (Ok tree) read reads later = end_scene bytes middle tree (scene_of tree) read reads refl later
     end_tree bytes middle (Err fault) read reads later = by_diagram (refuses bytes (read_to_end bytes middle later.0 read) (no_document bytes fault reads)) (read_status o _ later.1)
 
@@ -566,7 +566,7 @@ module _ (words : List (List ℕ)) (files : Option ToldFiles) (old new : List No
           (λ e. subst Cause e (gives ending), only ending s some)
 
       -- a run that ends with an outcome's status ends with none of the two that no outcome has
-      pub outcome_written : IsWritten o.status
+      pub outcome_written : IsOutputWritten o.status
       outcome_written =
           let cause = gives (ending_of words files old new o (form_of words) refl is) in
           (λ e. subst Cause e cause, λ e. subst Cause e cause)

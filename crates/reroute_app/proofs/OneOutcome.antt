@@ -19,8 +19,8 @@ use Rattle.report_text.specs.declared.finding.EdgeFinding.{EdgeFinding}
 use Rattle.report_text.specs.Findings.{finding_lines}
 use Rattle.edit_script.specs.Script.{commands}
 use Rattle.edit_script.proofs.Directed.{have_directions}
-use Rattle.route_report.specs.Routes.{ComesToOne}
-use Rattle.made_replay.specs.Makes.{SeedsComeToOne}
+use Rattle.form_route.specs.Routes.{ComesToOne}
+use Rattle.form_make.specs.Makes.{SeedsComeToOne}
 use Rattle.command_words.specs.Words.{Form, check, route, make, form_of}
 use Rattle.reroute_app.specs.declared.status.Status.TheVariants.{Done}
 use Rattle.reroute_app.specs.Outcome.{Outcome, Ends, unsearched}

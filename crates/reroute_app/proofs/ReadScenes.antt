@@ -32,13 +32,13 @@ use Rattle.diagram_read.specs.declared.fault.Part.TheVariants as part
 use Rattle.diagram_read.specs.declared.fault.DiagramFault.{DiagramFault}
 use Rattle.diagram_read.specs.declared.fault.DiagramFault.TheVariants.{NoGraph, BadId, SameId, NoPlace, BadNumber, BadEnd, OutOfRange, TooMany, BadPin, BadVia, BadWeight}
 use Rattle.diagram_read.specs.Checkpoints.{checkpoint_of, on_field}
-use Rattle.diagram_read.specs.Edges.{end_in, own_class, class_in, weight_in, with_via, loop_at, connector_in, edge_in, with_edge_in}
+use Rattle.diagram_read.specs.Edges.{end_node, own_class, class_in, weight_in, with_via, loop_at, connector_in, edge_in, with_edge_in}
 use Rattle.diagram_read.specs.Faults.{need, refuse, each}
 use Rattle.diagram_read.specs.Nodes.{size_in, boxed, bare_node, with_pin, node_in, with_node_in, with_nodes_in}
 use Rattle.diagram_read.specs.Pins.{added_class, dirs_in, cost_in, within_box, pin_of}
 use Rattle.diagram_read.specs.Scene.{scene_of}
-use Rattle.diagram_read.specs.Settings.{with_setting, with_setting_at, with_settings_in}
-use Rattle.diagram_read.specs.Values.{Entry, as_list, value_at, values_at, list_at, entries_from, milli_of, in_range, exact_at, is_no_number, id_of, class_of, in_classes}
+use Rattle.diagram_read.specs.Settings.{with_setting_read, with_setting_at, with_settings_in}
+use Rattle.diagram_read.specs.Values.{ListEntry, as_list, value_at, values_at, list_at, entries_from, milli_of, in_range, exact_at, is_no_number, id_of, class_of, in_classes}
 use Rattle.diagram_read.proofs.EdgesRead.{IsRoomyEdge, edge_roomy}
 use Rattle.diagram_read.proofs.NodesRead.{IsRoomy, node_roomy}
 use Rattle.diagram_read.proofs.PinsRead.{pin_loadable, some_told}
@@ -119,7 +119,7 @@ record IsGood (id : ℤ) (n : Node) : Type 0 where
   pub node : IsNode n
   pub own : n.id ≡ id
 
-boxed_good : (place : ℕ) (id : ℤ) (entry : Entry) (x y w h : Result ℤ MilliFault) → IfOk (boxed place id entry x y w h) (IsGood id)
+boxed_good : (place : ℕ) (id : ℤ) (entry : ListEntry) (x y w h : Result ℤ MilliFault) → IfOk (boxed place id entry x y w h) (IsGood id)
 boxed_good place id entry x y w h =
     bound _ (refuse (BadNumber part.Node place) (is_no_number x || (is_no_number y || (is_no_number w || is_no_number h)))) _ (λ numbers a.
     bound _ (need (OutOfRange part.Node place) (in_range x)) _ (λ x b.
@@ -140,7 +140,7 @@ boxed_good place id entry x y w h =
       own = refl;
     })))))))
 
-bare_good : (place : ℕ) (id : ℤ) (entry : Entry) → IfOk (bare_node place id entry) (IsGood id)
+bare_good : (place : ℕ) (id : ℤ) (entry : ListEntry) → IfOk (bare_node place id entry) (IsGood id)
 bare_good place id entry =
     bound _ (need (NoPlace place) (option_and_then as_list (value_at (codes "graphics") entry.1))) _ (λ graphics a.
     bound _ (need (NoPlace place) (value_at (codes "x") graphics)) _ (λ x b.
@@ -172,7 +172,7 @@ fresh_all : (s : Scene) (id : ℤ) (r : Result Node DiagramFault) → node_with 
 fresh_all s id (Ok n) fresh room good = record { node = good.node; fresh = ap (node_with s) good.own ∙ fresh; room = room }
 fresh_all s id (Err fault) fresh room good = tt
 
-node_fresh : (s : Scene) (entry : Entry) → IfOk (node_in s entry) (IsFresh s)
+node_fresh : (s : Scene) (entry : ListEntry) → IfOk (node_in s entry) (IsFresh s)
 node_fresh s entry =
     let place = suc (length s.nodes) in
     bound _ (refuse (TooMany part.Node) (nat_le 256 (length s.nodes))) _ (λ nodes a.
@@ -192,7 +192,7 @@ pub record IsNumbered (s : Scene) : Type 0 where
   pub valid : IsValid s
   pub numbered : s.next_edge ≡ suc (length s.edges)
 
-node_kept : (s : Scene) (entry : Entry) → IsNumbered s → IfOk (with_node_in s entry) IsNumbered
+node_kept : (s : Scene) (entry : ListEntry) → IsNumbered s → IfOk (with_node_in s entry) IsNumbered
 node_kept s entry is =
     bound _ (node_in s entry) _ (λ n e.
     let fresh = ok_told (node_in s entry) n (IsFresh s) e (node_fresh s entry) in
@@ -203,7 +203,7 @@ node_kept s entry is =
 abbrev Serves : Scene → ℤ → ℕ → Type 0
 Serves s id class = IsSomeAnd (node_with s id) (λ n. IsTrue (has_class n class))
 
-end_known : (s : Scene) (value : Option Content) (n : Node) → end_in s value ≡ Some n → node_with s n.id ≡ Some n
+end_known : (s : Scene) (value : Option Content) (n : Node) → end_node s value ≡ Some n → node_with s n.id ≡ Some n
 end_known s value n is =
     let named = parted (node_with s) (option_and_then id_of value) n is in
     let own = (Decides-int_eq n.id named.0).0 (found_passes (λ (m : Node). int_eq m.id named.0) s.nodes n named.2) in
@@ -257,7 +257,7 @@ record IsTied (s : Scene) (e : Edge) : Type 0 where
   pub via : AreVia e.via
   pub room : length s.edges < 512
 
-connector_tied : (s : Scene) (place before : ℕ) (from to : Node) (entry : Entry) → node_with s from.id ≡ Some from → node_with s to.id ≡ Some to → length s.edges < 512
+connector_tied : (s : Scene) (place before : ℕ) (from to : Node) (entry : ListEntry) → node_with s from.id ≡ Some from → node_with s to.id ≡ Some to → length s.edges < 512
     → IfOk (connector_in place before from to entry) (IsTied s)
 connector_tied s place before from to entry source target room =
     bound _ (need (BadEnd place) (class_in from (value_at (codes "sourcePin") entry.1))) _ (λ from_class a.
@@ -272,17 +272,17 @@ connector_tied s place before from to entry source target room =
       room = room;
     }))))
 
-edge_tied : (s : Scene) (entry : Entry) → IfOk (edge_in s entry) (IsTied s)
+edge_tied : (s : Scene) (entry : ListEntry) → IfOk (edge_in s entry) (IsTied s)
 edge_tied s entry =
     let place = suc (length s.edges) in
     let source = value_at (codes "source") entry.1 in
     let target = value_at (codes "target") entry.1 in
     bound _ (refuse (TooMany part.Edge) (nat_le 512 (length s.edges))) _ (λ few is.
     let room = leb-false 512 (length s.edges) (not_refused (TooMany part.Edge) (nat_le 512 (length s.edges)) few is) in
-    bound _ (need (BadEnd place) (end_in s source)) _ (λ from a.
-    bound _ (need (BadEnd place) (end_in s target)) _ (λ to b.
-    let here = end_known s source from (there (BadEnd place) (end_in s source) from a) in
-    let there' = end_known s target to (there (BadEnd place) (end_in s target) to b) in
+    bound _ (need (BadEnd place) (end_node s source)) _ (λ from a.
+    bound _ (need (BadEnd place) (end_node s target)) _ (λ to b.
+    let here = end_known s source from (there (BadEnd place) (end_node s source) from a) in
+    let there' = end_known s target to (there (BadEnd place) (end_node s target) to b) in
     chosen _ (int_eq from.id to.id) (Ok (loop_at place from.id entry.0)) (connector_in place (via_count s) from to entry)
     (λ same. record {
       from = served s from 0 here refl;
@@ -292,7 +292,7 @@ edge_tied s entry =
     })
     (λ other. connector_tied s place (via_count s) from to entry here there' (omega (arith, room))))))
 
-edge_kept : (s : Scene) (entry : Entry) → IsNumbered s → IfOk (with_edge_in s entry) IsNumbered
+edge_kept : (s : Scene) (entry : ListEntry) → IsNumbered s → IfOk (with_edge_in s entry) IsNumbered
 edge_kept s entry is =
     bound _ (edge_in s entry) _ (λ e got.
     let roomy = ok_told (edge_in s entry) e (IsRoomyEdge s) got (edge_roomy s entry is.numbered is.valid.few_via) in
@@ -312,7 +312,7 @@ edge_kept s entry is =
 
 -- ---- settings, and all of them
 
-setting_kept : (what : Setting) (s : Scene) (o : Option (Result ℤ MilliFault)) → IsNumbered s → IfOk (with_setting what s o) IsNumbered
+setting_kept : (what : Setting) (s : Scene) (o : Option (Result ℤ MilliFault)) → IsNumbered s → IfOk (with_setting_read what s o) IsNumbered
 setting_kept what s None is = is
 setting_kept what s (Some (Err milli.NotNumber)) is = tt
 setting_kept what s (Some (Err milli.OutOfRange)) is = tt

@@ -6,7 +6,7 @@ use Rattle.std.specs.declared.alloc.AllocError.{AllocError}
 use Rattle.host_edge.specs.Folder.{ToldFiles}
 use Rattle.host_edge.specs.Note.{Note}
 use Rattle.gml_text.specs.Tree.{Pairs}
-use Rattle.gml_text.specs.Parse.{IsDocument, IsSyntaxAt, IsTooDeepAt, Reads}
+use Rattle.gml_text.specs.Parse.{IsDocument, IsSyntaxAt, IsTooDeepAt, ParsesAs}
 use Rattle.gml_text.specs.declared.fault.GmlFault.{GmlFault}
 use Rattle.gml_text.specs.declared.fault.GmlFault.TheVariants as gml
 use Rattle.gml_text.specs.declared.tree.Doc.{Doc}
@@ -38,13 +38,13 @@ stops_as P Q weaker Memory is = tt
 
 -- the fault of bytes that are no document is what they are read with
 pub read_with : (bytes : List ℕ) (fault : GmlFault) (r : Result Doc GmlFault) → r ≡ Err fault → fault ≢ gml.Memory
-    → ((at : ℕ) → r ≡ Err (gml.Syntax at) → IsSyntaxAt bytes at) → ((at : ℕ) → r ≡ Err (gml.TooDeep at) → IsTooDeepAt bytes at) → Reads bytes (Err fault)
+    → ((at : ℕ) → r ≡ Err (gml.Syntax at) → IsSyntaxAt bytes at) → ((at : ℕ) → r ≡ Err (gml.TooDeep at) → IsTooDeepAt bytes at) → ParsesAs bytes (Err fault)
 read_with bytes (gml.Syntax at) r is told syntax too_deep = syntax at is
 read_with bytes (gml.TooDeep at) r is told syntax too_deep = too_deep at is
 read_with bytes gml.Memory r is told syntax too_deep = absurd (told refl)
 
 -- so it is the end of a diagram
-pub no_document_ends : (bytes : List ℕ) (notes : List Note) (fault : GmlFault) (o : Outcome) → Reads bytes (Err fault) → o ≡ unsearched Diagram (gml_fault_line fault) → TakesDiagram never_two bytes notes notes o
+pub no_document_ends : (bytes : List ℕ) (notes : List Note) (fault : GmlFault) (o : Outcome) → ParsesAs bytes (Err fault) → o ≡ unsearched Diagram (gml_fault_line fault) → TakesDiagram never_two bytes notes notes o
 no_document_ends bytes notes fault o reads is = (Err fault, reads, (refl, is))
 
 scene_as : (r : Result Scene DiagramFault) (tree : Pairs) (old new : List Note) (o : Outcome) → TakesScene never r old new o → TakesScene (never_two tree) r old new o
@@ -65,7 +65,7 @@ takes_as : (next : Pairs → Scene → Course) (r : Result Scene DiagramFault) (
 takes_as next (Ok s) tree old new o is = absurd is
 takes_as next (Err fault) tree old new o is = is
 
-bytes_end : (next : Pairs → Scene → Course) (bytes : List ℕ) (old new : List Note) (o : Outcome) (r : Result Pairs GmlFault) → Reads bytes r → TakesTree never_two r old new o → TakesDiagram next bytes old new o
+bytes_end : (next : Pairs → Scene → Course) (bytes : List ℕ) (old new : List Note) (o : Outcome) (r : Result Pairs GmlFault) → ParsesAs bytes r → TakesTree never_two r old new o → TakesDiagram next bytes old new o
 bytes_end next bytes old new o (Ok tree) reads is = (Ok tree, reads, takes_as next (scene_of tree) tree old new o is)
 bytes_end next bytes old new o (Err fault) reads is = (Err fault, reads, is)
 

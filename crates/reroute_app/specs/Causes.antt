@@ -12,8 +12,8 @@ use Rattle.route_check.specs.Verdict.{IsLegalLine}
 use Rattle.diagram_read.specs.Lines.{line_of}
 use Rattle.edit_script.specs.Script.{commands}
 use Rattle.report_text.specs.declared.reply.LineReply.{LineReply}
-use Rattle.route_replay.specs.Replies.{AreReplies, world_after}
-use Rattle.route_report.specs.Report.{has_refusal}
+use Rattle.script_replay.specs.Replies.{AreReplies, world_after}
+use Rattle.form_route.specs.Report.{has_refusal}
 use Rattle.command_words.specs.Words.{Form, check, route, make, form_of}
 use Rattle.reroute_app.specs.Reads.{HasRead}
 use Rattle.reroute_app.specs.Diagram.{most_bytes, IsDiagram}

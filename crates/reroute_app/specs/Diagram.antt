@@ -2,7 +2,7 @@
 use Rattle.std.specs.Prelude.{◌≡◌, ℕ, List, Option, Result, Ok, Err}
 use Rattle.host_edge.specs.Folder.{ToldFiles}
 use Rattle.gml_text.specs.Tree.{Pairs}
-use Rattle.gml_text.specs.Parse.{IsDocument, Reads}
+use Rattle.gml_text.specs.Parse.{IsDocument, ParsesAs}
 use Rattle.gml_text.specs.declared.fault.GmlFault.{GmlFault}
 use Rattle.scene_model.specs.Scene.{Scene}
 use Rattle.diagram_read.specs.declared.fault.DiagramFault.{DiagramFault}
@@ -33,7 +33,7 @@ TakesTree next (Err fault) = EndsWith (unsearched Diagram (gml_fault_line fault)
 
 -- what the bytes are read as decides
 abbrev pub TakesDiagram : (Pairs → Scene → Course) → List ℕ → Course
-TakesDiagram next bytes old new o = (read : Result Pairs GmlFault) × Reads bytes read × TakesTree next read old new o
+TakesDiagram next bytes old new o = (read : Result Pairs GmlFault) × ParsesAs bytes read × TakesTree next read old new o
 
 -- the file with the name is read as a diagram, and the course goes on with its tree and its scene
 abbrev pub ReadsDiagram : Option ToldFiles → List ℕ → (Pairs → Scene → Course) → Course

@@ -1,6 +1,6 @@
 -- What is said of a number.
 use Rattle.std.specs.Prelude.{◌≡◌, ℕ, List, Some}
-use Rattle.made_replay.specs.Makes.{Makes}
+use Rattle.form_make.specs.Makes.{Makes}
 use Rattle.reroute_app.specs.declared.status.Status.TheVariants.{Done}
 use Rattle.reroute_app.specs.Outcome.{Outcome}
 

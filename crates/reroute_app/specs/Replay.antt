@@ -3,7 +3,7 @@ use Rattle.std.specs.Prelude.{◌≡◌, ℕ, Bool, true, false, List, Some}
 use Rattle.gml_text.specs.Tree.{Pairs}
 use Rattle.scene_model.specs.declared.edit.Command.{Command}
 use Rattle.scene_model.specs.Scene.{Scene}
-use Rattle.route_report.specs.Routes.{Routes}
+use Rattle.form_route.specs.Routes.{Routes}
 use Rattle.reroute_app.specs.declared.status.Status.{Status}
 use Rattle.reroute_app.specs.declared.status.Status.TheVariants.{Done, Refused}
 use Rattle.reroute_app.specs.Outcome.{Outcome}

@@ -16,5 +16,5 @@ code_of TooLong = 7
 code_of BadLine = 8
 
 -- neither memory nor the output failed
-abbrev pub IsWritten : Status → Type 0
-IsWritten status = (status ≢ WriteFault) × (status ≢ NoMemory)
+abbrev pub IsOutputWritten : Status → Type 0
+IsOutputWritten status = (status ≢ WriteFault) × (status ≢ NoMemory)

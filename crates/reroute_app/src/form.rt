@@ -11,9 +11,9 @@ use crate::outcome::{Outcome, Stop, not_understood};
 use crate::read::read_diagram;
 use crate::replay::replay_files;
 use command_words::{Form, read_words};
+use form_route::Options;
 use host_edge::Folder;
 use par_route::Gate;
-use route_report::Options;
 use std::alloc::{AllocError, Global};
 use std::thread::Threads;
 

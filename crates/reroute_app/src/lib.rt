@@ -8,7 +8,7 @@ ghost use Rattle.host_edge.specs.Note.{Note};
 ghost use Rattle.command_words.specs.Words.{form_of};
 ghost use Rattle.reroute_app.specs.Causes.{FindsBadLine, FindsNoDiagram, FindsNothing, FindsRefusal, LastFailed, LastTookMore};
 ghost use Rattle.reroute_app.specs.Run.{HasOneOutcome, ReadsInOrder, Tallies, Writes, WritesPart};
-ghost use Rattle.reroute_app.specs.Status.{IsWritten};
+ghost use Rattle.reroute_app.specs.Status.{IsOutputWritten};
 
 mod check;
 mod form;
@@ -20,11 +20,11 @@ mod status;
 
 use crate::form::outcome_of;
 use crate::outcome::Outcome;
+use form_make::seeds_come_to_one;
+use form_route::replays_come_to_one;
 use host_edge::{Folder, Sink, WriteFailed, write_all_to};
-use made_replay::seeds_come_to_one;
 use par_route::{Gate, OpenGate};
 pub use read::{MOST_BYTES, MOST_SCRIPT_BYTES};
-use route_report::replays_come_to_one;
 use route_search::Tally;
 pub use status::Status;
 use std::alloc::Global;
@@ -51,7 +51,7 @@ pub fn run_gated<R: Threads + Sync, F: Folder, O: Sink, G: Gate>(
     tally: &mut Tally,
 ) -> Status
     // The bytes that the sink got are the output, and all of it unless the sink or memory failed.
-    ensures output { IsWritten result → Writes (map string_bytes words.now) (F.files folder.old)
+    ensures output { IsOutputWritten result → Writes (map string_bytes words.now) (F.files folder.old)
         (F.notes folder.old) (F.notes folder.new) (O.held out.old) (O.held out.new) result }
     ensures part { result ≡ Status.WriteFault → WritesPart (map string_bytes words.now)
         (F.files folder.old) (F.notes folder.old) (F.notes folder.new) (O.held out.old) (O.held out.new) }
@@ -59,18 +59,18 @@ pub fn run_gated<R: Threads + Sync, F: Folder, O: Sink, G: Gate>(
         → (O.held out.new ≡ O.held out.old) × (O.faults out.new ≡ O.faults out.old) }
 
     // Each status comes exactly where its cause holds, unless the sink or memory failed.
-    ensures words { IsWritten result → (result ≡ Status.Words) ↔ (form_of (map string_bytes words.now) ≡ None) }
-    ensures read_fault { IsWritten result → (result ≡ Status.ReadFault)
+    ensures words { IsOutputWritten result → (result ≡ Status.Words) ↔ (form_of (map string_bytes words.now) ≡ None) }
+    ensures read_fault { IsOutputWritten result → (result ≡ Status.ReadFault)
         ↔ LastFailed (F.notes folder.old) (F.notes folder.new) }
-    ensures too_long { IsWritten result → (result ≡ Status.TooLong)
+    ensures too_long { IsOutputWritten result → (result ≡ Status.TooLong)
         ↔ LastTookMore (F.notes folder.old) (F.notes folder.new) }
-    ensures diagram { IsSome (F.files folder.old) → IsWritten result → (result ≡ Status.Diagram)
+    ensures diagram { IsSome (F.files folder.old) → IsOutputWritten result → (result ≡ Status.Diagram)
         ↔ FindsNoDiagram (map string_bytes words.now) (F.files folder.old) (F.notes folder.old) (F.notes folder.new) }
-    ensures refused { IsSome (F.files folder.old) → IsWritten result → (result ≡ Status.Refused)
+    ensures refused { IsSome (F.files folder.old) → IsOutputWritten result → (result ≡ Status.Refused)
         ↔ FindsRefusal (map string_bytes words.now) (F.files folder.old) (F.notes folder.old) (F.notes folder.new) }
-    ensures bad_line { IsSome (F.files folder.old) → IsWritten result → (result ≡ Status.BadLine)
+    ensures bad_line { IsSome (F.files folder.old) → IsOutputWritten result → (result ≡ Status.BadLine)
         ↔ FindsBadLine (map string_bytes words.now) (F.files folder.old) (F.notes folder.old) (F.notes folder.new) }
-    ensures done { IsSome (F.files folder.old) → IsWritten result → (result ≡ Status.Done)
+    ensures done { IsSome (F.files folder.old) → IsOutputWritten result → (result ≡ Status.Done)
         ↔ FindsNothing (map string_bytes words.now) (F.files folder.old) (F.notes folder.old) (F.notes folder.new) }
     ensures write_fault { result ≡ Status.WriteFault → Rose (O.faults out.old) (O.faults out.new) }
 
@@ -114,7 +114,7 @@ pub fn run<R: Threads + Sync, F: Folder, O: Sink>(
     tally: &mut Tally,
 ) -> Status
     // The bytes that the sink got are the output, and all of it unless the sink or memory failed.
-    ensures output { IsWritten result → Writes (map string_bytes words.now) (F.files folder.old)
+    ensures output { IsOutputWritten result → Writes (map string_bytes words.now) (F.files folder.old)
         (F.notes folder.old) (F.notes folder.new) (O.held out.old) (O.held out.new) result }
     ensures part { result ≡ Status.WriteFault → WritesPart (map string_bytes words.now)
         (F.files folder.old) (F.notes folder.old) (F.notes folder.new) (O.held out.old) (O.held out.new) }
@@ -122,18 +122,18 @@ pub fn run<R: Threads + Sync, F: Folder, O: Sink>(
         → (O.held out.new ≡ O.held out.old) × (O.faults out.new ≡ O.faults out.old) }
 
     // Each status comes exactly where its cause holds, unless the sink or memory failed.
-    ensures words { IsWritten result → (result ≡ Status.Words) ↔ (form_of (map string_bytes words.now) ≡ None) }
-    ensures read_fault { IsWritten result → (result ≡ Status.ReadFault)
+    ensures words { IsOutputWritten result → (result ≡ Status.Words) ↔ (form_of (map string_bytes words.now) ≡ None) }
+    ensures read_fault { IsOutputWritten result → (result ≡ Status.ReadFault)
         ↔ LastFailed (F.notes folder.old) (F.notes folder.new) }
-    ensures too_long { IsWritten result → (result ≡ Status.TooLong)
+    ensures too_long { IsOutputWritten result → (result ≡ Status.TooLong)
         ↔ LastTookMore (F.notes folder.old) (F.notes folder.new) }
-    ensures diagram { IsSome (F.files folder.old) → IsWritten result → (result ≡ Status.Diagram)
+    ensures diagram { IsSome (F.files folder.old) → IsOutputWritten result → (result ≡ Status.Diagram)
         ↔ FindsNoDiagram (map string_bytes words.now) (F.files folder.old) (F.notes folder.old) (F.notes folder.new) }
-    ensures refused { IsSome (F.files folder.old) → IsWritten result → (result ≡ Status.Refused)
+    ensures refused { IsSome (F.files folder.old) → IsOutputWritten result → (result ≡ Status.Refused)
         ↔ FindsRefusal (map string_bytes words.now) (F.files folder.old) (F.notes folder.old) (F.notes folder.new) }
-    ensures bad_line { IsSome (F.files folder.old) → IsWritten result → (result ≡ Status.BadLine)
+    ensures bad_line { IsSome (F.files folder.old) → IsOutputWritten result → (result ≡ Status.BadLine)
         ↔ FindsBadLine (map string_bytes words.now) (F.files folder.old) (F.notes folder.old) (F.notes folder.new) }
-    ensures done { IsSome (F.files folder.old) → IsWritten result → (result ≡ Status.Done)
+    ensures done { IsSome (F.files folder.old) → IsOutputWritten result → (result ≡ Status.Done)
         ↔ FindsNothing (map string_bytes words.now) (F.files folder.old) (F.notes folder.old) (F.notes folder.new) }
     ensures write_fault { result ≡ Status.WriteFault → Rose (O.faults out.old) (O.faults out.new) }
 

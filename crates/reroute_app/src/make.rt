@@ -5,7 +5,7 @@ ghost use Rattle.reroute_app.specs.View.{view};
 
 use crate::outcome::Outcome;
 use crate::status::Status;
-use made_replay::{Made, make};
+use form_make::{Made, make};
 use par_route::Gate;
 use std::alloc::{AllocError, Global};
 use std::thread::Threads;

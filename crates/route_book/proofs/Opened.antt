@@ -13,7 +13,7 @@ use Rattle.scene_model.specs.declared.edge.Edge.{Edge}
 use Rattle.scene_model.specs.declared.pin.Pin.{Pin}
 use Rattle.scene_model.specs.Scene.{Scene}
 use Rattle.scene_model.specs.Routing.{place_of}
-use Rattle.scene_model.specs.Stale.{IsRemoved, Looks, looks, IsPinOf, IsLengthBy, IsReached, IsOpen, LineMeets}
+use Rattle.scene_model.specs.Stale.{IsRemoved, Looks, looks, IsPinOf, IsLengthBy, IsWithinReach, IsOpen, LineMeets}
 use Rattle.route_book.specs.Solids.{AreRemoved}
 
 -- among the solids that went, one of which a fact holds is one of which it holds among all that went
@@ -32,16 +32,16 @@ closed_none old new e removed are none (s, went) = let c = are.all s went in let
 
 -- a route is open where a solid that came meets it, or one that went is reached
 pub open_some : (old new : Scene) (e : Edge) (r : Route) (removed added : List Solid) → AreRemoved old new removed → AreRemoved new old added
-    → (Any (λ s. LineMeets s.rect r.points) added ⊎ Any (λ s. IsReached old e s.rect r.cost) removed) ↔ IsOpen old new e (Some r)
+    → (Any (λ s. LineMeets s.rect r.points) added ⊎ Any (λ s. IsWithinReach old e s.rect r.cost) removed) ↔ IsOpen old new e (Some r)
 open_some old new e r removed added went came = (opened, closing)
   where
-    opened : Any (λ s. LineMeets s.rect r.points) added ⊎ Any (λ s. IsReached old e s.rect r.cost) removed → IsOpen old new e (Some r)
+    opened : Any (λ s. LineMeets s.rect r.points) added ⊎ Any (λ s. IsWithinReach old e s.rect r.cost) removed → IsOpen old new e (Some r)
     opened (inl h) = inl (any_removed (λ s. LineMeets s.rect r.points) new old added came h)
-    opened (inr h) = inr (any_removed (λ s. IsReached old e s.rect r.cost) old new removed went h)
+    opened (inr h) = inr (any_removed (λ s. IsWithinReach old e s.rect r.cost) old new removed went h)
 
-    closing : IsOpen old new e (Some r) → Any (λ s. LineMeets s.rect r.points) added ⊎ Any (λ s. IsReached old e s.rect r.cost) removed
+    closing : IsOpen old new e (Some r) → Any (λ s. LineMeets s.rect r.points) added ⊎ Any (λ s. IsWithinReach old e s.rect r.cost) removed
     closing (inl h) = inl (removed_any (λ s. LineMeets s.rect r.points) new old added came h)
-    closing (inr h) = inr (removed_any (λ s. IsReached old e s.rect r.cost) old new removed went h)
+    closing (inr h) = inr (removed_any (λ s. IsWithinReach old e s.rect r.cost) old new removed went h)
 
 -- what of a connector tells what it reaches
 record ReachesBy (old : Scene) (l : Looks) (r : Rect) (cost : ℕ) : Type 0 where
@@ -57,14 +57,14 @@ record ReachesBy (old : Scene) (l : Looks) (r : Rect) (cost : ℕ) : Type 0 wher
   is_way : IsLengthBy by (place_of source start) (l.via ++ place_of target end ∷ []) way
   reached : unsigned_abs start.cost + unsigned_abs end.cost + way ≤ cost
 
-told : (old s : Scene) (e : Edge) (r : Rect) (cost : ℕ) → IsReached old e r cost → ReachesBy old (looks s e) r cost
+told : (old s : Scene) (e : Edge) (r : Rect) (cost : ℕ) → IsWithinReach old e r cost → ReachesBy old (looks s e) r cost
 told old s e r cost h = record { source = h.source; target = h.target; start = h.start; end = h.end; is_start = h.is_start; is_end = h.is_end; by = h.by; within = h.within; way = h.way; is_way = h.is_way; reached = h.reached }
 
-untold : (old s : Scene) (e : Edge) (r : Rect) (cost : ℕ) → ReachesBy old (looks s e) r cost → IsReached old e r cost
+untold : (old s : Scene) (e : Edge) (r : Rect) (cost : ℕ) → ReachesBy old (looks s e) r cost → IsWithinReach old e r cost
 untold old s e r cost h = record { source = h.source; target = h.target; start = h.start; end = h.end; is_start = h.is_start; is_end = h.is_end; by = h.by; within = h.within; way = h.way; is_way = h.is_way; reached = h.reached }
 
 -- edges that look the same reach the same
-same_reach : (old s t : Scene) (d e : Edge) (r : Rect) (cost : ℕ) → looks s d ≡ looks t e → IsReached old d r cost → IsReached old e r cost
+same_reach : (old s t : Scene) (d e : Edge) (r : Rect) (cost : ℕ) → looks s d ≡ looks t e → IsWithinReach old d r cost → IsWithinReach old e r cost
 same_reach old s t d e r cost same h = untold old t e r cost (subst (λ l. ReachesBy old l r cost) same (told old s d r cost h))
 
 -- so they are open alike

@@ -12,7 +12,7 @@ use Rattle.scene_model.specs.declared.edge.Edge.{Edge}
 use Rattle.scene_model.specs.Scene.{Scene, node_with, edge_with}
 use Rattle.scene_model.specs.Valid.{IsValid}
 use Rattle.scene_model.specs.Routing.{pins_of_class, solids}
-use Rattle.scene_model.specs.Stale.{IsRemoved, IsReached}
+use Rattle.scene_model.specs.Stale.{IsRemoved, IsWithinReach}
 use Rattle.scene_model.proofs.Edges.{edge_found}
 use Rattle.scene_model.proofs.Floors.{floors_fit, is_task}
 use Rattle.route_book.specs.Reach.{AreParts, IsBox, IsNear, IsNearBetween}
@@ -20,7 +20,7 @@ use Rattle.route_book.specs.Solids.{AreRemoved}
 use Rattle.route_book.proofs.Solids.{node_found}
 
 module _ (s : Scene) (e : Edge) (source target : Node) (at_source : node_with s e.from ≡ Some source) (at_target : node_with s e.to ≡ Some target) where
-  pub reached_near : (r : Rect) (cost : ℕ) → IsNearBetween source target e cost r → IsReached s e r cost
+  pub reached_near : (r : Rect) (cost : ℕ) → IsNearBetween source target e cost r → IsWithinReach s e r cost
   reached_near r cost h =
       let near = h.near.near in
       record {
@@ -37,7 +37,7 @@ module _ (s : Scene) (e : Edge) (source target : Node) (at_source : node_with s 
         reached = near.reached;
       }
 
-  pub near_reached : (r : Rect) (cost : ℕ) → IsReached s e r cost → IsNearBetween source target e cost r
+  pub near_reached : (r : Rect) (cost : ℕ) → IsWithinReach s e r cost → IsNearBetween source target e cost r
   near_reached r cost x =
       let from : x.source ≡ source = same_Some x.source source (sym x.is_start.0 ∙ at_source) in
       let to : x.target ≡ target = same_Some x.target target (sym x.is_end.0 ∙ at_target) in

@@ -187,7 +187,7 @@ each_at P (y ∷ ys) zero x e h = subst P (same_Some _ _ h) e.0
 each_at P (y ∷ ys) (suc i) x e h = each_at P ys i x e.1 h
 
 -- what the task says to be reached the scene says so too
-scene_reached : (s : Scene) (e : Edge) (r : Rect) (m n : ℕ) → m ≤ n → IsReachedBy (task_of s e) r m → scene.IsReached s e r n
+scene_reached : (s : Scene) (e : Edge) (r : Rect) (m n : ℕ) → m ≤ n → IsReachedBy (task_of s e) r m → scene.IsWithinReach s e r n
 scene_reached s e r m n l h =
     let source = each_at (ComesFrom s e.from e.from_class) (task_of s e).starts h.i h.start (come_by s s.settings.buffer e.from e.from_class (node_with s e.from) refl) h.is_start in
     let target = each_at (ComesFrom s e.to e.to_class) (task_of s e).ends h.j h.end (come_by s s.settings.buffer e.to e.to_class (node_with s e.to) refl) h.is_end in

@@ -4,7 +4,7 @@ ghost use Rattle.std.specs.Bool.{OnFalse, OnTrue};
 ghost use Rattle.route_book.specs.Solids.{AreCompared};
 ghost use Rattle.scene_model.specs.Answers.{AreAnswers, IsAnswerOf};
 ghost use Rattle.scene_model.specs.Scene.{edge_with};
-ghost use Rattle.scene_model.specs.Stale.{AreStale, IsCurrent, IsOpen, IsReached, IsStale, LineMeets, looks};
+ghost use Rattle.scene_model.specs.Stale.{AreStale, IsCurrent, IsOpen, IsWithinReach, IsStale, LineMeets, looks};
 ghost use Rattle.scene_model.specs.Valid.{IsValid};
 ghost use Rattle.walk_model.specs.Line.{IsStraightLine};
 
@@ -134,7 +134,7 @@ impl<'a> Comparison<'a> {
         requires solids { AreCompared self.now.old.now self.now.new.now self.now.removed.items self.now.added.items }
         requires valid { IsValid self.now.old.now }
         requires known { edge_with self.now.old.now was.now.number ≡ Some was.now }
-        ensures { IsTrue result ↔ Any (λ s. IsReached self.now.old.now was.now s.rect cost) self.now.removed.items }
+        ensures { IsTrue result ↔ Any (λ s. IsWithinReach self.now.old.now was.now s.rect cost) self.now.removed.items }
     {
         let Some(source) = self.old.node(was.from) else {
             return false;

@@ -13,7 +13,7 @@ use Rattle.route_check.specs.declared.hit.Meeting.{Meeting}
 use Rattle.route_check.specs.Steps.{IsAmong}
 use Rattle.route_check.specs.Hit.{IsFirstMeeting, MeetsNone}
 use Rattle.route_check.proofs.Places.{contains_at, slice_get-push_left, slice_get-push_last, slice_get-push_below}
-use Rattle.route_check.specs.Verdict.{Hits, HitsFirst, HitsNone, MayMeet}
+use Rattle.route_check.specs.Verdict.{StepHits, HitsFirst, HitsNone, MayMeet}
 
 -- the code's default where a list has no such solid
 abbrev pub no_solid : Solid
@@ -28,7 +28,7 @@ HitSoFar solids s e first rest (Some hit) limit =
 module _ (s e : Choice) (first : Point) (rest : List Point) where
   -- before that step there is no hit
   unhit : (solids : List Solid) (hit : Option Hit) (limit : ℕ) → HitSoFar solids s e first rest hit limit
-      → (limit ≤ length (steps_through first rest)) × ((k : ℕ) → k < limit → (o : Solid) → Contains solids o → Hits s (walk_through first rest) e k o → ⊥)
+      → (limit ≤ length (steps_through first rest)) × ((k : ℕ) → k < limit → (o : Solid) → Contains solids o → StepHits s (walk_through first rest) e k o → ⊥)
   unhit solids None limit (is, none) = (omega (arith, is), λ k h. none k (omega (arith, is)))
   unhit solids (Some hit) limit (f, is) = (omega (arith, is, f.within), λ k h. f.first_step k (omega (arith, is)))
 
@@ -36,9 +36,9 @@ module _ (s e : Choice) (first : Point) (rest : List Point) where
   module _ (solids : List Solid) (o : Solid) (limit : ℕ) (asked : Steps)
       (is : (k : ℕ) → IsAmong asked k ↔ (((k < length (steps_through first rest)) × (MayMeet s (walk_through first rest) e k o.node → ⊥)) × (k < limit))) where
     -- a hit of the last solid is a meeting that was asked for
-    is_asked : (other : Solid) → o ≡ other → (k : ℕ) → k < length (steps_through first rest) → k < limit → Hits s (walk_through first rest) e k other → IsAmong asked k × MeetsAt o.rect (walk_through first rest) k
+    is_asked : (other : Solid) → o ≡ other → (k : ℕ) → k < length (steps_through first rest) → k < limit → StepHits s (walk_through first rest) e k other → IsAmong asked k × MeetsAt o.rect (walk_through first rest) k
     is_asked other new k within before hits =
-        let of_last : Hits s (walk_through first rest) e k o = subst (λ (x : Solid). Hits s (walk_through first rest) e k x) (sym new) hits in
+        let of_last : StepHits s (walk_through first rest) e k o = subst (λ (x : Solid). StepHits s (walk_through first rest) e k x) (sym new) hits in
         ((is k).1 ((within, of_last.1), before), of_last.0)
 
     pub hit_sooner : (hit : Option Hit) → HitSoFar solids s e first rest hit limit → (m : Meeting) → IsFirstMeeting o.rect asked first rest m

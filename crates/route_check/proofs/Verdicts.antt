@@ -14,7 +14,7 @@ use Rattle.walk_model.specs.Choice.{stub_length}
 use Rattle.walk_model.specs.Legal.{Leaves, Arrives, Passes, IsLegal, IsTask}
 use Rattle.route_check.specs.declared.verdict.Breach.{Breach}
 use Rattle.route_check.specs.declared.verdict.Breach.TheVariants.{Slanted, StartOff, EndOff, Hits as HitsAt, MissesVia}
-use Rattle.route_check.specs.Verdict.{FirstSlanted, Hits, HitsNone, IsEndOff, HasOneVerdict, IsBreach, IsFirstHit, IsFirstSlanted, IsLegalLine, IsMissed, IsOnSegment, Joins, MayMeet, at_start, at_end}
+use Rattle.route_check.specs.Verdict.{FirstSlanted, StepHits, HitsNone, IsEndOff, HasOneVerdict, IsBreach, IsFirstHit, IsFirstSlanted, IsLegalLine, IsMissed, IsOnSegment, Joins, MayMeet, at_start, at_end}
 use Rattle.route_check.proofs.Places.{contains_at}
 use Rattle.route_check.proofs.Stubs.{SameStub, one_start, one_end}
 
@@ -164,10 +164,10 @@ module _ (solids : List Solid) (task : Task) (is : IsTask task) (points : List P
         one_end task.ends is.ends e f j.is_end i.is_end v (subst (λ (u : Walk). Arrives u e) walk j.arrives) i.arrives,
       )
 
-  hits_same : (s t : Choice) (w v : Walk) (e f : Choice) → Joins task points s w e → Joins task points t v f → (k : ℕ) (o : Solid) → Hits s w e k o → Hits t v f k o
+  hits_same : (s t : Choice) (w v : Walk) (e f : Choice) → Joins task points s w e → Joins task points t v f → (k : ℕ) (o : Solid) → StepHits s w e k o → StepHits t v f k o
   hits_same s t w v e f j i k o hits =
       let one = one_walk s t w v e f j i in
-      subst (λ (u : Walk). Hits t u f k o) one.0 (hits.0, λ may. hits.1 (may_meet_same t s w f e k o.node (turned s t one.1) (turned e f one.2) may))
+      subst (λ (u : Walk). StepHits t u f k o) one.0 (hits.0, λ may. hits.1 (may_meet_same t s w f e k o.node (turned s t one.1) (turned e f one.2) may))
 
   -- a line that goes from stub to stub ends with a stub
   not_off : IsEndOff task points → (s : Choice) (w : Walk) (e : Choice) → Joins task points s w e → ⊥
@@ -188,7 +188,7 @@ module _ (solids : List Solid) (task : Task) (is : IsTask task) (points : List P
       (contains_at solids f.place f.solid f.at_place) (hits_same h.start c.start h.walk c.walk h.end c.end h.joins c.joins f.step f.solid f.hits)
 
   module _ (k l : ℕ) (n m : ℤ) (a : IsFirstHit solids task points k n) (b : IsFirstHit solids task points l m) where
-    hits_there : Hits b.start b.walk b.end a.first.step a.first.solid
+    hits_there : StepHits b.start b.walk b.end a.first.step a.first.solid
     hits_there = hits_same a.start b.start a.walk b.walk a.end b.end a.joins b.joins a.first.step a.first.solid a.first.hits
 
     not_earlier_step : a.first.step < b.first.step → ⊥
@@ -199,7 +199,7 @@ module _ (solids : List Solid) (task : Task) (is : IsTask task) (points : List P
     not_earlier_solid : a.first.step ≡ b.first.step → a.first.place < b.first.place → ⊥
     not_earlier_solid e h =
         let f = a.first in
-        b.first.first_solid f.place h f.solid f.at_place (subst (λ (i : ℕ). Hits b.start b.walk b.end i f.solid) e hits_there)
+        b.first.first_solid f.place h f.solid f.at_place (subst (λ (i : ℕ). StepHits b.start b.walk b.end i f.solid) e hits_there)
 
   one_hit : (k l : ℕ) (n m : ℤ) → IsFirstHit solids task points k n → IsFirstHit solids task points l m → HitsAt k n ≡ HitsAt l m
   one_hit k l n m a b =

@@ -70,8 +70,8 @@ pub data MayMeet (s : Choice) (w : Walk) (e : Choice) (k : ℕ) (node : ℤ) : T
   at_end : length w.steps - stub_length e ≤ k → node ≡ e.node → MayMeet s w e k node
 
 -- step k meets the solid, and may not
-abbrev pub Hits : Choice → Walk → Choice → ℕ → Solid → Type 0
-Hits s w e k solid = MeetsAt solid.rect w k × (MayMeet s w e k solid.node → ⊥)
+abbrev pub StepHits : Choice → Walk → Choice → ℕ → Solid → Type 0
+StepHits s w e k solid = MeetsAt solid.rect w k × (MayMeet s w e k solid.node → ⊥)
 
 -- step k, counted from 0, is on segment number `segment` of the line, counted from 1
 abbrev pub IsOnSegment : List Point → ℕ → ℕ → Type 0
@@ -80,7 +80,7 @@ IsOnSegment points k segment =
 
 -- no step meets a solid which it may not meet
 abbrev pub HitsNone : List Solid → Choice → Walk → Choice → Type 0
-HitsNone solids s w e = (k : ℕ) → k < length w.steps → (solid : Solid) → Contains solids solid → Hits s w e k solid → ⊥
+HitsNone solids s w e = (k : ℕ) → k < length w.steps → (solid : Solid) → Contains solids solid → StepHits s w e k solid → ⊥
 
 -- the first step that meets a solid which it may not meet is on this segment, and the first such solid is of this node
 pub record HitsFirst (solids : List Solid) (points : List Point) (s : Choice) (w : Walk) (e : Choice) (segment : ℕ) (node : ℤ) : Type 0 where
@@ -89,9 +89,9 @@ pub record HitsFirst (solids : List Solid) (points : List Point) (s : Choice) (w
   pub place : ℕ
   pub solid : Solid
   pub at_place : slice_get solids place ≡ Some solid
-  pub hits : Hits s w e step solid
-  pub first_step : (k : ℕ) → k < step → (other : Solid) → Contains solids other → Hits s w e k other → ⊥
-  pub first_solid : (j : ℕ) → j < place → (other : Solid) → slice_get solids j ≡ Some other → Hits s w e step other → ⊥
+  pub hits : StepHits s w e step solid
+  pub first_step : (k : ℕ) → k < step → (other : Solid) → Contains solids other → StepHits s w e k other → ⊥
+  pub first_solid : (j : ℕ) → j < place → (other : Solid) → slice_get solids j ≡ Some other → StepHits s w e step other → ⊥
   pub on_segment : IsOnSegment points step segment
   pub of_node : node ≡ solid.node
 

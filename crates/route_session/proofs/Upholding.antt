@@ -23,8 +23,8 @@ use Rattle.edit_txn.specs.Txn.{Transaction, BeganOn}
 use Rattle.undo_log.specs.declared.step.Step.{Step}
 use Rattle.undo_log.specs.Log.{Log}
 use Rattle.undo_log.specs.Lending.{gone_back, gone_forth}
-use Rattle.history_laws.specs.History.{IsStep, IsHistory, IsTurned, LeadBack, LeadOn, world_of, pushed}
-use Rattle.history_laws.proofs.Turning.{puts_behind, goes_back, goes_on, step_stays_valid}
+use Rattle.session_laws.specs.History.{IsStep, IsHistory, IsTurned, LeadBack, LeadOn, world_of, pushed}
+use Rattle.session_laws.proofs.Turning.{puts_behind, goes_back, goes_on, step_stays_valid}
 use Rattle.route_book.specs.Exchange.{Exchange, turned}
 use Rattle.route_session.specs.Upheld.{IsUpheld, AreRestorable, AreFree, turned_step}
 use Rattle.route_session.proofs.Steps.{restorable, free}

@@ -14,7 +14,7 @@ use Rattle.scene_model.specs.Answers.{AreAnswers}
 use Rattle.edit_txn.specs.Txn.{Transaction, BeganOn}
 use Rattle.undo_log.specs.declared.step.Step.{Step}
 use Rattle.undo_log.specs.Log.{Log}
-use Rattle.history_laws.specs.History.{IsHistory}
+use Rattle.session_laws.specs.History.{IsHistory}
 use Rattle.route_book.specs.Exchange.{Exchange, turned}
 
 -- the graph is that of the scene's floor, the book right for the scene; the history leads from it, and so does the transaction

@@ -7,6 +7,6 @@ mod present;
 mod scenes;
 mod session;
 
-pub use history_laws::{commits_are_given_back, sessions_are_worlds};
 pub use scene_model::SessionFault;
 pub use session::Session;
+pub use session_laws::{commits_are_given_back, sessions_are_worlds};

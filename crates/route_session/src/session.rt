@@ -5,11 +5,11 @@ ghost use Rattle.line_arena.specs.Arena.{Arena};
 ghost use Rattle.line_arena.specs.Stands.{StandsFor};
 ghost use Rattle.graph_repair.specs.Change.{CountsWrites};
 ghost use Rattle.nudge_laws.specs.Apart.{KeepsApart};
-ghost use Rattle.nudge_phases.specs.Nudged.{AreLegalLines, IsNudgedScene};
+ghost use Rattle.nudge_phases.specs.Nudged.{AreLegalNudgedLines, IsNudgedScene};
 ghost use Rattle.nudge_phases.specs.Raw.{routed};
 ghost use Rattle.route_book.specs.Exchange.{CountsStale};
 ghost use Rattle.route_search.specs.Finds.{counted_by};
-ghost use Rattle.history_laws.specs.Calls.{IsFaultOf};
+ghost use Rattle.session_laws.specs.Calls.{IsFaultOf};
 ghost use Rattle.route_session.specs.Upheld.{turned_step};
 ghost use Rattle.scene_model.specs.Answers.{AreAnswers};
 ghost use Rattle.scene_model.specs.Edits.{IsDirected};
@@ -53,9 +53,9 @@ pub struct Session {
 
 impl Model for Session {
     ghost use Rattle.std.specs.Prelude.{option_map};
-    ghost use Rattle.history_laws.specs.State.{State};
+    ghost use Rattle.session_laws.specs.State.{State};
     ghost use Rattle.route_session.specs.Upheld.{IsUpheld};
-    ghost use Rattle.history_laws.specs.History.{world_of};
+    ghost use Rattle.session_laws.specs.History.{world_of};
 
     ghost Value = { State };
 
@@ -331,7 +331,7 @@ impl Session {
         ensures apart { IfOk result (λ n. (p : IsNudgedScene self.now.world.present self.now.book n.x_solutions.items n.y_solutions.items n.routes.items) →
             KeepsApart p.nudged.x × KeepsApart p.nudged.y) }
         // Every line is a legal walk of its connector, with the choices of its route.
-        ensures legal { IfOk result (λ n. AreLegalLines self.now.world.present self.now.book n.routes.items) }
+        ensures legal { IfOk result (λ n. AreLegalNudgedLines self.now.world.present self.now.book n.routes.items) }
         // One line for each answer with a route, in order.
         ensures edges { IfOk result (λ n. map (λ l. l.edge) n.routes.items ≡ map (λ p. p.0) (routed self.now.book)) }
     {

@@ -18,7 +18,7 @@ use Rattle.scene_model.specs.declared.settings.Settings.{Settings}
 use Rattle.scene_model.specs.Scene.{Scene, node_with, edge_with}
 use Rattle.scene_model.specs.Valid.{IsValid}
 use Rattle.scene_model.specs.Edits.{refusals, changed, change_node, change_edge, with_setting, half, new_pin, new_node, new_edge}
-use Rattle.scene_model.specs.Inverses.{restored, Fits, set_node, set_edge, put_node, put_edge, value_of, TakesBack}
+use Rattle.scene_model.specs.Inverses.{restored, Fits, set_node, set_edge, put_node, put_edge, setting_value, TakesBack}
 use Rattle.scene_model.proofs.Entries.{Differ, IsOnly, pairs_from, only_found, key_found, find_changed, changed_back, back_at_place, without, without_last, keyless, absent, found_last, each_weaker, found_none}
 use Rattle.scene_model.proofs.Refusals.{all_none, when_none, none_of, known_node, known_edge}
 use Rattle.scene_model.proofs.Nodes.{id_of}
@@ -141,7 +141,7 @@ edge_added_back s from to from_class to_class v =
           (each_weaker (λ e. e.number < s.next_edge) (λ e. e.number ≢ s.next_edge) (below_differ s.next_edge) s.edges below) refl),
     )
 
-set_back : (what : Setting) (value : ℤ) (t : Settings) → with_setting what (value_of what t) (with_setting what value t) ≡ t
+set_back : (what : Setting) (value : ℤ) (t : Settings) → with_setting what (setting_value what t) (with_setting what value t) ≡ t
 set_back Penalty value t = refl
 set_back Buffer value t = refl
 set_back Nudge value t = refl

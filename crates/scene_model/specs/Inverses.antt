@@ -39,10 +39,10 @@ pub record IsRestorable (i : Inverse) (s : Scene) : Type 0 where
   pub valid : IsValid (restored i s)
 
 -- the value of a setting
-abbrev pub value_of : Setting → Settings → ℤ
-value_of Penalty t = t.penalty
-value_of Buffer t = t.buffer
-value_of Nudge t = t.nudge
+abbrev pub setting_value : Setting → Settings → ℤ
+setting_value Penalty t = t.penalty
+setting_value Buffer t = t.buffer
+setting_value Nudge t = t.nudge
 
 -- the node, the edge as it is, in the place of the changed one
 abbrev pub set_node : Scene → ℤ → Inverse
@@ -71,7 +71,7 @@ inverse_of (edit.CutEdge number) s = put_edge s number
 inverse_of (edit.SetClasses number from_class to_class) s = set_edge s number
 inverse_of (edit.AddVia number place x y) s = set_edge s number
 inverse_of (edit.DropVia number place) s = set_edge s number
-inverse_of (edit.Set what value) s = Set what (value_of what s.settings)
+inverse_of (edit.Set what value) s = Set what (setting_value what s.settings)
 
 -- the edits, of which none is refused and each pin has a direction, lead from the one scene to the other, and these are their inverses
 abbrev pub Leads : Scene → List Edit → List Inverse → Scene → Type 0

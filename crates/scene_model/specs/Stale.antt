@@ -75,7 +75,7 @@ abbrev pub IsPinOf : Scene → ℤ → ℕ → Node → Pin → Type 0
 IsPinOf s id class n p = (node_with s id ≡ Some n) × Contains (pins_of_class n class) p
 
 -- within the cost a way from a pin of the one end through the checkpoints to a pin of the other may touch the closed rectangle
-pub record IsReached (s : Scene) (e : Edge) (r : Rect) (cost : ℕ) : Type 0 where
+pub record IsWithinReach (s : Scene) (e : Edge) (r : Rect) (cost : ℕ) : Type 0 where
   pub source : Node
   pub target : Node
   pub start : Pin
@@ -101,7 +101,7 @@ abbrev pub IsOpen : Scene → Scene → Edge → Option Route → Type 0
 IsOpen old new e None = (s : Solid) × IsRemoved old new s
 IsOpen old new e (Some r) =
     ((s : Solid) × IsAdded old new s × LineMeets s.rect r.points)
-    ⊎ ((s : Solid) × IsRemoved old new s × IsReached old e s.rect r.cost)
+    ⊎ ((s : Solid) × IsRemoved old new s × IsWithinReach old e s.rect r.cost)
 
 -- why a connector is searched again
 pub data IsStale (old : Scene) (answers : List Answer) (new : Scene) (e : Edge) : Type 0 where

@@ -27,26 +27,26 @@ abbrev pub given_up : World → World
 given_up w = record w { working = None }
 
 -- why a command is refused
-pub data Refusal : Type 0 where
-  syntax_error : Refusal
-  refused : SessionFault → Refusal
+pub data CommandRefusal : Type 0 where
+  syntax_error : CommandRefusal
+  refused : SessionFault → CommandRefusal
 
 -- the working scene after an edit
-abbrev pub edit_working : World → Result Scene SceneFault → Result World Refusal
+abbrev pub edit_working : World → Result Scene SceneFault → Result World CommandRefusal
 edit_working w (Ok s) = Ok (record w { working = Some s })
 edit_working w (Err fault) = Err (refused (faults.Edit fault))
 
 -- one scene back, one scene on
-abbrev pub back : World → List Scene → Result World Refusal
-back w [] = Err (refused faults.NothingToUndo)
-back w (s ∷ ss) = Ok (record { past = ss; present = s; future = w.present ∷ w.future; working = None })
+abbrev pub one_scene_back : World → List Scene → Result World CommandRefusal
+one_scene_back w [] = Err (refused faults.NothingToUndo)
+one_scene_back w (s ∷ ss) = Ok (record { past = ss; present = s; future = w.present ∷ w.future; working = None })
 
-abbrev pub on : World → List Scene → Result World Refusal
-on w [] = Err (refused faults.NothingToRedo)
-on w (s ∷ ss) = Ok (record { past = w.present ∷ w.past; present = s; future = ss; working = None })
+abbrev pub one_scene_on : World → List Scene → Result World CommandRefusal
+one_scene_on w [] = Err (refused faults.NothingToRedo)
+one_scene_on w (s ∷ ss) = Ok (record { past = w.present ∷ w.past; present = s; future = ss; working = None })
 
 -- what a command makes of the world with this working scene, if it is not refused; 100 scenes at most are kept behind
-abbrev pub taken : Command → Option Scene → World → Result World Refusal
+abbrev pub taken : Command → Option Scene → World → Result World CommandRefusal
 taken Bad working w = Err syntax_error
 taken Begin None w = Ok (record w { working = Some w.present })
 taken Begin (Some s) w = Err (refused faults.AlreadyOpen)
@@ -56,27 +56,27 @@ taken Commit None w = Err (refused faults.NoTransaction)
 taken Commit (Some s) w = Ok (record { past = take 100 (w.present ∷ w.past); present = s; future = []; working = None })
 taken Abort None w = Err (refused faults.NoTransaction)
 taken Abort (Some s) w = Ok (given_up w)
-taken Undo None w = back w w.past
+taken Undo None w = one_scene_back w w.past
 taken Undo (Some s) w = Err (refused faults.AlreadyOpen)
-taken Redo None w = on w w.future
+taken Redo None w = one_scene_on w w.future
 taken Redo (Some s) w = Err (refused faults.AlreadyOpen)
 
 -- what a command makes of the world, if it is not refused
-abbrev pub step : Command → World → Result World Refusal
+abbrev pub step : Command → World → Result World CommandRefusal
 step c w = taken c w.working w
 
 -- after a refusal no transaction is open, and all else is as before
-abbrev pub or_given_up : World → Result World Refusal → World
+abbrev pub or_given_up : World → Result World CommandRefusal → World
 or_given_up w (Ok next) = next
 or_given_up w (Err refusal) = given_up w
 
 -- the world after a command, and after a list of them
-abbrev pub after : Command → World → World
-after c w = or_given_up w (step c w)
+abbrev pub next_world : Command → World → World
+next_world c w = or_given_up w (step c w)
 
 abbrev pub played : List Command → World → World
 played [] w = w
-played (c ∷ cs) w = played cs (after c w)
+played (c ∷ cs) w = played cs (next_world c w)
 
 -- what holds of each scene of a world
 pub record Everywhere (P : Scene → Type 0) (w : World) : Type 0 where
@@ -91,8 +91,8 @@ IsDirectedCommand (Edit e) = IsDirected e
 IsDirectedCommand c = Unit {0}
 
 -- what each edit keeps that is not refused
-abbrev pub IsKept : (Scene → Type 0) → Type 0
-IsKept P = (e : SceneEdit) (s : Scene) → IsDirected e → P s → refusal e s ≡ None → P (changed e s)
+abbrev pub EditsKeep : (Scene → Type 0) → Type 0
+EditsKeep P = (e : SceneEdit) (s : Scene) → IsDirected e → P s → refusal e s ≡ None → P (changed e s)
 
 -- the law: the scenes of a world stay valid
 abbrev pub ScenesStayValid : Type 0

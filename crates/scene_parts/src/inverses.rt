@@ -1,7 +1,7 @@
 //! What takes an edit back.
 ghost use Rattle.std.specs.Prelude.{◌≡◌, None, IsSome, IfOk, OnOk, OnErr};
 ghost use Rattle.scene_model.specs.Edits.{refusal};
-ghost use Rattle.scene_model.specs.Inverses.{Fits, inverse_of, put_edge, put_node, restored, set_edge, set_node, value_of};
+ghost use Rattle.scene_model.specs.Inverses.{Fits, inverse_of, put_edge, put_node, restored, set_edge, set_node, setting_value};
 ghost use Rattle.scene_model.specs.Scene.{edge_with, node_with};
 ghost use Rattle.scene_model.specs.Valid.{IsValid};
 
@@ -12,7 +12,7 @@ use std::alloc::AllocError;
 
 /// The value of a setting.
 fn value_of(what: Setting, settings: Settings) -> i64
-    ensures { result ≡ value_of what settings }
+    ensures { result ≡ setting_value what settings }
 {
     match what {
         Setting::Penalty => settings.penalty,

@@ -1,6 +1,6 @@
 //! What is made from seed 1, as an independent program makes it.
 
-use made_input::{Summary, made_commands, made_scene};
+use generated_input::{Summary, made_commands, made_scene};
 use scene_model::{Command, Edit, Node};
 use scene_store::Scene;
 

@@ -14,7 +14,7 @@ use Rattle.plane_geom.specs.Point.{IsCoordinate, IsStraight, PointIsOnSheet, hea
 use Rattle.plane_geom.proofs.Headings.{same_point}
 use Rattle.walk_model.specs.Line.{AreStraight}
 use Rattle.segment_order.specs.declared.run.Run.{Run}
-use Rattle.segment_order.specs.Run.{AreCorners, AreRunsOf, IsRun, end_of, point_at, run_at, run_between, runs_along, start_of}
+use Rattle.segment_order.specs.Run.{AreCorners, AreRunsOf, IsRun, end_of_run, point_at_index, run_at, run_between, runs_along, start_of_run}
 use Rattle.segment_order.proofs.Headings.{Goes, goes}
 
 -- the run from one corner to the next, by its heading
@@ -23,8 +23,8 @@ between_with d edge place p q = record { edge = edge; place = place; way = way_o
 
 -- the run begins at the one point and ends at the other; it is on the sheet where they are
 pub record IsFromTo (r : Run) (p q : Point) : Type 0 where
-  pub start : start_of r ≡ p
-  pub finish : end_of r ≡ q
+  pub start : start_of_run r ≡ p
+  pub finish : end_of_run r ≡ q
   pub is : PointIsOnSheet p → PointIsOnSheet q → IsRun r
 
 least_in : (a b : ℤ) → IsCoordinate a → IsCoordinate b → IsCoordinate (int_min a b)
@@ -73,18 +73,18 @@ raw_each edge place p (q ∷ qs) straight at within (suc k) h =
     let more = raw_each edge (place + 1) q qs straight.1 (All-head PointIsOnSheet q qs within) (All-tail PointIsOnSheet q qs within) k (omega arith) in
     record { is = more.is; edge_is = more.edge_is; place_is = omega (arith, more.place_is) }
 
-pub raw_joined : (edge place : ℕ) (p : Point) (qs : List Point) → AreStraight p qs → (k : ℕ) → k + 1 < length (runs_along edge place (p ∷ qs)) → end_of (run_at (runs_along edge place (p ∷ qs)) k) ≡ start_of (run_at (runs_along edge place (p ∷ qs)) (k + 1))
+pub raw_joined : (edge place : ℕ) (p : Point) (qs : List Point) → AreStraight p qs → (k : ℕ) → k + 1 < length (runs_along edge place (p ∷ qs)) → end_of_run (run_at (runs_along edge place (p ∷ qs)) k) ≡ start_of_run (run_at (runs_along edge place (p ∷ qs)) (k + 1))
 raw_joined edge place p [] straight k h = absurd (omega arith)
 raw_joined edge place p (q ∷ []) straight k h = absurd (omega arith)
 raw_joined edge place p (q ∷ t ∷ qs) straight zero h =
     (from_to edge place p q straight.0).finish ∙ sym (from_to edge (place + 1) q t straight.1.0).start
-    ∙ ap (λ n. start_of (run_at (runs_along edge place (p ∷ q ∷ t ∷ qs)) n)) (let e : suc 0 ≡ 0 + 1 = omega arith in e)
+    ∙ ap (λ n. start_of_run (run_at (runs_along edge place (p ∷ q ∷ t ∷ qs)) n)) (let e : suc 0 ≡ 0 + 1 = omega arith in e)
 raw_joined edge place p (q ∷ t ∷ qs) straight (suc k) h =
     raw_joined edge (place + 1) q (t ∷ qs) straight.1 k (omega arith)
-    ∙ ap (λ n. start_of (run_at (runs_along edge place (p ∷ q ∷ t ∷ qs)) n)) (let e : suc (k + 1) ≡ suc k + 1 = omega arith in e)
+    ∙ ap (λ n. start_of_run (run_at (runs_along edge place (p ∷ q ∷ t ∷ qs)) n)) (let e : suc (k + 1) ≡ suc k + 1 = omega arith in e)
 
 -- the headings are those between the corners
-heading_is : (edge place : ℕ) (p : Point) (qs : List Point) (k : ℕ) → k < length qs → (run_at (runs_along edge place (p ∷ qs)) k).heading ≡ heading (point_at (p ∷ qs) k) (point_at qs k)
+heading_is : (edge place : ℕ) (p : Point) (qs : List Point) (k : ℕ) → k < length qs → (run_at (runs_along edge place (p ∷ qs)) k).heading ≡ heading (point_at_index (p ∷ qs) k) (point_at_index qs k)
 heading_is edge place p [] k h = absurd (omega arith)
 heading_is edge place p (q ∷ qs) zero h = refl
 heading_is edge place p (q ∷ qs) (suc k) h = heading_is edge (place + 1) q qs k (omega arith)
@@ -94,14 +94,14 @@ count edge place p [] = refl
 count edge place p (q ∷ qs) = ap suc (count edge (place + 1) q qs)
 
 turns_at : (edge : ℕ) (p q : Point) (qs : List Point) (k : ℕ) → k + 1 < length (q ∷ qs) →
-    heading (point_at (p ∷ q ∷ qs) k) (point_at (p ∷ q ∷ qs) (k + 1)) ≢ heading (point_at (p ∷ q ∷ qs) (k + 1)) (point_at (p ∷ q ∷ qs) (k + 2)) →
+    heading (point_at_index (p ∷ q ∷ qs) k) (point_at_index (p ∷ q ∷ qs) (k + 1)) ≢ heading (point_at_index (p ∷ q ∷ qs) (k + 1)) (point_at_index (p ∷ q ∷ qs) (k + 2)) →
     (run_at (runs_along edge 1 (p ∷ q ∷ qs)) k).heading ≢ (run_at (runs_along edge 1 (p ∷ q ∷ qs)) (k + 1)).heading
 turns_at edge p q qs k h turn same =
     let one = heading_is edge 1 p (q ∷ qs) k (omega arith) in
     let next = heading_is edge 1 p (q ∷ qs) (k + 1) h in
     let at : suc k ≡ k + 1 = omega arith in
     let after : suc (k + 1) ≡ k + 2 = omega arith in
-    turn (ap (λ n. heading (point_at (p ∷ q ∷ qs) k) (point_at (p ∷ q ∷ qs) n)) (sym at) ∙ sym one ∙ same ∙ next ∙ ap (λ n. heading (point_at (p ∷ q ∷ qs) (k + 1)) (point_at (p ∷ q ∷ qs) n)) after)
+    turn (ap (λ n. heading (point_at_index (p ∷ q ∷ qs) k) (point_at_index (p ∷ q ∷ qs) n)) (sym at) ∙ sym one ∙ same ∙ next ∙ ap (λ n. heading (point_at_index (p ∷ q ∷ qs) (k + 1)) (point_at_index (p ∷ q ∷ qs) n)) after)
 
 -- the runs through corners are those of a route
 pub are_runs : (edge : ℕ) (points : List Point) → AreCorners points → AreRunsOf edge (runs_along edge 1 points)

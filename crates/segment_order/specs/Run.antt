@@ -40,15 +40,15 @@ end_in West r = point_on r.way r.at r.lo
 end_in North r = point_on r.way r.at r.lo
 
 -- where the run begins and ends
-abbrev pub start_of : Run → Point
-start_of r = end_in (opposite r.heading) r
+abbrev pub start_of_run : Run → Point
+start_of_run r = end_in (opposite r.heading) r
 
-abbrev pub end_of : Run → Point
-end_of r = end_in r.heading r
+abbrev pub end_of_run : Run → Point
+end_of_run r = end_in r.heading r
 
 -- the run as a piece of its line
-abbrev pub line_of : Run → Line
-line_of r = record { way = r.way; at = r.at; lo = r.lo; hi = r.hi }
+abbrev pub line_of_run : Run → Line
+line_of_run r = record { way = r.way; at = r.at; lo = r.lo; hi = r.hi }
 
 -- what is read past the last run
 abbrev pub no_run : Run
@@ -72,12 +72,12 @@ pub record AreRunsOf (edge : ℕ) (runs : List Run) : Type 0 where
   pub each : EachIndex runs (λ k. IsRun (run_at runs k))
   pub edges : EachIndex runs (λ k. (run_at runs k).edge ≡ edge)
   pub places : EachIndex runs (λ k. (run_at runs k).place ≡ k + 1)
-  pub joined : (k : ℕ) → k + 1 < length runs → end_of (run_at runs k) ≡ start_of (run_at runs (k + 1))
+  pub joined : (k : ℕ) → k + 1 < length runs → end_of_run (run_at runs k) ≡ start_of_run (run_at runs (k + 1))
   pub turns : (k : ℕ) → k + 1 < length runs → (run_at runs k).heading ≢ (run_at runs (k + 1)).heading
 
 -- the point at the index; past the end, the origin
-abbrev pub point_at : List Point → ℕ → Point
-point_at points k = slice_index_or points k (record { x = pos 0; y = pos 0 })
+abbrev pub point_at_index : List Point → ℕ → Point
+point_at_index points k = slice_index_or points k (record { x = pos 0; y = pos 0 })
 
 -- corners of which the runs are those of a route: two at least, on the sheet, each straight from the one before it, and the heading goes on unchanged at none
 pub record AreCorners (points : List Point) : Type 0 where
@@ -85,4 +85,4 @@ pub record AreCorners (points : List Point) : Type 0 where
   pub on_sheet : All PointIsOnSheet points
   pub straight : IsStraightLine points
   pub turns : (k : ℕ) → k + 2 < length points →
-      heading (point_at points k) (point_at points (k + 1)) ≢ heading (point_at points (k + 1)) (point_at points (k + 2))
+      heading (point_at_index points k) (point_at_index points (k + 1)) ≢ heading (point_at_index points (k + 1)) (point_at_index points (k + 2))

@@ -23,7 +23,7 @@ pub struct Run {
 impl Run {
     ghost use Rattle.std.specs.Prelude.{◌↔◌, IsTrue};
     ghost use Rattle.plane_geom.specs.Floor.{Holds};
-    ghost use Rattle.segment_order.specs.Run.{end_in, end_of, line_of, start_of};
+    ghost use Rattle.segment_order.specs.Run.{end_in, end_of_run, line_of_run, start_of_run};
 
     /// The end at which one who travels in the direction leaves the run.
     fn end_in(&self, dir: Dir) -> Point
@@ -47,21 +47,21 @@ impl Run {
 
     /// Where the run begins.
     pub fn start(&self) -> Point
-        ensures { result ≡ start_of self.now }
+        ensures { result ≡ start_of_run self.now }
     {
         self.end_in(self.heading.opposite())
     }
 
     /// Where the run ends.
     pub fn end(&self) -> Point
-        ensures { result ≡ end_of self.now }
+        ensures { result ≡ end_of_run self.now }
     {
         self.end_in(self.heading)
     }
 
     /// Whether the point lies on the run, its ends included.
     pub fn holds(&self, p: Point) -> bool
-        ensures { IsTrue result ↔ Holds (line_of self.now) p }
+        ensures { IsTrue result ↔ Holds (line_of_run self.now) p }
     {
         if p.across(self.way) != self.at {
             return false;

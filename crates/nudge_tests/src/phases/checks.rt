@@ -5,7 +5,7 @@ ghost use Rattle.plane_geom.specs.declared.point.Way.{Way};
 ghost use Rattle.plane_geom.specs.Along.{across};
 ghost use Rattle.plane_geom.specs.Floor.{Holds, IsSolid};
 ghost use Rattle.plane_geom.specs.Point.{IsCoordinate, PointIsOnSheet, opposite};
-ghost use Rattle.segment_order.specs.Run.{IsRun, end_of, line_of, run_at, start_of};
+ghost use Rattle.segment_order.specs.Run.{IsRun, end_of_run, line_of_run, run_at, start_of_run};
 ghost use Rattle.separation_model.specs.Bundle.{most_items};
 ghost use Rattle.channel_bundles.specs.Route.{HasToLeave, HasToReach, IsFixed, IsPhaseRoute, runs_of_way};
 ghost use Rattle.channel_bundles.specs.Limits.{IsReached, MayStandAt, Sweeps};
@@ -110,7 +110,7 @@ fn are_numbered(edge: u32, runs: &[Run]) -> bool
 
 /// Whether the run begins where the one before it ends, with another heading.
 fn goes_on(before: &Run, run: &Run) -> bool
-    ensures joined { IsTrue result → end_of before.now ≡ start_of run.now }
+    ensures joined { IsTrue result → end_of_run before.now ≡ start_of_run run.now }
     ensures turns { IsTrue result → before.now.heading ≢ run.now.heading }
 {
     before.end() == run.start() && before.heading != run.heading
@@ -118,7 +118,7 @@ fn goes_on(before: &Run, run: &Run) -> bool
 
 /// Whether each run begins where the one before it ends, with another heading.
 fn are_joined(runs: &[Run]) -> bool
-    ensures joined { IsTrue result → (k : ℕ) → k + 1 < length runs.now → end_of (run_at runs.now k) ≡ start_of (run_at runs.now (k + 1)) }
+    ensures joined { IsTrue result → (k : ℕ) → k + 1 < length runs.now → end_of_run (run_at runs.now k) ≡ start_of_run (run_at runs.now (k + 1)) }
     ensures turns { IsTrue result → (k : ℕ) → k + 1 < length runs.now → (run_at runs.now k).heading ≢ (run_at runs.now (k + 1)).heading }
 {
     for k in 1..runs.len() {
@@ -234,7 +234,7 @@ fn has_reached_if(needed: bool, run: &Run, dir: Dir, p: Point) -> bool
 
 /// Whether one who travels in the direction has come to each checkpoint on the neighbour at the run.
 fn has_reached_each(run: &Run, dir: Dir, via: &[Point], neighbour: &Run) -> bool
-    ensures { IsTrue result → All (λ p. Holds (line_of neighbour.now) p → IsReached dir (across run.now.way p) run.now.at) via.now }
+    ensures { IsTrue result → All (λ p. Holds (line_of_run neighbour.now) p → IsReached dir (across run.now.way p) run.now.at) via.now }
 {
     via.iter()
         .all(|p| has_reached_if(neighbour.holds(*p), run, dir, *p))

@@ -1,6 +1,6 @@
 -- The outcome has one status, and its cause.
 use Rattle.std.specs.Prelude.{map, string_bytes}
-use Rattle.route_replay.proofs.Replying.{one_list_of_replies}
+use Rattle.script_replay.proofs.Replying.{one_list_of_replies}
 use Rattle.reroute_app.specs.declared.status.Status.TheVariants as status
 use Rattle.reroute_app.specs.View.{view}
 use Rattle.reroute_app.proofs.Causes.{exact, outcome_written}

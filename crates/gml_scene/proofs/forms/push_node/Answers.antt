@@ -4,7 +4,7 @@ use Rattle.std.specs.Prelude.{codes}
 use Rattle.gml_text.specs.Tree.{list, ◌then◌}
 use Rattle.gml_text.specs.View.{content, pairs}
 use Rattle.gml_scene.specs.Changes.{all_of, one}
-use Rattle.gml_scene.specs.Forms.{id_of, box_pairs, pin_pair, node_pairs}
+use Rattle.gml_scene.specs.Forms.{id_content, box_pairs, pin_pair, node_pairs}
 use Rattle.gml_scene.proofs.PairLists.{content_list}
 use Rattle.gml_scene.proofs.Walks.{on_ok}
 use Rattle.gml_scene.proofs.forms.push_node.Goals as goal
@@ -12,12 +12,12 @@ use Rattle.gml_scene.proofs.forms.push_node.Goals as goal
 pub returns : goal.returns
 returns c =
     let n = c.args.node.now in
-    let pi = one (codes "id") (id_of n.id) in
+    let pi = one (codes "id") (id_content n.id) in
     let pg = one (codes "graphics") (list (box_pairs n)) in
     let i : pairs c.push.new.list.items ≡ pairs c.new-inner.result.items then one (codes "id") (content c.in_ok-id_of.field-0) = c.in_ok-push.ensures in
     let g : pairs c.push-2.new.list.items ≡ pairs c.push.new.list.items then one (codes "graphics") (content c.in_ok-box_of.field-0) = c.in_ok-push-2.ensures in
     let p : pairs c.push_pins.new.list.items ≡ pairs c.push-2.new.list.items then all_of pin_pair c.as_slice.result.now = c.in_ok-push_pins.ensures in
-    let id : content c.in_ok-id_of.field-0 ≡ id_of n.id = search (rules, c.in_ok-id_of.ensures) in
+    let id : content c.in_ok-id_of.field-0 ≡ id_content n.id = search (rules, c.in_ok-id_of.ensures) in
     let first : pairs c.push.new.list.items ≡ pi =
     i ∙ ap (λ v. pairs c.new-inner.result.items then one (codes "id") v) id ∙ ap (λ xs. pairs xs then pi) c.new-inner.ensures.items in
     let second : pairs c.push-2.new.list.items ≡ pi then pg =

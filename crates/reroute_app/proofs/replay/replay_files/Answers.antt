@@ -9,7 +9,7 @@ use Rattle.scene_model.specs.Scene.{Scene}
 use Rattle.command_words.specs.Words.{route}
 use Rattle.edit_script.specs.Script.{commands}
 use Rattle.edit_script.proofs.Directed.{have_directions}
-use Rattle.route_replay.specs.Replies.{AreDirected}
+use Rattle.script_replay.specs.Replies.{AreDirected}
 use Rattle.reroute_app.specs.Outcome.{Course, Ends}
 use Rattle.reroute_app.specs.Diagram.{ReadsDiagram}
 use Rattle.reroute_app.specs.Reads.{ReadsFile}

@@ -5,7 +5,7 @@ use Rattle.std.proofs.lemmas.List.Elements.{All-contains, Contains-get_or}
 use Rattle.plane_geom.specs.declared.point.Point.{Point}
 use Rattle.plane_geom.specs.Along.{across}
 use Rattle.plane_geom.specs.Floor.{Holds}
-use Rattle.segment_order.specs.Run.{line_of}
+use Rattle.segment_order.specs.Run.{line_of_run}
 use Rattle.channel_bundles.specs.Limits.{IsReached}
 use Rattle.channel_bundles.proofs.Sweeping.{more}
 use Rattle.channel_bundles.proofs.limits.Limits.reached_checkpoints.Goals as goal
@@ -21,7 +21,7 @@ loop-p-preserved c =
     let run = c.args.run.now in
     let fits : FitsSigned w64 c.across.result = search rules in
     let reached = simp to_z-of_z at c.reached_if-limits.ensures in
-    λ z. more (λ (p : Point). Holds (line_of run) p → IsReached c.args.dir (across c.args.way p) z) c.args.via.now c.loop-p.p-index _ c.loop-p-test.true (reached z) (c.loop-p.invariant z)
+    λ z. more (λ (p : Point). Holds (line_of_run run) p → IsReached c.args.dir (across c.args.way p) z) c.args.via.now c.loop-p.p-index _ c.loop-p-test.true (reached z) (c.loop-p.invariant z)
     (same c.holds.ensures (subst (λ n. IsReached c.args.dir c.across.result z ↔ IsReached c.args.dir n z) c.across.ensures (λ h. h, λ h. h)))
 
 pub returns : goal.returns
@@ -30,6 +30,6 @@ returns c =
     let run = c.args.run.now in
     let via = c.args.via.now in
     λ z. (
-      λ f. let both = (c.loop-p.invariant z).0 f in (both.0, λ p has holds. All-contains (λ (q : Point). Holds (line_of run) q → IsReached c.args.dir (across c.args.way q) z) via p (λ k d h. both.1 k d (omega arith)) has holds),
+      λ f. let both = (c.loop-p.invariant z).0 f in (both.0, λ p has holds. All-contains (λ (q : Point). Holds (line_of_run run) q → IsReached c.args.dir (across c.args.way q) z) via p (λ k d h. both.1 k d (omega arith)) has holds),
       λ both. (c.loop-p.invariant z).1 (both.0, λ k d h holds. both.1 (get_or via k d) (Contains-get_or via k d (omega arith)) holds),
     )

@@ -3,7 +3,7 @@ use Rattle.std.proofs.Common.{◌≡◌, [], ◌∷◌, length, ap, sym, ◌∙�
 use Rattle.gml_text.specs.View.{pairs}
 use Rattle.scene_model.specs.Scene.{Scene, pin_count, via_count}
 use Rattle.scene_model.specs.Loads.{with_edge}
-use Rattle.diagram_read.specs.Values.{Entry}
+use Rattle.diagram_read.specs.Values.{ListEntry}
 use Rattle.diagram_read.specs.Edges.{edge_in}
 use Rattle.diagram_read.proofs.Counts.{via_counted}
 use Rattle.diagram_read.proofs.EdgesRead.{IsRoomyEdge, edge_roomy}
@@ -16,7 +16,7 @@ load_edge-requires c =
     let s = r.scene in
     let few = r.few_via in
     let counted = r.via_counted in
-    let entry : Entry = (c.args.origin, pairs c.args.list.now) in
+    let entry : ListEntry = (c.args.origin, pairs c.args.list.now) in
     let roomy = ok_told (edge_in s entry) c.in_ok-edge.edge (IsRoomyEdge s) c.in_ok-edge.ensures (edge_roomy s entry r.numbered (omega (arith, few, counted))) in
     roomy.loadable
 
@@ -25,7 +25,7 @@ invariant_of-self c =
     let r = c.args.self.now in
     let s = r.scene in
     let edge = c.in_ok-edge.edge in
-    let entry : Entry = (c.args.origin, pairs c.args.list.now) in
+    let entry : ListEntry = (c.args.origin, pairs c.args.list.now) in
     let few = r.few_via in
     let counted = r.via_counted in
     let roomy = ok_told (edge_in s entry) edge (IsRoomyEdge s) c.in_ok-edge.ensures (edge_roomy s entry r.numbered (omega (arith, few, counted))) in

@@ -3,7 +3,7 @@ use Rattle.std.proofs.Common.{◌≡◌, suc, [], ◌∷◌, length, ap, sym, �
 use Rattle.gml_text.specs.View.{pairs}
 use Rattle.scene_model.specs.Scene.{Scene, pin_count, via_count}
 use Rattle.scene_model.specs.Loads.{with_node}
-use Rattle.diagram_read.specs.Values.{Entry}
+use Rattle.diagram_read.specs.Values.{ListEntry}
 use Rattle.diagram_read.specs.Nodes.{node_in}
 use Rattle.diagram_read.proofs.Counts.{pins_counted}
 use Rattle.diagram_read.proofs.NodesRead.{IsRoomy, node_roomy}
@@ -23,7 +23,7 @@ invariant_of-self c =
     let r = c.args.self.now in
     let s = r.scene in
     let node = c.in_ok-node.node in
-    let entry : Entry = (c.args.origin, pairs c.args.list.now) in
+    let entry : ListEntry = (c.args.origin, pairs c.args.list.now) in
     let few = r.few_pins in
     let counted = r.pins_counted in
     let roomy = ok_told (node_in s entry) node (IsRoomy (pin_count s)) c.in_ok-node.ensures (node_roomy s entry (omega (arith, few, counted))) in

@@ -6,7 +6,7 @@ use Rattle.gml_text.specs.View.{pairs}
 use Rattle.scene_model.specs.Scene.{node_with}
 use Rattle.diagram_read.specs.Faults.{◌>>=◌, each, IsRead}
 use Rattle.diagram_read.specs.Nodes.{node_in, with_pin}
-use Rattle.diagram_read.specs.Values.{Entry, id_of, value_at, values_at}
+use Rattle.diagram_read.specs.Values.{ListEntry, id_of, value_at, values_at}
 use Rattle.diagram_read.proofs.NodesRead.{node_told, copied}
 use Rattle.diagram_read.proofs.Steps.{fault_is, handed_on}
 use Rattle.diagram_read.proofs.scene.Reader.node_in.Goals as goal
@@ -15,7 +15,7 @@ pub returns-in_err-node : goal.returns-in_err-node
 returns-in_err-node c =
     let r = c.args.self.now in
     let list = pairs c.args.list.now in
-    let entry : Entry = (c.args.origin, list) in
+    let entry : ListEntry = (c.args.origin, list) in
     let fault = c.in_err-node.field-0.0 in
     let id = to_z w64 (of_z w64 c.in_ok-id.id) in
     let same : id ≡ c.in_ok-id.id = omega (arith, ints) in

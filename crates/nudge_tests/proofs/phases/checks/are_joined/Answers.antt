@@ -1,7 +1,7 @@
 -- One run after another has been tried.
 use Rattle.std.proofs.Common.{◌≡◌, ◌≢◌, ℕ, ◌+◌, ◌-◌, ◌<◌, refl, sym, ap, subst, ◌∙◌, arith}
 use Rattle.segment_order.specs.declared.run.Run.{Run}
-use Rattle.segment_order.specs.Run.{end_of, run_at, start_of}
+use Rattle.segment_order.specs.Run.{end_of_run, run_at, start_of_run}
 use Rattle.channel_bundles.proofs.Trees.{cases_same}
 use Rattle.nudge_tests.proofs.phases.checks.are_joined.Goals as goal
 
@@ -20,7 +20,7 @@ loop-k-preserved c =
     let is_run = c.run_of-run.ensures in
     let e = c.if-not-goes_on.ensures in
     record {
-      joined = next (λ i j. end_of (run_at runs i) ≡ start_of (run_at runs j)) (k - 1) k after c.loop-k.invariant.joined (sym (ap end_of is_before) ∙ e.joined refl ∙ ap start_of is_run);
+      joined = next (λ i j. end_of_run (run_at runs i) ≡ start_of_run (run_at runs j)) (k - 1) k after c.loop-k.invariant.joined (sym (ap end_of_run is_before) ∙ e.joined refl ∙ ap start_of_run is_run);
       turns = next (λ i j. (run_at runs i).heading ≢ (run_at runs j).heading) (k - 1) k after c.loop-k.invariant.turns
           (λ same. e.turns refl (ap (λ (r : Run). r.heading) is_before ∙ same ∙ sym (ap (λ (r : Run). r.heading) is_run)));
     }

@@ -6,7 +6,7 @@ use Rattle.std.proofs.lemmas.List.{take_all}
 use Rattle.std.proofs.lemmas.List.Elements.{All-get_or, All-more}
 use Rattle.plane_geom.specs.declared.rect.Solid.{Solid}
 use Rattle.scene_model.specs.Scene.{node_with}
-use Rattle.scene_model.specs.Stale.{IsReached}
+use Rattle.scene_model.specs.Stale.{IsWithinReach}
 use Rattle.route_book.specs.Reach.{IsBox}
 use Rattle.route_book.proofs.Picks.{none_of}
 use Rattle.route_book.proofs.Reached.{are_parts, near_reached, removed_boxes}
@@ -33,7 +33,7 @@ pub loop-solid-preserved : goal.loop-solid-preserved
 loop-solid-preserved c =
     let ts : List Solid = c.deref-solid-items.result.now in
     let i = c.loop-solid.solid-index in
-    let P : Solid → Type 0 = λ t. IsReached c.args.self.now.old.now c.args.was.now t.rect c.args.cost → ⊥ in
+    let P : Solid → Type 0 = λ t. IsWithinReach c.args.self.now.old.now c.args.was.now t.rect c.args.cost → ⊥ in
     let was = c.args.was.now in
     let from : was.from ≡ to_z w64 (of_z w64 was.from) = omega (arith, ints) in
     let to : was.to ≡ to_z w64 (of_z w64 was.to) = omega (arith, ints) in
@@ -46,7 +46,7 @@ pub returns : goal.returns
 returns c =
     let ts : List Solid = c.deref-solid-items.result.now in
     let i = c.loop-solid.solid-index in
-    let P : Solid → Type 0 = λ t. IsReached c.args.self.now.old.now c.args.was.now t.rect c.args.cost in
+    let P : Solid → Type 0 = λ t. IsWithinReach c.args.self.now.old.now c.args.was.now t.rect c.args.cost in
     let all : All (λ t. P t → ⊥) ts = subst (All (λ t. P t → ⊥)) (take_all i ts c.loop-solid-test.false) c.loop-solid.invariant in (
       λ h. absurd (true≢false (sym h)),
       λ any. absurd (none_of P c.args.self.now.removed.items (subst (All (λ t. P t → ⊥)) c.deref-solid-items.ensures.value all) any),

@@ -11,8 +11,8 @@ use Rattle.scene_model.specs.Routing.{floor_of}
 use Rattle.scene_model.specs.World.{step}
 use Rattle.edit_txn.specs.Txn.{BeganOn}
 use Rattle.undo_log.specs.declared.step.Step.{Step}
-use Rattle.history_laws.specs.History.{world_of}
-use Rattle.history_laws.specs.State.{State}
+use Rattle.session_laws.specs.History.{world_of}
+use Rattle.session_laws.specs.State.{State}
 use Rattle.route_book.specs.Exchange.{Exchange, turned}
 use Rattle.route_session.specs.Upheld.{IsUpheld}
 use Rattle.route_session.proofs.Upholding.{committed, scenes_written}

@@ -2,7 +2,7 @@
 use Rattle.std.proofs.Common.{IfOk, ap, subst₂, ◌∙◌}
 use Rattle.nudge_laws.specs.Apart.{KeepsApart}
 use Rattle.nudge_phases.specs.Nudged.{IsNudgedScene}
-use Rattle.history_laws.specs.State.{State}
+use Rattle.session_laws.specs.State.{State}
 use Rattle.route_session.proofs.session.Session.nudged.Goals as goal
 
 pub returns-clause-apart : goal.returns-clause-apart

@@ -7,7 +7,7 @@ use Rattle.scene_model.specs.declared.edit.Command.TheVariants.{Redo}
 use Rattle.scene_model.specs.Inverses.{redone}
 use Rattle.scene_model.specs.Routing.{floor_of}
 use Rattle.scene_model.specs.World.{step}
-use Rattle.history_laws.specs.History.{world_of}
+use Rattle.session_laws.specs.History.{world_of}
 use Rattle.route_session.specs.Upheld.{IsUpheld}
 use Rattle.route_session.proofs.Upholding.{nothing_ahead, may_redo, redo_free, redo_here, none_by, done_again, working_of}
 use Rattle.route_session.proofs.session.Session.redo.Goals as goal

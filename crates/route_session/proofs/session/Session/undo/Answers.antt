@@ -7,7 +7,7 @@ use Rattle.scene_model.specs.declared.edit.Command.TheVariants.{Undo}
 use Rattle.scene_model.specs.Inverses.{taken_back}
 use Rattle.scene_model.specs.Routing.{floor_of}
 use Rattle.scene_model.specs.World.{step}
-use Rattle.history_laws.specs.History.{world_of}
+use Rattle.session_laws.specs.History.{world_of}
 use Rattle.route_session.specs.Upheld.{IsUpheld}
 use Rattle.route_session.proofs.Upholding.{nothing_behind, may_undo, undo_restorable, undo_here, none_by, undone, working_of}
 use Rattle.route_session.proofs.session.Session.undo.Goals as goal

@@ -1,0 +1,63 @@
+//! The replay of what is made from a number.
+ghost use Rattle.std.specs.Prelude.{◌≡◌, IfOk, string_bytes};
+ghost use Rattle.form_make.specs.Makes.{Makes, made_script, numbered_from};
+
+use crate::sums::summed;
+use generated_input::{made_commands, made_scene};
+use par_route::Gate;
+use route_search::Tally;
+use scene_model::Command;
+use script_replay::replay;
+use std::alloc::{AllocError, Global};
+use std::thread::Threads;
+
+/// What came of a number.
+#[derive(Drop)]
+pub struct Made {
+    /// The seven lines of the summary.
+    pub text: String,
+    /// The searches that were made.
+    pub tally: Tally,
+}
+
+/// The commands with numbers from 1 on. Its only error is want of memory.
+fn numbered(alloc: Global, commands: &[Command]) -> Result<Vec<(usize, Command)>, AllocError>
+    ensures { IfOk result (λ r. r.items ≡ numbered_from 1 commands.now) }
+{
+    let mut numbered = Vec::new(alloc);
+    for (place, &command) in commands.iter().enumerate() {
+        numbered.push((place + 1, command))?;
+    }
+    Ok(numbered)
+}
+
+/// The commands that are made from the seed, with numbers from 1 on. Its only error is want of memory.
+fn script(alloc: Global, seed: u64) -> Result<Vec<(usize, Command)>, AllocError>
+    ensures { IfOk result (λ r. r.items ≡ made_script seed) }
+{
+    let commands = made_commands(alloc, seed)?;
+    numbered(alloc, &commands)
+}
+
+/// Makes a scene and commands from the seed, replays the commands on the scene by one worker, and sums up the routes
+/// at the end. The only error is want of memory.
+pub fn make<R: Threads + Sync, G: Gate>(
+    rt: &R,
+    alloc: Global,
+    seed: u64,
+    gate: &G,
+) -> Result<Made, AllocError>
+    ensures { IfOk result (λ m. Makes seed (string_bytes m.text) m.tally) }
+{
+    let script = script(alloc, seed)?;
+    let scene = made_scene(alloc, seed)?;
+    let session = replay(rt, alloc, scene, &script, 1, gate)?.session;
+    let summary = summed(
+        session.scene(),
+        session.book().answers(),
+        session.searched(),
+    );
+    let tally = session.into_tally();
+    let text = summary.text(alloc)?;
+    Ok(Made { text, tally })
+}

@@ -1,0 +1,46 @@
+//! What the answers of a scene come to together.
+ghost use Rattle.std.specs.Prelude.{◌≡◌};
+ghost use Rattle.walk_model.specs.Cost.{bends};
+ghost use Rattle.walk_model.specs.Line.{IsOrthogonal, steps_of};
+ghost use Rattle.scene_model.specs.Answers.{AreAnswers};
+ghost use Rattle.form_make.specs.Sums.{SumsUp};
+
+use generated_input::Summary;
+use plane_geom::Point;
+use scene_store::Scene;
+use walk_model::{Answer, cost_of};
+
+/// The bends of a line: what it costs more where each of them costs 1.
+fn bends_of(points: &[Point]) -> u64
+    requires { IsOrthogonal points.now }
+    ensures { result ≡ bends (steps_of points.now) }
+{
+    cost_of(points, 1) - cost_of(points, 0)
+}
+
+/// The summary of the right answers of the scene, for which so many searches were made.
+pub(crate) fn summed(scene: &Scene, answers: &[Answer], searched: u64) -> Summary
+    requires { AreAnswers scene.now answers.now }
+    ensures { SumsUp answers.now searched result }
+{
+    // That the scene is valid is known from here.
+    let _settings = scene.settings();
+    let mut summary = Summary {
+        routed: 0,
+        unrouted: 0,
+        cost: 0,
+        bends: 0,
+        searched,
+    };
+    for answer in answers {
+        match &answer.route {
+            Some(route) => {
+                summary.routed += 1;
+                summary.cost += u128::from(route.cost);
+                summary.bends += bends_of(route.points.as_slice());
+            }
+            None => summary.unrouted += 1,
+        }
+    }
+    summary
+}

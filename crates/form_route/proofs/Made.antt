@@ -1,0 +1,51 @@
+-- What is written of a replay is the output of its script.
+use Rattle.std.proofs.Common.{◌≡◌, ℕ, ◌+◌, List, ◌++◌, Bool, Result, Ok, Err, length, sym, subst, ap, ◌∙◌}
+use Rattle.std.specs.Prelude.{IfOk}
+use Rattle.gml_text.specs.Printed.{printed}
+use Rattle.gml_text.specs.Tree.{Pairs}
+use Rattle.walk_model.specs.declared.route.Answer.{Answer}
+use Rattle.scene_model.specs.declared.edit.Command.{Command}
+use Rattle.scene_model.specs.Scene.{Scene, connectors}
+use Rattle.scene_model.specs.World.{World, opened}
+use Rattle.report_text.specs.declared.reply.LineReply.{LineReply}
+use Rattle.gml_scene.specs.Tree.{tree_of}
+use Rattle.script_replay.specs.Replies.{AreReplies, searched_in, world_after}
+use Rattle.form_route.specs.Diagram.{IsDiagram, IsOutput}
+use Rattle.form_route.specs.Report.{has_refusal, report}
+use Rattle.form_route.specs.Routes.{AreLines, Routes}
+
+-- what is so of the value that a result has
+pub of_ok : {T E : Type 0} (P : T → Type 0) (r : Result T E) (x : T) → r ≡ Ok x → IfOk r P → P x
+of_ok P r x is holds = subst (λ r. IfOk r P) is holds
+
+-- what is so of the scene that was read and the present one of a world
+pub so_of : {E : Type 0} (P : Scene → Scene → Type 0) (r : Result Scene E) (s : Scene) (v w : World) → r ≡ Ok s → v ≡ w → P s w.present → IfOk r (λ was. P was v.present)
+so_of P r s v w is same holds = subst (λ r. IfOk r (λ was. P was v.present)) (sym is) (subst (λ (u : World). P s u.present) (sym same) holds)
+
+-- the report with the diagram behind it is the output
+pub with_diagram : {E : Type 0} (tree : Pairs) (count : Bool) (opening : ℕ) (replies : List LineReply) (w : World) (answers : List Answer) (front diagram text : List ℕ) (r : Result Scene E) → front ≡ report count opening replies w answers
+    → IfOk r (λ was. IsDiagram tree was w.present answers diagram) → text ≡ front ++ diagram → IfOk r (λ was. IsOutput tree was count opening replies w answers text)
+with_diagram tree count opening replies w answers front diagram text (Ok was) is_front is_diagram is_text = record {
+  diagram = diagram;
+  is_diagram = is_diagram;
+  is_text = is_text ∙ ap (λ f. f ++ diagram) is_front;
+}
+with_diagram tree count opening replies w answers front diagram text (Err e) is_front is_diagram is_text = tt
+
+module _ (tree : Pairs) (s : Scene) (commands : List (ℕ × Command)) (count : Bool) (replies : List LineReply) (w : World) (answers : List Answer) where
+  pub made : (opening searched : ℕ) (text : List ℕ) (refused : Bool) → w ≡ world_after s commands → AreReplies (opened s) commands replies
+      → opening ≡ length (connectors s) → IsOutput tree s count opening replies w answers text
+      → refused ≡ has_refusal replies w → searched ≡ length (connectors s) + searched_in replies → Routes tree s commands count text refused searched
+  made opening searched text refused same are_replies is_opening is_output refused_is searched_is = record {
+    replies = replies;
+    answers = answers;
+    lines = is_output.is_diagram.lines;
+    are_replies = are_replies;
+    are_lines = subst (λ (v : World). AreLines v.present answers is_output.is_diagram.lines) same is_output.is_diagram.are_lines;
+    is_text =
+        is_output.is_text
+        ∙ ap (λ ds. report count opening replies w answers ++ ds) is_output.is_diagram.is_text
+        ∙ (λ i. report count (is_opening i) replies (same i) answers ++ printed (tree_of tree s (same i).present is_output.is_diagram.lines));
+    is_refused = refused_is ∙ ap (has_refusal replies) same;
+    is_searched = searched_is;
+  }

@@ -1,0 +1,48 @@
+-- What comes of a script on a diagram: the report, and the diagram of the scene at the end with its nudged lines.
+use Rattle.std.specs.Prelude.{◌≡◌, ℕ, ◌+◌, Bool, List, ◌++◌, length}
+use Rattle.separation_model.specs.declared.bundle.Solution.{Solution}
+use Rattle.gml_text.specs.Tree.{Pairs}
+use Rattle.gml_text.specs.Printed.{printed}
+use Rattle.walk_model.specs.declared.route.Answer.{Answer}
+use Rattle.walk_model.specs.declared.route.WrittenRoute.{WrittenRoute}
+use Rattle.scene_model.specs.declared.edit.Command.{Command}
+use Rattle.scene_model.specs.Scene.{Scene, connectors}
+use Rattle.scene_model.specs.Valid.{IsValid}
+use Rattle.scene_model.specs.Answers.{AreAnswers}
+use Rattle.scene_model.specs.World.{opened}
+use Rattle.report_text.specs.declared.reply.LineReply.{LineReply}
+use Rattle.gml_scene.specs.Tree.{tree_of}
+use Rattle.nudge_phases.specs.Nudged.{IsNudgedScene}
+use Rattle.script_replay.specs.Replies.{AreDirected, AreReplies, searched_in, world_after}
+use Rattle.form_route.specs.Report.{report, has_refusal}
+
+-- the scene routed alone: the first legal walks of its connectors, and their nudged lines
+pub record AreLines (s : Scene) (answers : List Answer) (lines : List WrittenRoute) : Type 0 where
+  pub right : AreAnswers s answers
+  pub x_solutions : List Solution
+  pub y_solutions : List Solution
+  pub nudged : IsNudgedScene s answers x_solutions y_solutions lines
+
+-- the output of a script on the diagram of the tree, whose scene is this one; whether something was refused; and the number of searches
+pub record Routes (tree : Pairs) (s : Scene) (commands : List (ℕ × Command)) (count : Bool) (text : List ℕ) (refused : Bool) (searched : ℕ) : Type 0 where
+  pub replies : List LineReply
+  pub answers : List Answer
+  pub lines : List WrittenRoute
+  pub are_replies : AreReplies (opened s) commands replies
+  pub are_lines : AreLines (world_after s commands).present answers lines
+  pub is_text : text ≡ report count (length (connectors s)) replies (world_after s commands) answers ++ printed (tree_of tree s (world_after s commands).present lines)
+  pub is_refused : refused ≡ has_refusal replies (world_after s commands)
+  pub is_searched : searched ≡ length (connectors s) + searched_in replies
+
+-- the law: a script on a diagram has one output, one verdict and one number of searches at most
+pub record IsSameRoutes (text other_text : List ℕ) (refused other_refused : Bool) (searched other_searched : ℕ) : Type 0 where
+  pub same_text : text ≡ other_text
+  pub same_verdict : refused ≡ other_refused
+  pub same_count : searched ≡ other_searched
+
+abbrev pub ComesToOne : Type 0
+ComesToOne = (tree : Pairs) (s : Scene) (commands : List (ℕ × Command)) (count : Bool)
+    (text other_text : List ℕ) (refused other_refused : Bool) (searched other_searched : ℕ) →
+    IsValid s → AreDirected commands →
+    Routes tree s commands count text refused searched → Routes tree s commands count other_text other_refused other_searched →
+    IsSameRoutes text other_text refused other_refused searched other_searched

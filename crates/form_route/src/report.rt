@@ -1,0 +1,103 @@
+//! The report of a replay.
+ghost use Rattle.std.specs.Prelude.{◌≡◌, IfOk, length};
+ghost use Rattle.std.specs.List.{list_any};
+ghost use Rattle.scene_model.specs.Scene.{connectors};
+ghost use Rattle.scene_model.specs.Valid.{IsValid};
+ghost use Rattle.form_route.specs.Report.{edges_routed, has_refusal, is_refused, report, routed_by};
+
+use report_text::{
+    EdgeRouted, LineReply, Reply, Routed, push_end_line, push_open_line, push_reply_lines,
+    push_routed_lines,
+};
+use route_book::Book;
+use route_session::Session;
+use scene_model::Edge;
+use scene_store::Scene;
+use std::alloc::{AllocError, Global};
+
+/// How many connectors the scene has, as many as its opening searches.
+pub(crate) fn connector_count(scene: &Scene) -> u64
+    ensures count { result ≡ length (connectors scene.now) }
+    ensures valid { IsValid scene.now }
+{
+    let _settings = scene.settings();
+    let mut count = 0;
+    let mut place = 0;
+    while let Some(edge) = scene.edge_at(place) {
+        if edge.from != edge.to {
+            count += 1;
+        }
+        place += 1;
+    }
+    count
+}
+
+/// How the edge is routed, by the answers of the book.
+fn routed_by(book: &Book, edge: &Edge) -> Routed
+    ensures { result ≡ routed_by book.now edge.now }
+{
+    if edge.from == edge.to {
+        return Routed::Loop;
+    }
+    let route = book
+        .answer(edge.number)
+        .and_then(|answer| answer.route.as_ref());
+    match route {
+        Some(route) => Routed::Cost(route.cost),
+        None => Routed::NoRoute,
+    }
+}
+
+/// How each edge of the scene is routed, by the answers of the book.
+fn edges_routed(alloc: Global, scene: &Scene, book: &Book) -> Result<Vec<EdgeRouted>, AllocError>
+    ensures { IfOk result (λ edges. edges.items ≡ edges_routed scene.now book.now) }
+{
+    let mut edges = Vec::new(alloc);
+    while let Some(edge) = scene.edge_at(edges.len()) {
+        edges.push(EdgeRouted {
+            edge: edge.number,
+            routed: routed_by(book, edge),
+        })?;
+    }
+    Ok(edges)
+}
+
+/// The report on a script whose opening searched so many connectors, with these replies, which left the session.
+pub(crate) fn report(
+    alloc: Global,
+    count: bool,
+    opening: u64,
+    replies: &[LineReply],
+    session: &Session,
+) -> Result<Vec<u8>, AllocError>
+    ensures { IfOk result (λ text. text.items ≡ report count opening replies.now session.now.world session.now.book) }
+{
+    let mut text = Vec::new(alloc);
+    push_open_line(&mut text, count, opening)?;
+    push_reply_lines(&mut text, count, replies)?;
+    push_end_line(&mut text, session.is_open())?;
+    let edges = edges_routed(alloc, session.scene(), session.book())?;
+    push_routed_lines(&mut text, &edges)?;
+    Ok(text)
+}
+
+/// Whether a command was refused.
+fn is_refused(reply: &Reply) -> bool
+    ensures { result ≡ is_refused reply.now }
+{
+    matches!(reply, Reply::Refused(_))
+}
+
+/// Whether some command was refused.
+fn any_is_refused(replies: &[LineReply]) -> bool
+    ensures { result ≡ list_any (λ r. is_refused r.reply) replies.now }
+{
+    replies.iter().any(|line| is_refused(&line.reply))
+}
+
+/// Whether a command was refused, or the end of the script in an open transaction.
+pub(crate) fn has_refusal(replies: &[LineReply], session: &Session) -> bool
+    ensures { result ≡ has_refusal replies.now session.now.world }
+{
+    any_is_refused(replies) || session.is_open()
+}

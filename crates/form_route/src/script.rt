@@ -1,0 +1,141 @@
+//! A script on a diagram, from its commands to the bytes that are written.
+ghost use Rattle.std.specs.Prelude.{◌≡◌, ◌<◌, ◌≤◌, ◌^◌, IfOk, IsOk, Ok, length};
+ghost use Rattle.gml_text.specs.Printed.{IsPrintable};
+ghost use Rattle.gml_text.specs.View.{tree};
+ghost use Rattle.gml_scene.specs.Origins.{AreEdgesOf, AreNodesOf, AreRoutesOf};
+ghost use Rattle.diagram_read.specs.Scene.{scene_of};
+ghost use Rattle.script_replay.specs.Replies.{AreDirected};
+ghost use Rattle.form_route.specs.Diagram.{IsDiagram, IsOutput};
+ghost use Rattle.form_route.specs.Routes.{AreLines, Routes};
+
+use crate::report::{connector_count, has_refusal, report};
+use gml_scene::put_routes;
+use gml_text::{Doc, print};
+use par_route::Gate;
+use report_text::LineReply;
+use route_search::Tally;
+use route_session::Session;
+use scene_model::Command;
+use scene_store::Scene;
+use script_replay::{replay, replays_keep_origins};
+use std::alloc::{AllocError, Global};
+use std::thread::Threads;
+use walk_model::WrittenRoute;
+
+/// How a script is replayed, and what its report tells.
+#[derive(Clone, Copy, Debug, PartialEq, Eq)]
+pub struct Options {
+    /// How many searches are made side by side at most: 1 to 4.
+    pub workers: u32,
+    /// Whether the report tells how many connectors were searched.
+    pub count: bool,
+}
+
+/// What came of a script on a diagram.
+#[derive(Drop)]
+pub struct Routing {
+    /// The report, and the printed diagram behind it.
+    pub text: Vec<u8>,
+    /// Whether a command, or the end of the script in an open transaction, was refused.
+    pub is_refused: bool,
+    /// The searches that were made.
+    pub tally: Tally,
+}
+
+/// Replays the commands, each with the number of its line, on the scene of the document. Then it writes the report and
+/// the document of the scene at the end, with its nudged lines.
+///
+/// The only error is want of memory.
+pub fn route<R: Threads + Sync, G: Gate>(
+    rt: &R,
+    alloc: Global,
+    doc: &Doc,
+    scene: Scene,
+    commands: &[(usize, Command)],
+    options: Options,
+    gate: &G,
+) -> Result<Routing, AllocError>
+    requires some { 1 ≤ options.workers }
+    requires few_workers { options.workers ≤ 4 }
+    requires few { length commands.now < 2 ^ 32 }
+    requires directed { AreDirected commands.now }
+    requires source { scene_of (tree doc.now) ≡ Ok scene }
+    requires printable { IsPrintable (tree doc.now) }
+    ensures { IfOk result (λ r. Routes (tree doc.now) scene commands.now options.count r.text.items r.is_refused r.tally) }
+{
+    let opening = connector_count(&scene);
+    let replayed = replay(rt, alloc, scene, commands, options.workers, gate)?;
+    replays_keep_origins();
+    let written = output(
+        alloc,
+        doc,
+        options.count,
+        opening,
+        &replayed.replies,
+        &replayed.session,
+    );
+    let is_refused = has_refusal(&replayed.replies, &replayed.session);
+    let tally = replayed.session.into_tally();
+    let text = written?;
+    Ok(Routing {
+        text,
+        is_refused,
+        tally,
+    })
+}
+
+/// The report on a script whose opening searched so many connectors, with these replies, which left the session; and
+/// behind it the printed document of the session's present scene.
+fn output(
+    alloc: Global,
+    doc: &Doc,
+    count: bool,
+    opening: u64,
+    replies: &[LineReply],
+    session: &Session,
+) -> Result<Vec<u8>, AllocError>
+    requires source { IsOk (scene_of (tree doc.now)) }
+    requires nodes { IfOk (scene_of (tree doc.now)) (λ was. AreNodesOf was session.now.world.present) }
+    requires edges { IfOk (scene_of (tree doc.now)) (λ was. AreEdgesOf was session.now.world.present) }
+    requires printable { IsPrintable (tree doc.now) }
+    ensures { IfOk result (λ text. IfOk (scene_of (tree doc.now)) (λ was. IsOutput (tree doc.now) was count opening replies.now session.now.world session.now.book text.items)) }
+{
+    let mut text = report(alloc, count, opening, replies, session)?;
+    let diagram = printed_diagram(alloc, doc, session)?;
+    text.extend_from_slice(&diagram)?;
+    Ok(text)
+}
+
+/// The printed document of the session's present scene, with its nudged lines.
+fn printed_diagram(alloc: Global, doc: &Doc, session: &Session) -> Result<Vec<u8>, AllocError>
+    requires source { IsOk (scene_of (tree doc.now)) }
+    requires nodes { IfOk (scene_of (tree doc.now)) (λ was. AreNodesOf was session.now.world.present) }
+    requires edges { IfOk (scene_of (tree doc.now)) (λ was. AreEdgesOf was session.now.world.present) }
+    requires printable { IsPrintable (tree doc.now) }
+    ensures { IfOk result (λ text. IfOk (scene_of (tree doc.now)) (λ was. IsDiagram (tree doc.now) was session.now.world.present session.now.book text.items)) }
+{
+    let scene = session.scene();
+    // So the scene is known to be valid.
+    let _settings = scene.settings();
+    let nudged = session.nudged()?;
+    printed_lines(alloc, doc, session, &nudged.routes)
+}
+
+/// The printed document of the session's present scene, with these lines.
+fn printed_lines(
+    alloc: Global,
+    doc: &Doc,
+    session: &Session,
+    lines: &[WrittenRoute],
+) -> Result<Vec<u8>, AllocError>
+    requires source { IsOk (scene_of (tree doc.now)) }
+    requires nodes { IfOk (scene_of (tree doc.now)) (λ was. AreNodesOf was session.now.world.present) }
+    requires edges { IfOk (scene_of (tree doc.now)) (λ was. AreEdgesOf was session.now.world.present) }
+    requires routes { AreRoutesOf session.now.world.present lines.now }
+    requires lines { AreLines session.now.world.present session.now.book lines.now }
+    requires printable { IsPrintable (tree doc.now) }
+    ensures { IfOk result (λ text. IfOk (scene_of (tree doc.now)) (λ was. IsDiagram (tree doc.now) was session.now.world.present session.now.book text.items)) }
+{
+    let routed = put_routes(alloc, doc, session.scene(), lines)?;
+    print(alloc, &routed)
+}

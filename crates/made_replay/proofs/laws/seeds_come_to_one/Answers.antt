@@ -1,6 +1,0 @@
--- Replies are one list.
-use Rattle.made_replay.proofs.OneOutput.{one_output}
-use Rattle.made_replay.proofs.laws.seeds_come_to_one.Goals as goal
-
-pub returns : goal.returns
-returns c = one_output c.one_list_of_replies.ensures

@@ -1,6 +1,0 @@
--- The sums over the answers so far.
-use Rattle.made_replay.proofs.Summing.{SumsSoFar}
-use Rattle.made_replay.proofs.sums.summed.Given as goal
-
-abbrev pub invariant-loop-answer : goal.invariant-loop-answer
-invariant-loop-answer l = SumsSoFar l.answers l.searched l.answer-index l.summary

@@ -1,7 +1,0 @@
--- The commands so far are replied to.
-use Rattle.std.proofs.Common.{take}
-use Rattle.route_replay.specs.Replied.{AreReplied}
-use Rattle.route_replay.proofs.script.replies_to.Given as goal
-
-abbrev pub invariant-loop-number : goal.invariant-loop-number
-invariant-loop-number g l = AreReplied (take l.number-index l.commands) l.fn.session l.session l.replies.items

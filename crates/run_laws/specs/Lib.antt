@@ -1,2 +1,0 @@
--- What it means that a walk is legal along its runs.
-pub mod LegalRuns

@@ -1,0 +1,73 @@
+-- The replies to the commands of a script, one by one.
+use Rattle.std.specs.Prelude.{◌≡◌, ℕ, List, [], ◌∷◌, length, map, Result, Ok, Err}
+use Rattle.std.specs.List.{sum_by, AllByRecursion}
+use Rattle.walk_model.specs.declared.route.Answer.{Answer}
+use Rattle.scene_model.specs.declared.edit.Command.{Command}
+use Rattle.scene_model.specs.declared.edit.Command.TheVariants.{Commit, Undo, Redo}
+use Rattle.scene_model.specs.Scene.{Scene}
+use Rattle.scene_model.specs.Answers.{AreAnswers}
+use Rattle.scene_model.specs.Stale.{AreStale}
+use Rattle.scene_model.specs.World.{World, CommandRefusal, syntax_error, refused, opened, step, next_world, played, IsDirectedCommand}
+use Rattle.report_text.specs.declared.refusal.Refusal.{Refusal as ToldRefusal}
+use Rattle.report_text.specs.declared.refusal.Refusal.TheVariants as told
+use Rattle.report_text.specs.declared.reply.Reply.{Reply}
+use Rattle.report_text.specs.declared.reply.Reply.TheVariants.{Kept, Searched, Refused}
+use Rattle.report_text.specs.declared.reply.LineReply.{LineReply}
+
+-- as many connectors were searched as are stale, for right answers of the scene before
+pub record SearchesStale (old new : Scene) (reply : Reply) : Type 0 where
+  pub answers : List Answer
+  pub right : AreAnswers old answers
+  pub stale : List ℕ
+  pub are_stale : AreStale old answers new stale
+  pub tells : reply ≡ Searched (length stale)
+
+-- the reply to a command that leads from the one present scene to the other: undo and redo search nothing
+abbrev pub IsReplyOfDone : Command → Scene → Scene → Reply → Type 0
+IsReplyOfDone Commit old new reply = SearchesStale old new reply
+IsReplyOfDone Undo old new reply = reply ≡ Searched 0
+IsReplyOfDone Redo old new reply = reply ≡ Searched 0
+IsReplyOfDone command old new reply = reply ≡ Kept
+
+-- a refusal as it is told
+abbrev pub refusal_told : CommandRefusal → ToldRefusal
+refusal_told syntax_error = told.Syntax
+refusal_told (refused fault) = told.Command fault
+
+-- the reply to a command of which the world makes this
+abbrev pub IsReplyOf : Command → World → Result World CommandRefusal → Reply → Type 0
+IsReplyOf command w (Ok next) reply = IsReplyOfDone command w.present next.present reply
+IsReplyOf command w (Err why) reply = reply ≡ Refused (refusal_told why)
+
+-- the reply to a command in a world
+abbrev pub IsReply : Command → World → Reply → Type 0
+IsReply command w reply = IsReplyOf command w (step command w) reply
+
+-- the replies to the commands, which begin in this world, each with the number of its line
+abbrev pub AreReplies : World → List (ℕ × Command) → List LineReply → Type 0
+AreReplies w [] replies = replies ≡ []
+AreReplies w (c ∷ commands) [] = ⊥
+AreReplies w (c ∷ commands) (r ∷ replies) =
+    (r.line ≡ c.0) × IsReply c.1 w r.reply × AreReplies (next_world c.1 w) commands replies
+
+-- the world after the commands, from the scene
+abbrev pub world_after : Scene → List (ℕ × Command) → World
+world_after s commands = played (map (λ c. c.1) commands) (opened s)
+
+-- how many connectors a reply tells as searched, and how many a list of them does
+abbrev pub searched_by : Reply → ℕ
+searched_by (Searched searched) = searched
+searched_by Kept = 0
+searched_by (Refused why) = 0
+
+abbrev pub searched_in : List LineReply → ℕ
+searched_in replies = sum_by (λ r. searched_by r.reply) replies
+
+-- each pin that a command adds has a direction
+abbrev pub AreDirected : List (ℕ × Command) → Type 0
+AreDirected commands = AllByRecursion (λ c. IsDirectedCommand c.1) commands
+
+-- the law: there is one list of replies at most
+abbrev pub HaveOneListOfReplies : Type 0
+HaveOneListOfReplies = (w : World) (commands : List (ℕ × Command)) (these those : List LineReply) →
+    AreReplies w commands these → AreReplies w commands those → these ≡ those
