@@ -9,7 +9,7 @@ use Rattle.scene_model.specs.declared.node.Node.{Node}
 use Rattle.scene_model.specs.declared.edge.Edge.{Edge}
 use Rattle.scene_model.specs.Scene.{Scene, via_count}
 use Rattle.scene_model.specs.Loads.{IsLoadableEdge}
-use Rattle.scene_model.proofs.Refusals.{or_none}
+use Rattle.scene_model.proofs.Editing.Refusals.{or_none}
 use Rattle.scene_model.proofs.Directions.{told}
 use Rattle.scene_model.proofs.Directions.Told.{yes, no}
 use Rattle.diagram_read.specs.declared.fault.Part.TheVariants as part

@@ -9,7 +9,7 @@ use Rattle.fixed_milli.specs.Value.{read}
 use Rattle.fixed_milli.proofs.Computing.{number_read}
 use Rattle.gml_text.specs.Tree.{Content, number, text, list, Pairs, no_pairs, pair, ◌then◌}
 use Rattle.scene_model.specs.Scene.{Scene}
-use Rattle.scene_model.proofs.Refusals.{or_none}
+use Rattle.scene_model.proofs.Editing.Refusals.{or_none}
 use Rattle.diagram_read.specs.declared.fault.DiagramFault.{DiagramFault}
 use Rattle.diagram_read.specs.Faults.{◌>>=◌, each}
 use Rattle.diagram_read.specs.Laws.{is_other, node_keys, edge_keys, NumbersAgree, FirstFaultsCount, OthersArePassedOver}

@@ -2,7 +2,7 @@
 use Rattle.std.proofs.Common.{◌≡◌, true, false, Option, Some, None, refl, subst, arith}
 use Rattle.std.specs.Prelude.{ℤ, pos, ◌≤ℤ◌, ◌^◌, ◌||◌, int_lt, codes, option_and_then, IfSome}
 use Rattle.std.proofs.lemmas.Int.{ints}
-use Rattle.scene_model.proofs.Refusals.{or_none}
+use Rattle.scene_model.proofs.Editing.Refusals.{or_none}
 use Rattle.gml_text.specs.Tree.{Content, number, text, list}
 use Rattle.scene_model.specs.declared.node.Node.{Node}
 use Rattle.scene_model.specs.declared.pin.Pin.{Pin}

@@ -5,7 +5,7 @@ use Rattle.scene_model.specs.declared.edit.Inverse.{Inverse}
 use Rattle.scene_model.specs.Scene.{Scene}
 use Rattle.scene_model.specs.Edits.{changed, refusal, IsDirected}
 use Rattle.scene_model.specs.Inverses.{inverse_of, Leads}
-use Rattle.scene_model.proofs.Chains.{leads_back}
+use Rattle.scene_model.proofs.TakingBack.Chains.{leads_back}
 use Rattle.edit_txn.specs.Txn.{KeepsBegin, LeadsBackAndForth}
 
 leads_more : (s : Scene) (es : List Edit) (is : List Inverse) (n : Scene) (e : Edit) → IsDirected e → refusal e n ≡ None → Leads s es is n

@@ -12,7 +12,7 @@ use Rattle.walk_model.specs.Answers.{IsAnswer}
 use Rattle.walk_model.specs.Cost.{bends}
 use Rattle.walk_model.specs.Line.{Draws, steps_of, steps_through}
 use Rattle.walk_model.specs.Walk.{Walk}
-use Rattle.walk_model.proofs.Bends.{bends_from, bends_from-stretch, turn_from_bound}
+use Rattle.walk_model.proofs.CornerByCorner.Bends.{bends_from, bends_from-stretch, turn_from_bound}
 use Rattle.scene_model.specs.declared.edge.Edge.{Edge}
 use Rattle.scene_model.specs.Answers.{AreAnswers, IsAnswerOf}
 use Rattle.scene_model.specs.Routing.{solids, task_of}

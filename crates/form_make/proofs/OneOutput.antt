@@ -4,7 +4,7 @@ use Rattle.std.specs.List.{sum_by}
 use Rattle.walk_model.specs.declared.route.Answer.{Answer}
 use Rattle.scene_model.specs.Scene.{connectors}
 use Rattle.scene_model.specs.World.{opened}
-use Rattle.scene_model.proofs.OneList.{one_list}
+use Rattle.scene_model.proofs.ForRouting.OneList.{one_list}
 use Rattle.generated_input.specs.declared.summary.Summary.{Summary}
 use Rattle.generated_input.specs.Made.{made_scene}
 use Rattle.generated_input.specs.Summary.{summary_text}

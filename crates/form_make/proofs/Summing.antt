@@ -10,14 +10,14 @@ use Rattle.walk_model.specs.declared.route.Answer.{Answer}
 use Rattle.walk_model.specs.declared.route.Route.{Route}
 use Rattle.walk_model.specs.Cost.{bends}
 use Rattle.walk_model.specs.Line.{IsOrthogonal, steps_of}
-use Rattle.walk_laws.proofs.SmallWalks.{orthogonal_route, small_cost}
+use Rattle.walk_laws.proofs.FewAndSmall.SmallWalks.{orthogonal_route, small_cost}
 use Rattle.scene_model.specs.declared.edge.Edge.{Edge}
 use Rattle.scene_model.specs.Answers.{AreAnswers, IsAnswerOf}
 use Rattle.scene_model.specs.Floors.{HoldsTask}
 use Rattle.scene_model.specs.Scene.{Scene, connectors, is_loop}
 use Rattle.scene_model.specs.Routing.{floor_of, task_of}
 use Rattle.scene_model.specs.Valid.{IsValid}
-use Rattle.scene_model.proofs.Floors.{floors_fit, floors_hold_tasks}
+use Rattle.scene_model.proofs.ForRouting.Floors.{floors_fit, floors_hold_tasks}
 use Rattle.nudge_phases.proofs.Answered.{IsAnswered, answered_at}
 use Rattle.nudge_phases.proofs.Zips.{zip_count}
 use Rattle.generated_input.specs.declared.summary.Summary.{Summary}

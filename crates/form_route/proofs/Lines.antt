@@ -9,7 +9,7 @@ use Rattle.walk_model.specs.declared.route.WrittenRoute.{WrittenRoute}
 use Rattle.scene_model.specs.Answers.{AreAnswers}
 use Rattle.scene_model.specs.Scene.{Scene, edge_with}
 use Rattle.scene_model.specs.Valid.{IsValid}
-use Rattle.scene_model.proofs.Entries.{Pairs, each_weaker, pairs_to}
+use Rattle.scene_model.proofs.Editing.Entries.{Pairs, each_weaker, pairs_to}
 use Rattle.gml_scene.specs.Origins.{AreRoutesOf}
 use Rattle.nudge_phases.specs.Raw.{routed}
 use Rattle.nudge_phases.proofs.Answered.{Before, IsAnswered, answered, numbers_rise}

@@ -11,9 +11,9 @@ use Rattle.scene_model.specs.declared.edit.Edit.TheVariants.{AddNode, MoveNode, 
 use Rattle.scene_model.specs.Scene.{Scene}
 use Rattle.scene_model.specs.Valid.{IsValid}
 use Rattle.scene_model.specs.Edits.{changed, new_node, new_edge, half, change_node, change_edge}
-use Rattle.scene_model.proofs.Entries.{Differ, pairs_from}
-use Rattle.scene_model.proofs.Edges.{number_of, numbers_differ}
-use Rattle.scene_model.proofs.Nodes.{id_of}
+use Rattle.scene_model.proofs.Editing.Entries.{Differ, pairs_from}
+use Rattle.scene_model.proofs.Editing.Edges.{number_of, numbers_differ}
+use Rattle.scene_model.proofs.Editing.Nodes.{id_of}
 use Rattle.gml_scene.proofs.Places.{refuted}
 use Rattle.gml_scene.specs.Origins.{IsNodeOf, IsEdgeOf, AreNodesOf, AreEdgesOf, OwnScenesFit, EditsKeepOrigins}
 

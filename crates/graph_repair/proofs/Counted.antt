@@ -4,7 +4,7 @@ use Rattle.std.specs.Ordering.{nat_cmp}
 use Rattle.std.specs.FinMap.{FinMap, get, len, remove, empty, same_map, get-empty, get-remove, len-empty, len-remove, empty_of_len, nat_cmp-IsAntisymmetric}
 use Rattle.std.proofs.lemmas.Bool.{cases_eq}
 use Rattle.std.proofs.lemmas.Cmp.{nat_cmp_total}
-use Rattle.line_arena.proofs.Seen.{tied, untied}
+use Rattle.line_arena.proofs.Arenas.Seen.{tied, untied}
 use Rattle.sweep_lines.proofs.Members.{Among, Rising, all_among}
 use Rattle.visibility_graph.proofs.Lines.{not_none, same_some}
 

@@ -9,7 +9,7 @@ use Rattle.plane_geom.specs.declared.point.Way.TheVariants.{Vertical, Horizontal
 use Rattle.plane_geom.specs.declared.floor.Line.{Line}
 use Rattle.line_arena.specs.Arena.{Arena, IsArena, Pair}
 use Rattle.line_arena.specs.Stands.{IsComplete}
-use Rattle.line_arena.proofs.ArenaLaws.{across_where_meet, meet_where_across}
+use Rattle.line_arena.proofs.Arenas.ArenaLaws.{across_where_meet, meet_where_across}
 use Rattle.sweep_lines.proofs.Members.{Among, Rising, all_among, among_all, among_filter, among_filtered, among_map, among_mapped, among_of_contains, contains_of_among, rising_filter, rising_joined, rising_map}
 use Rattle.visibility_graph.specs.Meeting.{coming, meets, pairs_by}
 use Rattle.visibility_graph.specs.Fill.{AreLines}

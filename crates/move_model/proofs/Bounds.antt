@@ -14,10 +14,10 @@ use Rattle.plane_geom.specs.Floor.{first_side, last_side}
 use Rattle.plane_geom.specs.Point.{distance, forward}
 use Rattle.plane_geom.specs.Rect.{HasWithin}
 use Rattle.walk_model.specs.Cost.{turn}
-use Rattle.walk_model.proofs.Bends.{one_direction, turn_same}
-use Rattle.walk_model.proofs.Shapes.{turn_differs}
-use Rattle.walk_laws.proofs.Shift.{across-forward}
-use Rattle.walk_laws.proofs.Turns.{triangle}
+use Rattle.walk_model.proofs.CornerByCorner.Bends.{one_direction, turn_same}
+use Rattle.walk_model.proofs.CornerByCorner.Shapes.{turn_differs}
+use Rattle.walk_laws.proofs.Steps.Shift.{across-forward}
+use Rattle.walk_laws.proofs.Steps.Turns.{triangle}
 use Rattle.move_model.specs.Boxes.{beside, distance_from, fewest_bends, outside}
 
 -- bends are a metric

@@ -8,10 +8,10 @@ use Rattle.plane_geom.proofs.Headings.{forward_distance, forward_heading, forwar
 use Rattle.walk_model.specs.Cost.{runs, runs_after}
 use Rattle.walk_model.specs.Line.{AreStraight, Draws, steps_through}
 use Rattle.walk_model.specs.Walk.{Walk, after, end_of, straight_walk}
-use Rattle.walk_model.proofs.Appending.{last_of, runs_after-append}
-use Rattle.walk_model.proofs.Bends.{runs-stretch, runs_after-stretch}
-use Rattle.walk_model.proofs.Scan.{after-append, after-replicate, forward-forward}
-use Rattle.walk_model.proofs.Shapes.{new_runs}
+use Rattle.walk_model.proofs.CornerByCorner.Appending.{last_of, runs_after-append}
+use Rattle.walk_model.proofs.CornerByCorner.Bends.{runs-stretch, runs_after-stretch}
+use Rattle.walk_model.proofs.CornerByCorner.Scan.{after-append, after-replicate, forward-forward}
+use Rattle.walk_model.proofs.CornerByCorner.Shapes.{new_runs}
 use Rattle.move_model.specs.Corners.{IsDrawn, further, last_corner}
 
 -- one more corner, straight on from the last one

@@ -19,8 +19,8 @@ use Rattle.channel_bundles.specs.declared.route.PhaseRoute.{PhaseRoute}
 use Rattle.nudge_laws.specs.Alike.{AreRoutesAlike, IsRouteAlike}
 use Rattle.nudge_laws.specs.Moved.{IsMoved, IsPutAt, moved_run}
 use Rattle.nudge_laws.specs.Phase.{IsPhase}
-use Rattle.nudge_laws.proofs.OneNudged.{one_nudged}
-use Rattle.nudge_laws.proofs.RouteTwins.{bundles_alike}
+use Rattle.nudge_laws.proofs.BothPhases.OneNudged.{one_nudged}
+use Rattle.nudge_laws.proofs.OneOfEach.RouteTwins.{bundles_alike}
 use Rattle.nudge_routes.proofs.Routes.{some_read}
 use Rattle.nudge_phases.specs.Nudged.{HaveOneNudged}
 use Rattle.nudge_phases.specs.Raw.{AreRawRoutes, IsRawRoute, routed}

@@ -22,13 +22,13 @@ use Rattle.walk_model.specs.Legal.{IsLegal, IsTask}
 use Rattle.walk_model.specs.Line.{IsOrthogonal}
 use Rattle.walk_model.specs.Order.{IsLegalTriple}
 use Rattle.walk_model.specs.Walk.{Walk}
-use Rattle.walk_laws.proofs.SmallWalks.{few_each_way, orthogonal_route}
+use Rattle.walk_laws.proofs.FewAndSmall.SmallWalks.{few_each_way, orthogonal_route}
 use Rattle.nudge_laws.specs.LegalRuns.{walk_along}
 use Rattle.channel_bundles.specs.declared.route.PhaseRoute.{PhaseRoute}
 use Rattle.channel_bundles.specs.Route.{of_way, runs_of_way}
 use Rattle.nudge_laws.specs.Ready.{AreRaw, IsReady}
-use Rattle.nudge_laws.proofs.AfterX.{ports_of_walk}
-use Rattle.nudge_laws.proofs.RawRuns.{long_runs, walk_same}
+use Rattle.nudge_laws.proofs.Phases.AfterX.{ports_of_walk}
+use Rattle.nudge_laws.proofs.BothPhases.RawRuns.{long_runs, walk_same}
 use Rattle.nudge_laws.specs.Ready.{HasLegalWalk}
 use Rattle.nudge_routes.specs.Rising.{EdgesRise}
 use Rattle.nudge_routes.proofs.Routes.{all_read, some_read}
@@ -37,8 +37,8 @@ use Rattle.scene_model.specs.Floors.{HoldsTask}
 use Rattle.scene_model.specs.Scene.{Scene, edge_with}
 use Rattle.scene_model.specs.Routing.{floor_of, solids, task_of}
 use Rattle.scene_model.specs.Valid.{IsValid}
-use Rattle.scene_model.proofs.Entries.{Pairs, pairs_to}
-use Rattle.scene_model.proofs.Floors.{floors_fit, floors_hold_tasks}
+use Rattle.scene_model.proofs.Editing.Entries.{Pairs, pairs_to}
+use Rattle.scene_model.proofs.ForRouting.Floors.{floors_fit, floors_hold_tasks}
 use Rattle.nudge_phases.specs.Raw.{IsRawRoute}
 use Rattle.nudge_phases.proofs.Answered.{Before, IsAnswered}
 use Rattle.nudge_phases.proofs.Zips.{zip_count, zip_read}

@@ -21,7 +21,7 @@ use Rattle.channel_bundles.specs.Route.{runs_of_way}
 use Rattle.nudge_laws.specs.Apart.{KeepsApart}
 use Rattle.nudge_laws.specs.Nudged.{IsNudged, KeepsLegal}
 use Rattle.nudge_laws.specs.Ready.{AreRaw}
-use Rattle.nudge_laws.proofs.NudgedLegal.{nudged_is_apart, nudged_is_legal}
+use Rattle.nudge_laws.proofs.BothPhases.NudgedLegal.{nudged_is_apart, nudged_is_legal}
 use Rattle.nudge_routes.specs.declared.nudging.Nudged.{Nudged}
 use Rattle.nudge_laws.specs.Ready.{HasLegalWalk}
 use Rattle.nudge_routes.specs.Rising.{EdgesRise}

@@ -14,10 +14,10 @@ use Rattle.segment_order.specs.Run.{AreCorners, point_at_index, run_between, run
 use Rattle.walk_model.specs.Cost.{turn, runs}
 use Rattle.walk_model.specs.Line.{Draws, IsStraightLine, steps_through}
 use Rattle.walk_model.specs.Walk.{Walk}
-use Rattle.walk_model.proofs.Bends.{one_direction, turn_same}
-use Rattle.walk_model.proofs.OneAnswer.{corners, corners_after, points_are}
-use Rattle.walk_model.proofs.Scan.{forward-forward}
-use Rattle.walk_model.proofs.Shapes.{turn_differs}
+use Rattle.walk_model.proofs.CornerByCorner.Bends.{one_direction, turn_same}
+use Rattle.walk_model.proofs.Ranking.OneAnswer.{corners, corners_after, points_are}
+use Rattle.walk_model.proofs.CornerByCorner.Scan.{forward-forward}
+use Rattle.walk_model.proofs.CornerByCorner.Shapes.{turn_differs}
 use Rattle.walk_laws.specs.Runs.{runs_of_way, runs_of_way_after, share_of_way}
 use Rattle.channel_bundles.specs.Route.{is_way, of_way}
 

@@ -12,10 +12,10 @@ use Rattle.walk_model.specs.Cost.{runs}
 use Rattle.walk_model.specs.Line.{Draws}
 use Rattle.walk_model.specs.Order.{Triple}
 use Rattle.walk_model.specs.Walk.{Walk}
-use Rattle.walk_model.proofs.OneAnswer.{corners, corners_after, corners_after-stretch, points_are}
-use Rattle.walk_model.proofs.Scan.{forward-zero, forward-forward}
-use Rattle.walk_model.proofs.Shapes.{turn_differs}
-use Rattle.walk_model.proofs.SomeRoute.{some_route}
+use Rattle.walk_model.proofs.Ranking.OneAnswer.{corners, corners_after, corners_after-stretch, points_are}
+use Rattle.walk_model.proofs.CornerByCorner.Scan.{forward-zero, forward-forward}
+use Rattle.walk_model.proofs.CornerByCorner.Shapes.{turn_differs}
+use Rattle.walk_model.proofs.Ranking.SomeRoute.{some_route}
 use Rattle.nudge_laws.specs.LegalRuns.{steps_along, steps_of_run}
 use Rattle.nudge_laws.proofs.AlongRuns.StepsAlong.{run_leads}
 

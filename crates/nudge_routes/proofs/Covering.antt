@@ -20,7 +20,7 @@ use Rattle.channel_bundles.specs.Route.{is_way, of_way, runs_of_way}
 use Rattle.channel_bundles.specs.Links.{item_of, member_at, no_member}
 use Rattle.channel_bundles.specs.Bundles.{AreBundles, AreBundlesOf, IsBundleOf, Standing, members_at, members_of}
 use Rattle.channel_bundles.proofs.Placing.{is_own}
-use Rattle.nudge_laws.proofs.Bundled.{IsRunOf, are_runs_of}
+use Rattle.nudge_laws.proofs.MovedRuns.Bundled.{IsRunOf, are_runs_of}
 use Rattle.nudge_routes.specs.Steps.{AreBundlesIn, IsRunIn}
 use Rattle.nudge_routes.proofs.Routes.{some_read}
 

@@ -13,7 +13,7 @@ use Rattle.channel_bundles.specs.declared.route.PhaseRoute.{PhaseRoute}
 use Rattle.channel_bundles.specs.Route.{is_way}
 use Rattle.channel_bundles.proofs.Trees.{cases_below, cases_same}
 use Rattle.nudge_laws.specs.Moved.{corner, moved_run, runs_way, stretch}
-use Rattle.nudge_laws.proofs.Ends.{stretch_at, stretch_way}
+use Rattle.nudge_laws.proofs.MovedRuns.Ends.{stretch_at, stretch_way}
 use Rattle.nudge_routes.specs.Steps.{AreEach, HasFollowed, HaveFollowed, coordinates, corner_at}
 use Rattle.nudge_routes.proofs.Routes.{run_is, some_read}
 

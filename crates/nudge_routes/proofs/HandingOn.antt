@@ -22,9 +22,9 @@ use Rattle.channel_bundles.proofs.Trees.{cases_below}
 use Rattle.nudge_laws.specs.Moved.{IsMoved, IsPutAt, corner, moved_run, runs_way, stretch}
 use Rattle.nudge_laws.specs.Phase.{IsPhase}
 use Rattle.nudge_laws.specs.Ready.{AreRaw, IsReady}
-use Rattle.nudge_laws.proofs.AfterX.{both_may_move, x_edges, x_ready, x_vertical}
-use Rattle.nudge_laws.proofs.Corners.{may_stay, short_may_stay}
-use Rattle.nudge_laws.proofs.PhaseKept.{phase_ready}
+use Rattle.nudge_laws.proofs.Phases.AfterX.{both_may_move, x_edges, x_ready, x_vertical}
+use Rattle.nudge_laws.proofs.MovedRuns.Corners.{may_stay, short_may_stay}
+use Rattle.nudge_laws.proofs.Phases.PhaseKept.{phase_ready}
 use Rattle.nudge_laws.proofs.AlongRuns.FromTheWalk.{from_walk}
 use Rattle.nudge_laws.specs.Ready.{HasLegalWalk}
 use Rattle.nudge_routes.specs.Rising.{EdgesRise}

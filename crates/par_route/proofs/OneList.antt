@@ -1,6 +1,6 @@
 -- Tasks have one list of right answers at most.
 use Rattle.std.proofs.Common.{[], ◌∷◌, refl}
-use Rattle.walk_model.proofs.OneAnswer as walks
+use Rattle.walk_model.proofs.Ranking.OneAnswer as walks
 use Rattle.par_route.specs.Routes.{HaveOneList}
 
 pub one_list : HaveOneList

@@ -12,7 +12,7 @@ use Rattle.gml_text.specs.Tree.{Pairs}
 use Rattle.scene_model.specs.declared.edge.Edge.{Edge}
 use Rattle.scene_model.specs.Scene.{Scene, edge_with, is_loop}
 use Rattle.scene_model.specs.Valid.{IsValid}
-use Rattle.scene_model.proofs.Entries.{Pairs as InPairs, pairs_from}
+use Rattle.scene_model.proofs.Editing.Entries.{Pairs as InPairs, pairs_from}
 use Rattle.diagram_read.specs.declared.fault.DiagramFault.{DiagramFault}
 use Rattle.diagram_read.specs.declared.fault.DiagramFault.TheVariants as faults
 use Rattle.diagram_read.specs.Lines.{line_of}

@@ -9,7 +9,7 @@ use Rattle.gml_text.specs.Tree.{Pairs}
 use Rattle.scene_model.specs.declared.edge.Edge.{Edge}
 use Rattle.scene_model.specs.Scene.{Scene, is_loop}
 use Rattle.scene_model.specs.Routing.{solids, task_of}
-use Rattle.route_check.proofs.Verdicts.{one_verdict}
+use Rattle.route_check.proofs.OneVerdict.Verdicts.{one_verdict}
 use Rattle.diagram_read.specs.declared.fault.DiagramFault.{DiagramFault}
 use Rattle.diagram_read.specs.Lines.{line_of}
 use Rattle.diagram_read.specs.Scene.{scene_of}

@@ -24,10 +24,10 @@ use Rattle.scene_model.specs.Edits.{changed, half, is_off, is_outside, out_of_li
 use Rattle.scene_model.specs.Loads.{IsLoadablePin}
 use Rattle.scene_model.proofs.Directions.{told}
 use Rattle.scene_model.proofs.Directions.Told.{yes, no}
-use Rattle.scene_model.proofs.EdgeEdits.{edge_added, set_value, within_field}
-use Rattle.scene_model.proofs.Entries.{found_passes, pairs_to}
-use Rattle.scene_model.proofs.NodeEdits.{node_added, inside, within_field as within_with}
-use Rattle.scene_model.proofs.Refusals.{none_of, or_none}
+use Rattle.scene_model.proofs.Editing.EdgeEdits.{edge_added, set_value, within_field}
+use Rattle.scene_model.proofs.Editing.Entries.{found_passes, pairs_to}
+use Rattle.scene_model.proofs.Editing.NodeEdits.{node_added, inside, within_field as within_with}
+use Rattle.scene_model.proofs.Editing.Refusals.{none_of, or_none}
 use Rattle.diagram_read.specs.declared.fault.Part.TheVariants as part
 use Rattle.diagram_read.specs.declared.fault.DiagramFault.{DiagramFault}
 use Rattle.diagram_read.specs.declared.fault.DiagramFault.TheVariants.{NoGraph, BadId, SameId, NoPlace, BadNumber, BadEnd, OutOfRange, TooMany, BadPin, BadVia, BadWeight}

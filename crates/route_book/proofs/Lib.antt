@@ -1,20 +1,5 @@
 -- The lemmas on books, callees first.
-pub mod Along
-pub mod Stays
-pub mod Kept
-pub mod Reuse
-pub mod Found
-pub mod Taken
-pub mod Ordered
-pub mod Lengths
-pub mod Crossed
-pub mod Connectors
-pub mod Searched
-pub mod Merged
-pub mod Opened
-pub mod Picks
-pub mod Near
-pub mod Solids
-pub mod Same
-pub mod Reached
-pub mod Looks
+pub mod Staying
+pub mod Answering
+pub mod Touching
+pub mod Comparing

@@ -1,23 +1,5 @@
 -- The lemmas on searches, callees first.
-pub mod AheadOrder
-pub mod Bounding
-pub mod Known
-pub mod Starting
-pub mod LeastEntries
-pub mod Sizes
-pub mod Queues
-pub mod Offering
-pub mod Falling
-pub mod OfferingStubs
-pub mod HandingOn
-pub mod Weights
-pub mod Taking
-pub mod Spreading
-pub mod Directions
-pub mod Tails
-pub mod TheMoves
-pub mod Orders
-pub mod Following
-pub mod Corners
-pub mod Stepping
-pub mod Entering
+pub mod Ahead
+pub mod Moving
+pub mod Offers
+pub mod Tracing

@@ -6,9 +6,9 @@ use Rattle.scene_model.specs.Scene.{Scene}
 use Rattle.scene_model.specs.Valid.{IsValid}
 use Rattle.scene_model.specs.Edits.{changed}
 use Rattle.scene_model.specs.Inverses.{IsRestorable, Leads, inverse_of, taken_back}
-use Rattle.scene_model.proofs.Chains.{leads_back}
-use Rattle.scene_model.proofs.Validity.{keeps_valid}
-use Rattle.scene_model.proofs.Restoring.{takes_back}
+use Rattle.scene_model.proofs.TakingBack.Chains.{leads_back}
+use Rattle.scene_model.proofs.Editing.Validity.{keeps_valid}
+use Rattle.scene_model.proofs.TakingBack.Restoring.{takes_back}
 use Rattle.route_session.specs.Upheld.{AreRestorable, AreFree}
 
 pub restorable : (s : Scene) (es : List Edit) (is : List Inverse) (n : Scene) → IsValid s → Leads s es is n → AreRestorable is n

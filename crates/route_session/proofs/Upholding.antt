@@ -18,7 +18,7 @@ use Rattle.scene_model.specs.Routing.{floor_of}
 use Rattle.scene_model.specs.Inverses.{taken_back, redone}
 use Rattle.scene_model.specs.Answers.{AreAnswers}
 use Rattle.scene_model.specs.World.{step, refused}
-use Rattle.scene_model.proofs.OneList.{one_list}
+use Rattle.scene_model.proofs.ForRouting.OneList.{one_list}
 use Rattle.edit_txn.specs.Txn.{Transaction, BeganOn}
 use Rattle.undo_log.specs.declared.step.Step.{Step}
 use Rattle.undo_log.specs.Log.{Log}

@@ -12,8 +12,8 @@ use Rattle.scene_model.specs.Inverses.{put_edge}
 use Rattle.std.specs.Option.{option_map_or}
 use Rattle.scene_model.specs.Valid.{IsValid}
 use Rattle.scene_model.specs.Edits.{refusal, refusals}
-use Rattle.scene_model.proofs.Entries.{each_weaker, found_none}
-use Rattle.scene_model.proofs.Refusals.{all_none, when_none}
+use Rattle.scene_model.proofs.Editing.Entries.{each_weaker, found_none}
+use Rattle.scene_model.proofs.Editing.Refusals.{all_none, when_none}
 
 pub numbers_apart : (s : Scene) → IsValid s → AllPairs (λ d e. pos d.number ≢ pos e.number) s.edges
 numbers_apart s v i j d l m h = let rise = v.numbers_rise i j d l m in let same = ap unsigned_abs h in absurd (omega (arith, rise, same))

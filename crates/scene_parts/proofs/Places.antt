@@ -6,8 +6,8 @@ use Rattle.std.proofs.lemmas.Bool.{ltb-true}
 use Rattle.std.proofs.lemmas.Bool.Decides.{Decides-int_eq}
 use Rattle.std.proofs.lemmas.Option.{none-some, same_Some}
 use Rattle.std.proofs.lemmas.List.Folds.{find_at}
-use Rattle.scene_model.proofs.Entries.{Pairs, pairs_from, key_found, changed_at_place, without_at_place, found_none}
-use Rattle.scene_model.proofs.Refusals.{none_at}
+use Rattle.scene_model.proofs.Editing.Entries.{Pairs, pairs_from, key_found, changed_at_place, without_at_place, found_none}
+use Rattle.scene_model.proofs.Editing.Refusals.{none_at}
 
 module _ {X : Type 0} (key : X → ℤ) where
   abbrev has : ℤ → X → Bool

@@ -8,9 +8,9 @@ use Rattle.scene_model.specs.declared.edge.Edge.{Edge}
 use Rattle.scene_model.specs.Scene.{Scene, node_with, edge_with}
 use Rattle.scene_model.specs.Valid.{IsValid}
 use Rattle.scene_model.specs.Edits.{change_node, change_edge}
-use Rattle.scene_model.proofs.Entries.{pairs_from, key_found, changed_at_place}
-use Rattle.scene_model.proofs.Nodes.{id_of}
-use Rattle.scene_model.proofs.Edges.{number_of, numbers_differ}
+use Rattle.scene_model.proofs.Editing.Entries.{pairs_from, key_found, changed_at_place}
+use Rattle.scene_model.proofs.Editing.Nodes.{id_of}
+use Rattle.scene_model.proofs.Editing.Edges.{number_of, numbers_differ}
 
 pub node_there : (s : Scene) (id : ℤ) (n : Node) → node_with s id ≡ Some n → IsSome (node_with s n.id)
 node_there s id n known = ap is_some (ap (node_with s) (key_found id_of int_eq Decides-int_eq id s.nodes n known) ∙ known)

@@ -13,8 +13,8 @@ use Rattle.scene_model.specs.declared.edge.Edge.{Edge}
 use Rattle.scene_model.specs.Scene.{Scene, edge_with, connectors, is_loop}
 use Rattle.scene_model.specs.Valid.{IsValid}
 use Rattle.scene_model.specs.Routing.{floor_of, solids, task_of}
-use Rattle.scene_model.proofs.Entries.{each_weaker, found_has}
-use Rattle.scene_model.proofs.Floors.{floors_fit, floors_hold_tasks}
+use Rattle.scene_model.proofs.Editing.Entries.{each_weaker, found_has}
+use Rattle.scene_model.proofs.ForRouting.Floors.{floors_fit, floors_hold_tasks}
 
 module _ {X : Type 0} where
   here : (x : X) (xs : List X) (b : Bool) → b ≡ true → Contains (cond b (x ∷ xs) xs) x

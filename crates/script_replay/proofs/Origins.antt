@@ -4,7 +4,7 @@ use Rattle.std.specs.List.{AllByRecursion as Each}
 use Rattle.scene_model.specs.declared.edit.Command.{Command}
 use Rattle.scene_model.specs.Scene.{Scene}
 use Rattle.scene_model.specs.World.{opened, IsDirectedCommand, EditsKeep}
-use Rattle.scene_model.proofs.Worlds.{played_keeps}
+use Rattle.scene_model.proofs.Editing.Worlds.{played_keeps}
 use Rattle.gml_scene.specs.Origins.{AreNodesOf, AreEdgesOf}
 use Rattle.gml_scene.proofs.OriginsKept.{own_scenes_fit, edits_keep_origins}
 use Rattle.script_replay.specs.Replies.{AreDirected, world_after}

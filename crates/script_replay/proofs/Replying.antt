@@ -7,8 +7,8 @@ use Rattle.scene_model.specs.declared.edit.Command.TheVariants.{Begin, Edit, Com
 use Rattle.scene_model.specs.Scene.{Scene}
 use Rattle.scene_model.specs.Stale.{AreStale}
 use Rattle.scene_model.specs.World.{World, CommandRefusal, step, next_world, played}
-use Rattle.scene_model.proofs.OneList.{one_list}
-use Rattle.scene_model.proofs.Fresh.{one_stale_list}
+use Rattle.scene_model.proofs.ForRouting.OneList.{one_list}
+use Rattle.scene_model.proofs.ForRouting.Fresh.{one_stale_list}
 use Rattle.report_text.specs.declared.reply.Reply.{Reply}
 use Rattle.report_text.specs.declared.reply.Reply.TheVariants.{Searched}
 use Rattle.report_text.specs.declared.reply.LineReply.{LineReply}

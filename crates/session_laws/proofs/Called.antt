@@ -7,7 +7,7 @@ use Rattle.scene_model.specs.declared.edit.Command.TheVariants.{Commit, Undo, Re
 use Rattle.scene_model.specs.Scene.{Scene}
 use Rattle.scene_model.specs.Answers.{AreAnswers}
 use Rattle.scene_model.specs.World.{World, CommandRefusal, step, taken, or_given_up, next_world, played}
-use Rattle.scene_model.proofs.OneList.{one_list}
+use Rattle.scene_model.proofs.ForRouting.OneList.{one_list}
 use Rattle.session_laws.specs.State.{State}
 use Rattle.session_laws.specs.Calls.{IsCall, effect, SessionsAreWorlds, CommitsAreGivenBack}
 

@@ -9,7 +9,7 @@ use Rattle.scene_model.specs.Scene.{Scene}
 use Rattle.scene_model.specs.Valid.{IsValid}
 use Rattle.scene_model.specs.Inverses.{taken_back, redone}
 use Rattle.scene_model.specs.World.{World, CommandRefusal, step}
-use Rattle.scene_model.proofs.Chains.{leads_back}
+use Rattle.scene_model.proofs.TakingBack.Chains.{leads_back}
 use Rattle.undo_log.specs.declared.step.Step.{Step}
 use Rattle.undo_log.specs.Log.{most_steps}
 use Rattle.undo_log.specs.Lending.{gone_back, gone_forth}

@@ -9,7 +9,7 @@ use Rattle.plane_geom.specs.declared.point.Way.{Way}
 use Rattle.plane_geom.specs.declared.point.Way.TheVariants.{Vertical, Horizontal}
 use Rattle.plane_geom.specs.declared.floor.Line.{Line}
 use Rattle.line_arena.specs.Arena.{Arena, IsArena, Pair, counted}
-use Rattle.line_arena.proofs.ArenaLaws.{within_crossing_put}
+use Rattle.line_arena.proofs.Arenas.ArenaLaws.{within_crossing_put}
 use Rattle.sweep_lines.specs.Kept.{AreOrdered}
 use Rattle.plane_geom.specs.Order.{stands_before}
 use Rattle.sweep_lines.proofs.Members.{Among, among_filter, among_filtered, among_of_contains, contains_of_among}

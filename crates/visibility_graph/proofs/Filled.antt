@@ -10,7 +10,7 @@ use Rattle.plane_geom.specs.declared.point.Way.TheVariants.{Vertical, Horizontal
 use Rattle.plane_geom.specs.declared.floor.Line.{Line}
 use Rattle.line_arena.specs.Arena.{Arena, IsApart, IsArena, Meet, counted}
 use Rattle.line_arena.specs.Stands.{HasLine, IsComplete}
-use Rattle.line_arena.proofs.ArenaLaws.{across_where_meet, within_line_put}
+use Rattle.line_arena.proofs.Arenas.ArenaLaws.{across_where_meet, within_line_put}
 use Rattle.sweep_lines.specs.Kept.{AreOrdered}
 use Rattle.plane_geom.specs.Order.{stands_before}
 use Rattle.sweep_lines.proofs.Members.{among_filter, among_of_contains, contains_of_among}

@@ -11,8 +11,8 @@ use Rattle.plane_geom.specs.declared.point.Way.TheVariants.{Vertical, Horizontal
 use Rattle.plane_geom.specs.declared.floor.Line.{Line}
 use Rattle.plane_geom.specs.Floor.{Holds, point_on}
 use Rattle.line_arena.specs.Arena.{Arena, IsArena}
-use Rattle.line_arena.proofs.ArenaLaws.{AreAcross}
-use Rattle.line_arena.proofs.Seen.{tied, untied}
+use Rattle.line_arena.proofs.Arenas.ArenaLaws.{AreAcross}
+use Rattle.line_arena.proofs.Arenas.Seen.{tied, untied}
 use Rattle.visibility_graph.specs.Meeting.{meets, reaches, same_way}
 
 pub same_some : {X : Type 0} (x y : X) → ◌≡◌ {A = Option X} (Some x) (Some y) → x ≡ y

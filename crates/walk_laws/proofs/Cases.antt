@@ -14,11 +14,11 @@ use Rattle.plane_geom.proofs.LongestPiece.{meets_barred}
 use Rattle.walk_model.specs.declared.task.Choice.{Choice}
 use Rattle.walk_model.specs.declared.task.Task.{Task}
 use Rattle.walk_model.specs.Order.{Triple, IsFirst, IsLegalTriple}
-use Rattle.walk_model.proofs.First.{one_first}
-use Rattle.walk_model.proofs.Deciding.{legal_told, shown}
+use Rattle.walk_model.proofs.Ranking.First.{one_first}
+use Rattle.walk_model.proofs.Ranking.Deciding.{legal_told, shown}
 use Rattle.walk_laws.specs.Lines.{run_line}
 use Rattle.walk_laws.specs.Runs.{runs_of_way}
-use Rattle.walk_laws.proofs.Lines.{chosen}
+use Rattle.walk_laws.proofs.OnKeptLines.Lines.{chosen}
 
 -- two runs go East and West, and one South; to go on begins none, to double back does
 two_horizontal : runs_of_way Horizontal (East ∷ East ∷ South ∷ West ∷ []) ≡ 2

@@ -7,7 +7,7 @@ use Rattle.plane_geom.specs.declared.rect.Solid.{Solid}
 use Rattle.walk_model.specs.declared.task.Choice.{Choice}
 use Rattle.walk_model.specs.Line.{walk_through}
 use Rattle.walk_model.specs.Legal.{IsLegal}
-use Rattle.walk_model.proofs.Deciding.{is_legal, legal_told, refuted, shown}
+use Rattle.walk_model.proofs.Ranking.Deciding.{is_legal, legal_told, refuted, shown}
 
 abbrev at : ℤ → ℤ → Point
 at x y = record { x = x; y = y }

@@ -1,20 +1,6 @@
 -- The lemmas on walks, callees first.
-pub mod Scan
-pub mod Bends
-pub mod Appending
-pub mod Lengths
-pub mod Passing
-pub mod Stretches
-pub mod Along
-pub mod Costs
-pub mod Segments
-pub mod First
-pub mod OneAnswer
-pub mod SomeRoute
-pub mod StepLists
-pub mod StepOrder
-pub mod Shapes
-pub mod Keys
-pub mod Deciding
+pub mod CornerByCorner
+pub mod Checkpoints
+pub mod Ranking
 pub mod Cases
 pub mod TaskFloors

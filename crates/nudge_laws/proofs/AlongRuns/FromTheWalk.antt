@@ -21,7 +21,7 @@ use Rattle.walk_model.specs.declared.task.Choice.{Choice}
 use Rattle.walk_model.specs.Walk.{Walk, after, point_at, step_at}
 use Rattle.walk_model.specs.Choice.{IsChoice, stub_length}
 use Rattle.walk_model.specs.Legal.{IsLegal, Passes}
-use Rattle.walk_model.proofs.Scan.{forward-zero, forward-forward}
+use Rattle.walk_model.proofs.CornerByCorner.Scan.{forward-zero, forward-forward}
 use Rattle.nudge_laws.specs.LegalRuns.{steps_of_run, walk_along, Station, IsNotAfter, PassesOn, IsClear, IsLegalAlong}
 use Rattle.nudge_laws.proofs.AlongRuns.StepsAlong.{place_on, end_on, run_leads, Follow, follow, before, step_on, stands_on, step_of, before_grows, all_before}
 use Rattle.nudge_laws.proofs.AlongRuns.ToTheWalk.{reach_forward, before_zero}

@@ -12,7 +12,7 @@ use Rattle.plane_geom.specs.Floor.{point_on, Holds}
 use Rattle.segment_order.specs.declared.run.Run.{Run}
 use Rattle.segment_order.specs.Run.{IsRun, run_at, line_of_run, start_of_run, end_of_run, end_in}
 use Rattle.walk_model.specs.Walk.{after}
-use Rattle.walk_model.proofs.Scan.{after-append, after-replicate}
+use Rattle.walk_model.proofs.CornerByCorner.Scan.{after-append, after-replicate}
 use Rattle.nudge_laws.specs.LegalRuns.{steps_of_run, steps_along}
 use Rattle.nudge_laws.proofs.AlongRuns.Ends.{far_end, end_far, end_held}
 

@@ -19,10 +19,10 @@ use Rattle.walk_model.specs.Walk.{Walk, after, point_at, step_at}
 use Rattle.walk_model.specs.Walk.{end_of as walk_end}
 use Rattle.walk_model.specs.Choice.{IsChoice, stub_length}
 use Rattle.walk_model.specs.Legal.{IsLegal, IsFree, Passes}
-use Rattle.walk_model.proofs.Scan.{forward-zero, forward-forward}
-use Rattle.walk_laws.proofs.Clear.{IsClearStep}
-use Rattle.walk_laws.proofs.Clear.{IsClear as StepsAreClear}
-use Rattle.walk_laws.proofs.Tours.{stub, stub_back}
+use Rattle.walk_model.proofs.CornerByCorner.Scan.{forward-zero, forward-forward}
+use Rattle.walk_laws.proofs.Steps.Clear.{IsClearStep}
+use Rattle.walk_laws.proofs.Steps.Clear.{IsClear as StepsAreClear}
+use Rattle.walk_laws.proofs.Replacing.Tours.{stub, stub_back}
 use Rattle.nudge_laws.specs.LegalRuns.{steps_of_run, walk_along, Station, IsNotAfter, PassesOn, IsLegalAlong}
 use Rattle.nudge_laws.proofs.AlongRuns.StepsAlong.{IsAhead, on_run, steps_until, steps_whole, run_leads, Follow, follow, before, step_on, stands_on, step_of, before_grows, all_before, all_equal}
 use Rattle.nudge_laws.proofs.AlongRuns.Ends.{end_held}

@@ -5,8 +5,8 @@ use Rattle.std.proofs.lemmas.List.{take_all}
 use Rattle.std.proofs.lemmas.Option.{slice_get_within}
 use Rattle.scene_model.specs.declared.edge.Edge.{Edge}
 use Rattle.scene_model.specs.Scene.{is_loop}
-use Rattle.route_book.proofs.Connectors.{next_connector, next_loop}
-use Rattle.route_book.proofs.Picks.{past_end}
+use Rattle.route_book.proofs.Answering.Connectors.{next_connector, next_loop}
+use Rattle.route_book.proofs.Comparing.Picks.{past_end}
 use Rattle.form_route.proofs.report.connector_count.Goals as goal
 use Rattle.form_route.proofs.report.connector_count.Goals.{then-edge, else-edge}
 

@@ -5,7 +5,7 @@ use Rattle.std.proofs.lemmas.List.{map_more, take_all}
 use Rattle.std.proofs.lemmas.Option.{get_or_from_slice_get, slice_get_within}
 use Rattle.scene_model.specs.declared.edge.Edge.{Edge}
 use Rattle.report_text.specs.declared.routed.EdgeRouted.{EdgeRouted}
-use Rattle.route_book.proofs.Picks.{past_end}
+use Rattle.route_book.proofs.Comparing.Picks.{past_end}
 use Rattle.form_route.specs.Report.{routed_by}
 use Rattle.form_route.proofs.report.edges_routed.Goals as goal
 

@@ -1,5 +1,5 @@
 -- The law is proved in `ArenaLaws`.
-use Rattle.line_arena.proofs.ArenaLaws.{crossings_of_floor}
+use Rattle.line_arena.proofs.Arenas.ArenaLaws.{crossings_of_floor}
 use Rattle.line_arena.proofs.laws.crossings_of_floor.Goals as goal
 
 pub returns : goal.returns

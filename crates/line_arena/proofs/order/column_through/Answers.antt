@@ -5,7 +5,7 @@ use Rattle.std.proofs.lemmas.List.{get_or_default}
 use Rattle.plane_geom.specs.declared.floor.Line.{Line}
 use Rattle.plane_geom.specs.declared.point.Way.TheVariants.{Vertical}
 use Rattle.plane_geom.specs.Order.{stands_before}
-use Rattle.line_arena.proofs.InOrder.{begins_upto, held_down, last_is}
+use Rattle.line_arena.proofs.LineOrder.InOrder.{begins_upto, held_down, last_is}
 use Rattle.line_arena.proofs.order.column_through.Goals as goal
 
 pub returns-then-place-eq0-clause-only : goal.returns-then-place-eq0-clause-only

@@ -2,7 +2,7 @@
 use Rattle.std.proofs.Common.{not, rules}
 use Rattle.std.proofs.lemmas.List.Sorted.{IsPartitionPoint-from_clause}
 use Rattle.plane_geom.specs.Order.{stands_before}
-use Rattle.line_arena.proofs.InOrder.{not_false, not_true, parted}
+use Rattle.line_arena.proofs.LineOrder.InOrder.{not_false, not_true, parted}
 use Rattle.line_arena.proofs.order.count_upto.Goals as goal
 
 pub returns-clause-point : goal.returns-clause-point

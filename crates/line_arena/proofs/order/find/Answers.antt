@@ -1,6 +1,6 @@
 -- A line that is there stands last of those that it does not stand before.
 use Rattle.std.proofs.Common.{arith}
-use Rattle.line_arena.proofs.InOrder.{last_upto}
+use Rattle.line_arena.proofs.LineOrder.InOrder.{last_upto}
 use Rattle.line_arena.proofs.order.find.Goals as goal
 
 pub returns-then-place-eq0-clause-absent : goal.returns-then-place-eq0-clause-absent

@@ -5,7 +5,7 @@ use Rattle.std.specs.List.{insert}
 use Rattle.std.specs.List.Sorted.{IsPartitionPoint}
 use Rattle.line_arena.specs.Order.{AreInOrder}
 use Rattle.plane_geom.specs.Order.{stands_before}
-use Rattle.line_arena.proofs.InOrder.{in_order_put, succeeded, there_put}
+use Rattle.line_arena.proofs.LineOrder.InOrder.{in_order_put, succeeded, there_put}
 use Rattle.line_arena.proofs.order.put_in_order.Goals as goal
 use Rattle.line_arena.proofs.order.put_in_order.Goals.{After-insert}
 

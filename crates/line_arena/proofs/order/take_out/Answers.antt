@@ -5,7 +5,7 @@ use Rattle.std.specs.List.Sorted.{IsPartitionPoint}
 use Rattle.std.proofs.lemmas.List.Quantifiers.{all_pairs_remove}
 use Rattle.line_arena.specs.Order.{AreInOrder}
 use Rattle.plane_geom.specs.Order.{stands_before}
-use Rattle.line_arena.proofs.InOrder.{inside, last_upto, left_out}
+use Rattle.line_arena.proofs.LineOrder.InOrder.{inside, last_upto, left_out}
 use Rattle.line_arena.proofs.order.take_out.Goals as goal
 use Rattle.line_arena.proofs.order.take_out.Goals.{After-remove}
 

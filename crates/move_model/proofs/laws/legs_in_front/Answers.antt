@@ -1,5 +1,5 @@
 -- Leg by leg, each a stretch in front.
-use Rattle.move_model.proofs.Rests.{legs_no_less, legs_order, legs_same}
+use Rattle.move_model.proofs.GoingOn.Rests.{legs_no_less, legs_order, legs_same}
 use Rattle.move_model.proofs.laws.legs_in_front.Goals as goal
 
 pub returns : goal.returns

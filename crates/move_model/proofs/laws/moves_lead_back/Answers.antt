@@ -1,6 +1,6 @@
 -- The crossings of a line stand in one order.
-use Rattle.move_model.proofs.Moves.{one_move}
-use Rattle.move_model.proofs.Crossings.{nearest_back}
+use Rattle.move_model.proofs.Moving.Moves.{one_move}
+use Rattle.move_model.proofs.Moving.Crossings.{nearest_back}
 use Rattle.move_model.proofs.laws.moves_lead_back.Goals as goal
 
 pub returns : goal.returns

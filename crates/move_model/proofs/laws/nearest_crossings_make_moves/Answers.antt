@@ -1,5 +1,5 @@
 -- Both crossings lie on one line.
-use Rattle.move_model.proofs.Moves.{apart, made_move}
+use Rattle.move_model.proofs.Moving.Moves.{apart, made_move}
 use Rattle.move_model.proofs.laws.nearest_crossings_make_moves.Goals as goal
 
 pub returns : goal.returns

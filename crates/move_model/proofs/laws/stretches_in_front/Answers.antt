@@ -1,5 +1,5 @@
 -- What begins with the stretch is added to what is ahead behind it.
-use Rattle.move_model.proofs.Stretching.{stretch_ahead, stretch_order, stub_ahead}
+use Rattle.move_model.proofs.GoingOn.Stretching.{stretch_ahead, stretch_order, stub_ahead}
 use Rattle.move_model.proofs.laws.stretches_in_front.Goals as goal
 
 pub returns : goal.returns

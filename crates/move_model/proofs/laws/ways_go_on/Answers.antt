@@ -1,5 +1,5 @@
 -- By induction over the legs in front.
-use Rattle.move_model.proofs.Joined.{legs_behind, steps_behind, way_behind, way_cut}
+use Rattle.move_model.proofs.GoingOn.Joined.{legs_behind, steps_behind, way_behind, way_cut}
 use Rattle.move_model.proofs.laws.ways_go_on.Goals as goal
 
 pub returns : goal.returns

@@ -1,5 +1,5 @@
 -- By the clear runs between the ports.
-use Rattle.nudge_laws.proofs.Corners.{may_stay}
+use Rattle.nudge_laws.proofs.MovedRuns.Corners.{may_stay}
 use Rattle.nudge_laws.proofs.laws.legal_routes_may_stay.Goals as goal
 
 pub returns : goal.returns

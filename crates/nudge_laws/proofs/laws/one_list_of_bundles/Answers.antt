@@ -1,5 +1,5 @@
 -- The law is a lemma: `one_list_of_bundles`.
-use Rattle.nudge_laws.proofs.OneBundles.{one_list_of_bundles}
+use Rattle.nudge_laws.proofs.OneOfEach.OneBundles.{one_list_of_bundles}
 use Rattle.nudge_laws.proofs.laws.one_list_of_bundles.Goals as goal
 
 pub returns : goal.returns

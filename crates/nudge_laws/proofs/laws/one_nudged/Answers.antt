@@ -1,5 +1,5 @@
 -- The law is a lemma: `one_nudged`.
-use Rattle.nudge_laws.proofs.OneNudged.{one_nudged}
+use Rattle.nudge_laws.proofs.BothPhases.OneNudged.{one_nudged}
 use Rattle.nudge_laws.proofs.laws.one_nudged.Goals as goal
 
 pub returns : goal.returns

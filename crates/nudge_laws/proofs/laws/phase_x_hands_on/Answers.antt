@@ -1,5 +1,5 @@
 -- By what a phase keeps of its routes.
-use Rattle.nudge_laws.proofs.AfterX.{x_ready, x_edges, both_may_move}
+use Rattle.nudge_laws.proofs.Phases.AfterX.{x_ready, x_edges, both_may_move}
 use Rattle.nudge_laws.proofs.laws.phase_x_hands_on.Goals as goal
 
 pub returns : goal.returns

@@ -1,5 +1,5 @@
 -- Run by run.
-use Rattle.nudge_laws.proofs.RawRuns.{walk_same, long_runs}
+use Rattle.nudge_laws.proofs.BothPhases.RawRuns.{walk_same, long_runs}
 use Rattle.nudge_laws.proofs.laws.runs_go_along_lines.Goals as goal
 
 pub returns : goal.returns

@@ -1,5 +1,5 @@
 -- The law of reuse.
-use Rattle.route_book.proofs.Reuse.{answers_stay}
+use Rattle.route_book.proofs.Staying.Reuse.{answers_stay}
 use Rattle.route_book.proofs.laws.current_answers_stay.Goals as goal
 
 pub returns : goal.returns

@@ -6,8 +6,8 @@ use Rattle.plane_geom.specs.declared.point.Point.{Point}
 use Rattle.plane_geom.specs.Rect.{Meets}
 use Rattle.walk_model.specs.Line.{AreStraight, IsStraightLine, walk_through}
 use Rattle.scene_model.specs.Stale.{LineMeets}
-use Rattle.route_book.proofs.Crossed.{ClearTo, clear_last, clear_next, hit, line_hit}
-use Rattle.route_book.proofs.Same.{points_apart, points_same}
+use Rattle.route_book.proofs.Touching.Crossed.{ClearTo, clear_last, clear_next, hit, line_hit}
+use Rattle.route_book.proofs.Comparing.Same.{points_apart, points_same}
 use Rattle.route_book.proofs.line.line_meets.Goals as goal
 use Rattle.route_book.proofs.line.line_meets.Goals.{After-ne, else-ne-via-then-ne+else-overlaps_area, else-ne-via-else-ne}
 

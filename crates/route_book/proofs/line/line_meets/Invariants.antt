@@ -2,7 +2,7 @@
 use Rattle.std.proofs.Common.{◌≡◌, ◌∷◌, drop}
 use Rattle.plane_geom.specs.declared.point.Point.{Point}
 use Rattle.walk_model.specs.Line.{AreStraight, walk_through}
-use Rattle.route_book.proofs.Crossed.{ClearTo}
+use Rattle.route_book.proofs.Touching.Crossed.{ClearTo}
 use Rattle.route_book.proofs.line.line_meets.Given as goal
 
 abbrev pub invariant-loop-next : goal.invariant-loop-next

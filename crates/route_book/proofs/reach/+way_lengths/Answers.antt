@@ -7,7 +7,7 @@ use Rattle.plane_geom.specs.declared.point.Point.{Point}
 use Rattle.plane_geom.specs.Point.{PointIsOnSheet, distance}
 use Rattle.plane_geom.proofs.Signed.{distance_bound}
 use Rattle.scene_model.specs.Stale.{way_length}
-use Rattle.route_book.proofs.Lengths.{last_by, leg_by, no_points, rest_length, through_bound}
+use Rattle.route_book.proofs.Touching.Lengths.{last_by, leg_by, no_points, rest_length, through_bound}
 use Rattle.route_book.proofs.reach.+way_lengths.Goals as goal
 use Rattle.route_book.proofs.reach.+way_lengths.Goals.{After-way_lengths-rest}
 

@@ -6,10 +6,10 @@ use Rattle.std.proofs.lemmas.List.{map-append, take_all}
 use Rattle.std.proofs.lemmas.Option.{slice_get_within}
 use Rattle.scene_model.specs.declared.edge.Edge.{Edge}
 use Rattle.scene_model.specs.Scene.{connectors, is_loop}
-use Rattle.scene_model.proofs.Edges.{number_of}
+use Rattle.scene_model.proofs.Editing.Edges.{number_of}
 use Rattle.route_book.specs.Search.{AreRising, IsConnector}
-use Rattle.route_book.proofs.Connectors.{all_connectors, all_rising, next_connector, next_loop}
-use Rattle.route_book.proofs.Picks.{past_end}
+use Rattle.route_book.proofs.Answering.Connectors.{all_connectors, all_rising, next_connector, next_loop}
+use Rattle.route_book.proofs.Comparing.Picks.{past_end}
 use Rattle.route_book.proofs.search.connector_numbers.Goals as goal
 use Rattle.route_book.proofs.search.connector_numbers.Goals.{then-edge+in_ok-push, else-edge}
 

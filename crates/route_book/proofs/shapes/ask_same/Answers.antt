@@ -4,7 +4,7 @@ use Rattle.std.specs.Prelude.{Decides}
 use Rattle.std.proofs.lemmas.Int.{ints}
 use Rattle.std.proofs.lemmas.Bool.Decides.{Decides-at}
 use Rattle.std.proofs.lemmas.Slice.Eq.{slice_eq-Decides}
-use Rattle.route_book.proofs.Same.{ids_same, numbers_same, point_same}
+use Rattle.route_book.proofs.Comparing.Same.{ids_same, numbers_same, point_same}
 use Rattle.route_book.proofs.shapes.ask_same.Goals as goal
 use Rattle.route_book.proofs.shapes.ask_same.Goals.{then-eq, else-eq}
 

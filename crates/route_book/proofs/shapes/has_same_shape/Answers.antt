@@ -1,6 +1,6 @@
 -- Both nodes are of valid scenes.
 use Rattle.std.proofs.Common.{sym}
-use Rattle.route_book.proofs.Solids.{node_found}
+use Rattle.route_book.proofs.Touching.Solids.{node_found}
 use Rattle.route_book.proofs.shapes.has_same_shape.Goals as goal
 
 pub look_same-requires-clause-one : goal.look_same-requires-clause-one

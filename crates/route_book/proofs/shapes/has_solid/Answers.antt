@@ -5,8 +5,8 @@ use Rattle.std.proofs.lemmas.Bool.Decides.{Decides-at}
 use Rattle.scene_model.specs.declared.settings.Settings.{Settings}
 use Rattle.scene_model.specs.Scene.{node_with}
 use Rattle.scene_model.specs.Routing.{solid_of}
-use Rattle.route_book.proofs.Same.{solid_same}
-use Rattle.route_book.proofs.Solids.{node_found, no_solid, solid_of_found}
+use Rattle.route_book.proofs.Comparing.Same.{solid_same}
+use Rattle.route_book.proofs.Touching.Solids.{node_found, no_solid, solid_of_found}
 use Rattle.route_book.proofs.shapes.has_solid.Goals as goal
 
 pub solid-requires-clause-node : goal.solid-requires-clause-node

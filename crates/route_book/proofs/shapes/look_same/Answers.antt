@@ -5,7 +5,7 @@ use Rattle.std.proofs.lemmas.Bool.Decides.{Decides-at}
 use Rattle.std.proofs.lemmas.Slice.Eq.{slice_eq-Decides}
 use Rattle.scene_model.specs.Routing.{box}
 use Rattle.scene_model.specs.Stale.{Shape}
-use Rattle.route_book.proofs.Same.{group_same, pin_same, rect_same}
+use Rattle.route_book.proofs.Comparing.Same.{group_same, pin_same, rect_same}
 use Rattle.route_book.proofs.shapes.look_same.Goals as goal
 use Rattle.route_book.proofs.shapes.look_same.Goals.{then-eq, else-eq}
 

@@ -10,8 +10,8 @@ use Rattle.scene_model.specs.declared.node.Node.{Node}
 use Rattle.scene_model.specs.declared.settings.Settings.{Settings}
 use Rattle.scene_model.specs.Routing.{solid_of, solids}
 use Rattle.scene_model.specs.Stale.{IsRemoved}
-use Rattle.route_book.proofs.Picks.{past_end}
-use Rattle.route_book.proofs.Solids.{ListsRemoved, lists_more, lists_same, own_solid}
+use Rattle.route_book.proofs.Comparing.Picks.{past_end}
+use Rattle.route_book.proofs.Touching.Solids.{ListsRemoved, lists_more, lists_same, own_solid}
 use Rattle.route_book.proofs.shapes.removed.Goals as goal
 use Rattle.route_book.proofs.shapes.removed.Goals.{in-Some-solid+then-not-has_solid+in_ok-push, in-Some-solid+else-not-has_solid, in_default-solid}
 

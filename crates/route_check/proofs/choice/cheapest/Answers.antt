@@ -3,7 +3,7 @@ use Rattle.std.proofs.Common.{take, subst}
 use Rattle.std.proofs.lemmas.Bool.{iff_false}
 use Rattle.std.proofs.lemmas.List.{take_more, take_all}
 use Rattle.route_check.specs.Choices.{FitsRun, IsCheapestIfAny}
-use Rattle.route_check.proofs.Cheapest.{no_choice, cheapest_skips, cheapest_takes}
+use Rattle.route_check.proofs.Segments.Cheapest.{no_choice, cheapest_skips, cheapest_takes}
 use Rattle.route_check.proofs.choice.cheapest.Goals as goal
 use Rattle.route_check.proofs.choice.cheapest.Goals.{then-fits, else-fits}
 

@@ -8,8 +8,8 @@ use Rattle.walk_model.specs.Legal.{Arrives}
 use Rattle.walk_model.specs.Line.{walk_through}
 use Rattle.walk_model.specs.Walk.{end_of}
 use Rattle.route_check.specs.Choices.{FitsRun, IsCheapestIfAny}
-use Rattle.route_check.proofs.Cheapest.{cheapest_same}
-use Rattle.route_check.proofs.Fitting.{fits_arrives, arrives_fits, end_is_last}
+use Rattle.route_check.proofs.Segments.Cheapest.{cheapest_same}
+use Rattle.route_check.proofs.OneVerdict.Fitting.{fits_arrives, arrives_fits, end_is_last}
 use Rattle.route_check.proofs.choice.end_choice.Goals as goal
 
 pub returns : goal.returns

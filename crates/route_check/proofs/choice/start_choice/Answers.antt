@@ -4,8 +4,8 @@ use Rattle.walk_model.specs.Choice.{IsChoice}
 use Rattle.walk_model.specs.Legal.{Leaves}
 use Rattle.walk_model.specs.Line.{walk_through}
 use Rattle.route_check.specs.Choices.{FitsRun}
-use Rattle.route_check.proofs.Cheapest.{cheapest_same}
-use Rattle.route_check.proofs.Fitting.{fits_leaves, leaves_fits}
+use Rattle.route_check.proofs.Segments.Cheapest.{cheapest_same}
+use Rattle.route_check.proofs.OneVerdict.Fitting.{fits_leaves, leaves_fits}
 use Rattle.route_check.proofs.choice.start_choice.Goals as goal
 
 pub returns : goal.returns

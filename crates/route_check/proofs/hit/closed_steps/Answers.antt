@@ -2,7 +2,7 @@
 use Rattle.std.proofs.Common.{◌≡◌, ◌-◌, ◌⊎◌, ℕ, ap, of_z, w64, ◌∙◌, inl, inr, arith}
 use Rattle.std.proofs.lemmas.Int.{ints}
 use Rattle.walk_model.specs.Choice.{stub_length}
-use Rattle.route_check.proofs.Closed.{closed_is}
+use Rattle.route_check.proofs.Collisions.Closed.{closed_is}
 use Rattle.route_check.proofs.hit.closed_steps.Goals as goal
 use Rattle.route_check.proofs.hit.closed_steps.Goals.{then-node-start, else-node-start}
 

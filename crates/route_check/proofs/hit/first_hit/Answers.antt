@@ -6,7 +6,7 @@ use Rattle.plane_geom.specs.declared.rect.Solid.{Solid}
 use Rattle.walk_model.specs.Line.{steps_through, walk_through}
 use Rattle.route_check.specs.Steps.{IsAmong}
 use Rattle.route_check.specs.Verdict.{MayMeet}
-use Rattle.route_check.proofs.Hits.{no_solid, HitSoFar, hit_sooner, hit_no_sooner, first_hit_of}
+use Rattle.route_check.proofs.Collisions.Hits.{no_solid, HitSoFar, hit_sooner, hit_no_sooner, first_hit_of}
 use Rattle.route_check.proofs.hit.first_hit.Goals as goal
 use Rattle.route_check.proofs.hit.first_hit.Goals.{in-Some, in_default}
 

@@ -3,8 +3,8 @@ use Rattle.std.proofs.Common.{◌↔◌, ℕ, ◌+◌, ◌<◌, arith}
 use Rattle.plane_geom.specs.Point.{distance, forward, heading}
 use Rattle.plane_geom.specs.Rect.{StepMeets}
 use Rattle.route_check.specs.Steps.{IsAmong}
-use Rattle.route_check.proofs.Corners.{corner, at_next}
-use Rattle.route_check.proofs.Meetings.{meets_none_all, meets_none_end, meets_none_more, meets_first}
+use Rattle.route_check.proofs.Segments.Corners.{corner, at_next}
+use Rattle.route_check.proofs.Collisions.Meetings.{meets_none_all, meets_none_end, meets_none_more, meets_first}
 use Rattle.route_check.proofs.hit.first_meeting.Goals as goal
 use Rattle.route_check.proofs.hit.first_meeting.Goals.{After-both-met}
 

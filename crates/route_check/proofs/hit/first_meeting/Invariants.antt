@@ -1,5 +1,5 @@
 -- No step of the segments so far meets the rectangle.
-use Rattle.route_check.proofs.Meetings.{MeetsNoneSoFar}
+use Rattle.route_check.proofs.Collisions.Meetings.{MeetsNoneSoFar}
 use Rattle.route_check.proofs.hit.first_meeting.Given as goal
 
 abbrev pub invariant-loop-i : goal.invariant-loop-i

@@ -1,7 +1,7 @@
 -- Steps count from 0, so what lies behind the point is cut off.
 use Rattle.std.proofs.Common.{FitsSigned, w64, rules}
 use Rattle.std.proofs.lemmas.Int.{to_z-of_z}
-use Rattle.route_check.proofs.Inside.{among_clamped, below}
+use Rattle.route_check.proofs.Collisions.Inside.{among_clamped, below}
 use Rattle.route_check.proofs.hit.steps_between.Goals as goal
 
 pub returns-then-across-high : goal.returns-then-across-high

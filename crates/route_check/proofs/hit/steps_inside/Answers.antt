@@ -1,5 +1,5 @@
 -- In each direction, the sides of the rectangle bound the steps that meet it.
-use Rattle.route_check.proofs.Inside.{ahead_east, ahead_south, ahead_west, ahead_north, from_bits}
+use Rattle.route_check.proofs.Collisions.Inside.{ahead_east, ahead_south, ahead_west, ahead_north, from_bits}
 use Rattle.route_check.proofs.hit.steps_inside.Goals as goal
 
 pub returns-in-East : goal.returns-in-East

@@ -2,8 +2,8 @@
 use Rattle.std.proofs.Common.{sym, ◌∙◌, inl, inr, arith, rules}
 use denote.Enum.Bare.{differs_true, differs_false}
 use Rattle.plane_geom.specs.contracts.point.Dir.{the_type}
-use Rattle.route_check.proofs.Corners.{at_next}
-use Rattle.route_check.proofs.Runs.{first_none, first_same, first_more, first_stop, first_all}
+use Rattle.route_check.proofs.Segments.Corners.{at_next}
+use Rattle.route_check.proofs.Segments.Runs.{first_none, first_same, first_more, first_stop, first_all}
 use Rattle.route_check.proofs.run.first_run.Goals as goal
 use Rattle.route_check.proofs.run.first_run.Goals.{then-length-gt0+else-run-gt0, else-run-gt0-via-then-run-gt0+else-ne, else-run-gt0-via-else-run-gt0, else-length-gt0}
 

@@ -1,5 +1,5 @@
 -- All the segments so far are of the first run.
-use Rattle.route_check.proofs.Runs.{FirstSoFar}
+use Rattle.route_check.proofs.Segments.Runs.{FirstSoFar}
 use Rattle.route_check.proofs.run.first_run.Given as goal
 
 abbrev pub invariant-loop-to : goal.invariant-loop-to

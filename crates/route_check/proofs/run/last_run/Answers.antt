@@ -2,8 +2,8 @@
 use Rattle.std.proofs.Common.{◌+◌, sym, ◌∙◌, arith, rules, zero-add}
 use denote.Enum.Bare.{same_true, same_false}
 use Rattle.plane_geom.specs.contracts.point.Dir.{the_type}
-use Rattle.route_check.proofs.Corners.{at_next}
-use Rattle.route_check.proofs.Runs.{last_none, last_same, last_longer, last_anew, last_all}
+use Rattle.route_check.proofs.Segments.Corners.{at_next}
+use Rattle.route_check.proofs.Segments.Runs.{last_none, last_same, last_longer, last_anew, last_all}
 use Rattle.route_check.proofs.run.last_run.Goals as goal
 use Rattle.route_check.proofs.run.last_run.Goals.{then-length-gt0, then-eq, else-eq, else-length-gt0}
 

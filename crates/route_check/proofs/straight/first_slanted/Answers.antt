@@ -1,7 +1,7 @@
 -- One segment more, which is straight, or the first that is not.
 use Rattle.std.proofs.Common.{ap, of_z, w64, inl, inr, arith}
 use Rattle.std.proofs.lemmas.Int.{ints}
-use Rattle.route_check.proofs.Slants.{straight_none, straight_more, straight_stop, straight_all}
+use Rattle.route_check.proofs.Segments.Slants.{straight_none, straight_more, straight_stop, straight_all}
 use Rattle.route_check.proofs.straight.first_slanted.Goals as goal
 use Rattle.route_check.proofs.straight.first_slanted.Goals.{else-from-to-via-then-from-to+else-from-to-2, else-from-to-via-else-from-to}
 

@@ -1,5 +1,5 @@
 -- The segments so far are straight.
-use Rattle.route_check.proofs.Slants.{StraightSoFar}
+use Rattle.route_check.proofs.Segments.Slants.{StraightSoFar}
 use Rattle.route_check.proofs.straight.first_slanted.Given as goal
 
 abbrev pub invariant-loop-i : goal.invariant-loop-i

@@ -15,9 +15,9 @@ use Rattle.route_check.specs.declared.verdict.Breach.TheVariants.{Slanted, Start
 use Rattle.route_check.specs.Line.{IsLineFrom}
 use Rattle.route_check.specs.Choices.{IsCheapest, IsCheapestIfAny}
 use Rattle.route_check.specs.Verdict.{IsBreach, IsLeastCost, IsVerdict}
-use Rattle.route_check.proofs.Costs.{cost_small}
-use Rattle.route_check.proofs.Judging.{ArrivesWithin, start_off, end_off, hit_first, missed, least}
-use Rattle.route_check.proofs.Verdicts.{legal_without}
+use Rattle.route_check.proofs.Segments.Costs.{cost_small}
+use Rattle.route_check.proofs.OneVerdict.Judging.{ArrivesWithin, start_off, end_off, hit_first, missed, least}
+use Rattle.route_check.proofs.OneVerdict.Verdicts.{legal_without}
 use Rattle.route_check.proofs.verdict.check.Goals as goal
 use Rattle.route_check.proofs.verdict.check.Goals.{In-Some, After-cost_of-steps, In-Some-start_choice, After-end_choice, In-Some-end_choice, In_default-first_slanted, After-passed_between-passed, After-cost_of}
 

@@ -1,7 +1,7 @@
 -- The first walk enters at the least entry; where no entry has a label there is no walk.
 use Rattle.std.proofs.Common.{refl, subst}
 use Rattle.walk_model.specs.Order.{HasNoWalk}
-use Rattle.route_search.proofs.Starting.{first_enters, no_walk}
+use Rattle.route_search.proofs.Ahead.Starting.{first_enters, no_walk}
 use Rattle.route_search.proofs.finder.search.Goals as goal
 
 pub returns-in-None-clause-answer : goal.returns-in-None-clause-answer

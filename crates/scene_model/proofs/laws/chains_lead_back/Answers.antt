@@ -1,5 +1,5 @@
 -- The law `chains_lead_back` holds.
-use Rattle.scene_model.proofs.Chains.{leads_back}
+use Rattle.scene_model.proofs.TakingBack.Chains.{leads_back}
 use Rattle.scene_model.proofs.laws.chains_lead_back.Goals as goal
 
 pub returns : goal.returns

@@ -3,7 +3,7 @@ use Rattle.std.proofs.Common.{sym, ap, ◌∙◌}
 use Rattle.std.specs.Prelude.{option_copied}
 use Rattle.std.proofs.lemmas.List.Elements.{recursion_from_All}
 use Rattle.scene_model.specs.Valid.{IsNode}
-use Rattle.scene_model.proofs.Entries.{found_has}
+use Rattle.scene_model.proofs.Editing.Entries.{found_has}
 use Rattle.scene_store.proofs.routing.choices_at.Goals as goal
 
 pub choices_of_class-requires-clause-node : goal.choices_of_class-requires-clause-node

@@ -5,8 +5,8 @@ use Rattle.std.proofs.lemmas.List.Elements.{recursion_from_All}
 use Rattle.scene_model.specs.declared.edge.Edge.{Edge}
 use Rattle.scene_model.specs.Scene.{Scene, node_with}
 use Rattle.scene_model.specs.Valid.{IsEdge}
-use Rattle.scene_model.proofs.Entries.{found_has}
-use Rattle.scene_model.proofs.EdgeEdits.{found_by}
+use Rattle.scene_model.proofs.Editing.Entries.{found_has}
+use Rattle.scene_model.proofs.Editing.EdgeEdits.{found_by}
 use Rattle.scene_store.proofs.routing.task.Goals as goal
 
 source_there : (s : Scene) (e : Edge) → IsEdge s e → IsSome (node_with s e.from)

@@ -3,7 +3,7 @@ use Rattle.std.proofs.Common.{sym, ap, subst, ◌∙◌}
 use Rattle.scene_model.specs.Edits.{changed}
 use Rattle.scene_model.specs.Inverses.{Fits, restored}
 use Rattle.scene_model.specs.Valid.{IsValid}
-use Rattle.scene_model.proofs.Restoring.{takes_back}
+use Rattle.scene_model.proofs.TakingBack.Restoring.{takes_back}
 use Rattle.scene_tests.proofs.scenes.there_and_back.Goals as goal
 
 pub restore-requires : goal.restore-requires

@@ -9,7 +9,7 @@ use Rattle.scene_model.specs.declared.edge.Edge.{Edge}
 use Rattle.scene_model.specs.Routing.{floor_of, task_of}
 use Rattle.scene_model.specs.Scene.{Scene, edge_with}
 use Rattle.scene_model.specs.Valid.{IsValid}
-use Rattle.scene_model.proofs.Floors.{floors_hold_tasks}
+use Rattle.scene_model.proofs.ForRouting.Floors.{floors_hold_tasks}
 use Rattle.scene_store.proofs.Tasks.{is_connector}
 use Rattle.search_tests.proofs.scenes.found_of.Goals as goal
 

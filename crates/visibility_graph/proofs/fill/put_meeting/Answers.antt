@@ -1,6 +1,6 @@
 -- Two lines that meet are a vertical and a horizontal one, and their crossing is new.
 use Rattle.std.proofs.Common.{sym, ap, ◌∙◌}
-use Rattle.line_arena.proofs.ArenaLaws.{meet_where_across}
+use Rattle.line_arena.proofs.Arenas.ArenaLaws.{meet_where_across}
 use Rattle.visibility_graph.specs.Fill.{pair_along}
 use Rattle.visibility_graph.proofs.Counts.{meets_back}
 use Rattle.visibility_graph.proofs.Lines.{across_of_meets, other_runs}

@@ -1,5 +1,5 @@
 -- The checkpoints lie on the tour.
-use Rattle.walk_laws.proofs.FirstWalks.{checkpoints}
+use Rattle.walk_laws.proofs.OnKeptLines.FirstWalks.{checkpoints}
 use Rattle.walk_laws.proofs.laws.checkpoints_are_crossings.Goals as goal
 
 pub returns : goal.returns

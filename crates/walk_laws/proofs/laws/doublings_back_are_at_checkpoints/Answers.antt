@@ -1,5 +1,5 @@
 -- A leg ends where the tour doubles back.
-use Rattle.walk_laws.proofs.FirstWalks.{doublings_back}
+use Rattle.walk_laws.proofs.OnKeptLines.FirstWalks.{doublings_back}
 use Rattle.walk_laws.proofs.laws.doublings_back_are_at_checkpoints.Goals as goal
 
 pub returns : goal.returns

@@ -1,5 +1,5 @@
 -- Each step of the tour lies in a kept line.
-use Rattle.walk_laws.proofs.FirstWalks.{along}
+use Rattle.walk_laws.proofs.OnKeptLines.FirstWalks.{along}
 use Rattle.walk_laws.proofs.laws.first_walks_go_along_lines.Goals as goal
 
 pub returns : goal.returns

@@ -1,5 +1,5 @@
 -- The names of the lines are the lines.
-use Rattle.walk_laws.proofs.FewRuns.{few_on_all}
+use Rattle.walk_laws.proofs.FewAndSmall.FewRuns.{few_on_all}
 use Rattle.walk_laws.proofs.laws.first_walks_have_few_runs.Goals as goal
 
 pub returns : goal.returns

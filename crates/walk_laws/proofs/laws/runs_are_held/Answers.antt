@@ -1,5 +1,5 @@
 -- A run of the tour lies within a leg, or a leg ends on it.
-use Rattle.walk_laws.proofs.FirstWalks.{runs_held}
+use Rattle.walk_laws.proofs.OnKeptLines.FirstWalks.{runs_held}
 use Rattle.walk_laws.proofs.laws.runs_are_held.Goals as goal
 
 pub returns : goal.returns

@@ -1,6 +1,6 @@
 -- A route has a point more than the walk has runs.
 use Rattle.std.proofs.Common.{arith}
-use Rattle.walk_laws.proofs.SmallWalks.{orthogonal_route, few_in_all, small_cost}
+use Rattle.walk_laws.proofs.FewAndSmall.SmallWalks.{orthogonal_route, few_in_all, small_cost}
 use Rattle.walk_laws.proofs.sizes.first_routes_are_small.Goals as goal
 
 pub returns : goal.returns

@@ -1,5 +1,5 @@
 -- The names of the lines are their last points.
-use Rattle.walk_laws.proofs.SmallWalks.{few_each_way, few_in_all, small_cost}
+use Rattle.walk_laws.proofs.FewAndSmall.SmallWalks.{few_each_way, few_in_all, small_cost}
 use Rattle.walk_laws.proofs.sizes.first_walks_are_small.Goals as goal
 
 pub returns : goal.returns

@@ -1,5 +1,5 @@
 -- The names of the lines are the lines.
-use Rattle.walk_laws.proofs.FewRuns.{few_of_way}
+use Rattle.walk_laws.proofs.FewAndSmall.FewRuns.{few_of_way}
 use Rattle.walk_laws.proofs.sizes.first_walks_have_few_runs_of_a_way.Goals as goal
 
 pub returns : goal.returns

@@ -1,5 +1,5 @@
 -- The points of the tour, by their numbers.
-use Rattle.walk_laws.proofs.OnSheet.{first_on_sheet, point_on_sheet}
+use Rattle.walk_laws.proofs.OnKeptLines.OnSheet.{first_on_sheet, point_on_sheet}
 use Rattle.walk_laws.proofs.sizes.first_walks_stay_on_sheet.Goals as goal
 
 pub returns : goal.returns

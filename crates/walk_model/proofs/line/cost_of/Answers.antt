@@ -1,7 +1,7 @@
 -- The steps and bends so far, with those ahead, are all.
 use Rattle.std.proofs.Common.{◌≡◌, ◌+◌, refl, sym, add-zero, arith}
-use Rattle.walk_model.proofs.Bends.{turn_from}
-use Rattle.walk_model.proofs.Costs.{cost_none, cost_fits, cost_on, cost_stay}
+use Rattle.walk_model.proofs.CornerByCorner.Bends.{turn_from}
+use Rattle.walk_model.proofs.CornerByCorner.Costs.{cost_none, cost_fits, cost_on, cost_stay}
 use Rattle.walk_model.proofs.line.cost_of.Goals as goal
 use Rattle.walk_model.proofs.line.cost_of.Goals.{then-steps-gt0, in-Some-last, in_default-last, else-steps-gt0}
 

@@ -1,6 +1,6 @@
 -- The steps and bends up to a corner.
 use Rattle.walk_model.specs.Line.{steps_of}
-use Rattle.walk_model.proofs.Costs.{CostSoFar}
+use Rattle.walk_model.proofs.CornerByCorner.Costs.{CostSoFar}
 use Rattle.walk_model.proofs.line.cost_of.Given as goal
 
 abbrev pub invariant-loop-next : goal.invariant-loop-next

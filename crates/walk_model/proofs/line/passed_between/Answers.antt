@@ -1,6 +1,6 @@
 -- The most up to a corner, and then the most of the others.
 use Rattle.std.proofs.lemmas.List.{take_rest}
-use Rattle.walk_model.proofs.Segments.{passed_first, passed_on, passed_all}
+use Rattle.walk_model.proofs.Checkpoints.Segments.{passed_first, passed_on, passed_all}
 use Rattle.walk_model.proofs.line.passed_between.Goals as goal
 
 pub loop-next-init : goal.loop-next-init

@@ -1,5 +1,5 @@
 -- The most checkpoints up to a corner.
-use Rattle.walk_model.proofs.Segments.{PassedTo}
+use Rattle.walk_model.proofs.Checkpoints.Segments.{PassedTo}
 use Rattle.walk_model.proofs.line.passed_between.Given as goal
 
 abbrev pub invariant-loop-next : goal.invariant-loop-next

@@ -2,8 +2,8 @@
 use Rattle.std.proofs.Common.{◌≡◌, length, refl, ap, arith}
 use Rattle.std.proofs.lemmas.Bool.Decides.{nat_tests}
 use Rattle.walk_model.specs.Legal.{PassesMost}
-use Rattle.walk_model.proofs.Passing.{most_all, most_range}
-use Rattle.walk_model.proofs.Segments.{draws_steps}
+use Rattle.walk_model.proofs.Checkpoints.Passing.{most_all, most_range}
+use Rattle.walk_model.proofs.Checkpoints.Segments.{draws_steps}
 use Rattle.walk_model.proofs.line.passes.Goals as goal
 
 pub returns-clause-walk : goal.returns-clause-walk

@@ -2,10 +2,10 @@
 use Rattle.std.proofs.Common.{ap, ◌∙◌}
 use Rattle.std.proofs.lemmas.List.{take-replicate}
 use Rattle.walk_model.specs.Walk.{after}
-use Rattle.walk_model.proofs.Bends.{bends-stretch, runs-stretch}
-use Rattle.walk_model.proofs.Lengths.{line_leads}
-use Rattle.walk_model.proofs.Scan.{after-replicate}
-use Rattle.walk_model.proofs.Shapes.{lean-stretch}
+use Rattle.walk_model.proofs.CornerByCorner.Bends.{bends-stretch, runs-stretch}
+use Rattle.walk_model.proofs.CornerByCorner.Lengths.{line_leads}
+use Rattle.walk_model.proofs.CornerByCorner.Scan.{after-replicate}
+use Rattle.walk_model.proofs.CornerByCorner.Shapes.{lean-stretch}
 use Rattle.walk_model.proofs.line.straight_by_steps.Goals as goal
 
 pub returns-clause-end : goal.returns-clause-end

@@ -1,5 +1,5 @@
 -- By induction over the steps.
-use Rattle.walk_model.proofs.Lengths.{steps_apart}
+use Rattle.walk_model.proofs.CornerByCorner.Lengths.{steps_apart}
 use Rattle.walk_model.proofs.line.walks_are_no_shorter.Goals as goal
 
 pub returns : goal.returns

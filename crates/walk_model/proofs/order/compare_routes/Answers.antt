@@ -1,6 +1,6 @@
 -- The keys of the routes are those of their walks.
 use Rattle.std.proofs.Common.{◌∙◌}
-use Rattle.walk_model.proofs.Keys.{keys_of_walks, then_assoc}
+use Rattle.walk_model.proofs.Ranking.Keys.{keys_of_walks, then_assoc}
 use Rattle.walk_model.proofs.order.compare_routes.Goals as goal
 
 pub returns-clause-keys : goal.returns-clause-keys

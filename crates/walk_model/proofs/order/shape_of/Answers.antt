@@ -1,7 +1,7 @@
 -- A segment begins a run, goes on one, or is empty.
 use Rattle.std.proofs.Common.{◌≢◌, Some, IsTrue, rules, w64, FitsSigned}
 use Rattle.std.proofs.lemmas.Int.{to_z-of_z}
-use Rattle.walk_model.proofs.Shapes.{shape_none, shape_on, shape_same, shape_stay}
+use Rattle.walk_model.proofs.CornerByCorner.Shapes.{shape_none, shape_on, shape_same, shape_stay}
 use Rattle.walk_model.proofs.order.shape_of.Goals as goal
 use Rattle.walk_model.proofs.order.shape_of.Goals.{then-distance-gt0+then-not-goes_on, then-distance-gt0+else-not-goes_on, else-distance-gt0}
 

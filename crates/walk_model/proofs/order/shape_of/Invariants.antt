@@ -1,5 +1,5 @@
 -- The runs and the lean up to a corner.
-use Rattle.walk_model.proofs.Shapes.{ShapeSoFar}
+use Rattle.walk_model.proofs.CornerByCorner.Shapes.{ShapeSoFar}
 use Rattle.walk_model.proofs.order.shape_of.Given as goal
 
 abbrev pub invariant-loop-next : goal.invariant-loop-next

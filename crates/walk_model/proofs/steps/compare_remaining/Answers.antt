@@ -1,7 +1,7 @@
 -- Equal steps in front leave the order to the others.
 use Rattle.std.proofs.Common.{◌≡◌, ◌≢◌, ◌∙◌, rules, arith, sym}
 use Rattle.walk_model.specs.Order.{dir_cmp}
-use Rattle.walk_model.proofs.StepOrder.{same_after, fewer_after, slice_cmp-different}
+use Rattle.walk_model.proofs.Ranking.StepOrder.{same_after, fewer_after, slice_cmp-different}
 use Rattle.walk_model.proofs.steps.compare_remaining.Goals as goal
 use Rattle.walk_model.proofs.steps.compare_remaining.Goals.{then-loop-a-test+then-b-gt0+else-eq, then-loop-a-test+else-b-gt0, else-loop-a-test}
 

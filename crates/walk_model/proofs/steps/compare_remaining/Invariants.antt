@@ -1,7 +1,7 @@
 -- The order of what is left is the order of all, and fewer steps are left.
 use Rattle.std.proofs.Common.{length}
 use Rattle.walk_model.specs.RemainingSteps.{remaining_steps}
-use Rattle.walk_model.proofs.StepOrder.{SameOrder}
+use Rattle.walk_model.proofs.Ranking.StepOrder.{SameOrder}
 use Rattle.walk_model.proofs.steps.compare_remaining.Given as goal
 
 abbrev pub invariant-loop-a : goal.invariant-loop-a

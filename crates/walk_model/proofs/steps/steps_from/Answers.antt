@@ -1,5 +1,5 @@
 -- An empty segment gives way to the next one.
-use Rattle.walk_model.proofs.StepLists.{same_next}
+use Rattle.walk_model.proofs.Ranking.StepLists.{same_next}
 use Rattle.walk_model.proofs.steps.steps_from.Goals as goal
 
 pub loop-stretch-preserved : goal.loop-stretch-preserved

@@ -1,6 +1,6 @@
 -- The steps that are left are those of the line, and fewer points are.
 use Rattle.std.proofs.Common.{length}
-use Rattle.walk_model.proofs.StepLists.{Same}
+use Rattle.walk_model.proofs.Ranking.StepLists.{Same}
 use Rattle.walk_model.proofs.steps.steps_from.Given as goal
 
 abbrev pub invariant-loop-stretch : goal.invariant-loop-stretch

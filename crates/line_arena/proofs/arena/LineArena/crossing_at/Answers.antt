@@ -3,8 +3,8 @@ use Rattle.std.proofs.Common.{◌≡◌, ℕ, None, Some, sym, subst}
 use Rattle.std.specs.Prelude.{Contains}
 use Rattle.line_arena.specs.Lists.{Spot, spot_at}
 use Rattle.line_arena.specs.Order.{AreApart}
-use Rattle.line_arena.proofs.ArenaLemmas.{is_arena}
-use Rattle.line_arena.proofs.OrderKept.{apart_in, at_absent, at_found, column_is, none_there}
+use Rattle.line_arena.proofs.Arenas.ArenaLemmas.{is_arena}
+use Rattle.line_arena.proofs.LineOrder.OrderKept.{apart_in, at_absent, at_found, column_is, none_there}
 use Rattle.line_arena.proofs.arena.LineArena.crossing_at.Goals as goal
 use Rattle.line_arena.proofs.arena.LineArena.crossing_at.Goals.{After-crossing_on}
 

@@ -6,8 +6,8 @@ use Rattle.plane_geom.specs.Along.{rising}
 use Rattle.line_arena.specs.Entries.{entry_at}
 use Rattle.line_arena.specs.Node.{start_of}
 use Rattle.line_arena.specs.Lists.{IsNext, Stands, spot_at}
-use Rattle.line_arena.proofs.ArenaLemmas.{first_seen, is_arena, live_line, no_first_seen, rising_way, start_rising}
-use Rattle.line_arena.proofs.Walk.{line_live}
+use Rattle.line_arena.proofs.Arenas.ArenaLemmas.{first_seen, is_arena, live_line, no_first_seen, rising_way, start_rising}
+use Rattle.line_arena.proofs.Linking.Walk.{line_live}
 use Rattle.line_arena.proofs.arena.LineArena.first_on_line.Goals as goal
 
 pub get-requires : goal.get-requires

@@ -1,7 +1,7 @@
 -- A crossing that is there has an entry.
 use Rattle.std.proofs.Common.{◌≢◌, None, sym, subst}
 use Rattle.line_arena.specs.Entries.{entry_at}
-use Rattle.line_arena.proofs.ArenaLemmas.{live_entry}
+use Rattle.line_arena.proofs.Arenas.ArenaLemmas.{live_entry}
 use Rattle.line_arena.proofs.arena.LineArena.index.Goals as goal
 
 pub index-requires : goal.index-requires

@@ -1,8 +1,8 @@
 -- A line is there where it stands among the lines in order, and nowhere else.
 use Rattle.std.proofs.Common.{refl, sym, subst}
 use Rattle.std.specs.Prelude.{Contains}
-use Rattle.line_arena.proofs.ArenaLemmas.{is_arena}
-use Rattle.line_arena.proofs.OrderKept.{line_listed, none_listed}
+use Rattle.line_arena.proofs.Arenas.ArenaLemmas.{is_arena}
+use Rattle.line_arena.proofs.LineOrder.OrderKept.{line_listed, none_listed}
 use Rattle.line_arena.proofs.arena.LineArena.line_at.Goals as goal
 
 pub returns-in_err-id-clause-absent : goal.returns-in_err-id-clause-absent

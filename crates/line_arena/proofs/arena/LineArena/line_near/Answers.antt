@@ -2,8 +2,8 @@
 use Rattle.std.proofs.Common.{sym, subst}
 use Rattle.std.specs.Prelude.{Contains}
 use Rattle.std.proofs.lemmas.Option.{IfSome_then}
-use Rattle.line_arena.proofs.ArenaLemmas.{is_arena}
-use Rattle.line_arena.proofs.OrderKept.{line_listed, none_found, none_listed}
+use Rattle.line_arena.proofs.Arenas.ArenaLemmas.{is_arena}
+use Rattle.line_arena.proofs.LineOrder.OrderKept.{line_listed, none_found, none_listed}
 use Rattle.line_arena.proofs.arena.LineArena.line_near.Goals as goal
 
 pub returns-clause-found : goal.returns-clause-found

@@ -2,7 +2,7 @@
 use Rattle.std.proofs.Common.{◌∙◌, sym, subst}
 use Rattle.std.specs.Prelude.{Contains}
 use Rattle.line_arena.specs.Order.{AreInOrder}
-use Rattle.line_arena.proofs.ArenaLemmas.{line_in}
+use Rattle.line_arena.proofs.Arenas.ArenaLemmas.{line_in}
 use Rattle.line_arena.proofs.arena.LineArena.lines_in_order.Goals as goal
 
 pub returns-clause-ordered : goal.returns-clause-ordered

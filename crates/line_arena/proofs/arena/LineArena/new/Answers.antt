@@ -1,7 +1,7 @@
 -- Without entries there are no lines and no crossings.
 use Rattle.line_arena.specs.View.{pair_of}
-use Rattle.line_arena.proofs.ArenaLaws.{empty_arena}
-use Rattle.line_arena.proofs.Seen.{seen_empty}
+use Rattle.line_arena.proofs.Arenas.ArenaLaws.{empty_arena}
+use Rattle.line_arena.proofs.Arenas.Seen.{seen_empty}
 use Rattle.line_arena.proofs.arena.LineArena.new.Goals as goal
 
 pub returns-clause-lines : goal.returns-clause-lines

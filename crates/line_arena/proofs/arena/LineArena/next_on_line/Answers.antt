@@ -6,7 +6,7 @@ use Rattle.plane_geom.specs.Along.{reach}
 use Rattle.line_arena.specs.Entries.{entry_at}
 use Rattle.line_arena.specs.Node.{next_of}
 use Rattle.line_arena.specs.Lists.{IsNext, Stands, line_along, spot_at, spot_of}
-use Rattle.line_arena.proofs.ArenaLemmas.{is_arena, live_entry, nearest_seen, none_seen}
+use Rattle.line_arena.proofs.Arenas.ArenaLemmas.{is_arena, live_entry, nearest_seen, none_seen}
 use Rattle.line_arena.proofs.arena.LineArena.next_on_line.Goals as goal
 
 pub get-requires : goal.get-requires

@@ -3,7 +3,7 @@ use Rattle.std.proofs.Common.{◌≡◌, ◌≢◌, None, Some, ap, sym, subst}
 use Rattle.std.specs.Option.{option_map}
 use Rattle.line_arena.specs.Entries.{entry_at}
 use Rattle.line_arena.specs.Lists.{spot_of}
-use Rattle.line_arena.proofs.ArenaLemmas.{live_entry, stands_at}
+use Rattle.line_arena.proofs.Arenas.ArenaLemmas.{live_entry, stands_at}
 use Rattle.line_arena.proofs.arena.LineArena.point.Goals as goal
 
 pub get-requires : goal.get-requires

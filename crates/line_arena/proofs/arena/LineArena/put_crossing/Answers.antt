@@ -4,8 +4,8 @@ use Rattle.std.specs.Option.{option_map}
 use Rattle.std.specs.FinMap.{insert}
 use Rattle.line_arena.specs.Arena.{Pair, counted}
 use Rattle.line_arena.specs.View.{arena_of}
-use Rattle.line_arena.proofs.ArenaLemmas.{is_arena, after_put_crossing, met_in, pair_at, pair_in, pair_with}
-use Rattle.line_arena.proofs.OrderKept.{kept_same}
+use Rattle.line_arena.proofs.Arenas.ArenaLemmas.{is_arena, after_put_crossing, met_in, pair_at, pair_in, pair_with}
+use Rattle.line_arena.proofs.LineOrder.OrderKept.{kept_same}
 use Rattle.line_arena.proofs.arena.LineArena.put_crossing.Goals as goal
 
 pub put_crossing-requires-clause-meet : goal.put_crossing-requires-clause-meet

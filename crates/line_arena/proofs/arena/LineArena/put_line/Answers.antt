@@ -4,8 +4,8 @@ use Rattle.slab.specs.Slab.{slab_len}
 use Rattle.std.specs.FinMap.{insert}
 use Rattle.line_arena.specs.Arena.{counted}
 use Rattle.line_arena.specs.View.{arena_of}
-use Rattle.line_arena.proofs.ArenaLemmas.{is_arena, after_put_line, line_in}
-use Rattle.line_arena.proofs.OrderKept.{kept_put, place_of_new}
+use Rattle.line_arena.proofs.Arenas.ArenaLemmas.{is_arena, after_put_line, line_in}
+use Rattle.line_arena.proofs.LineOrder.OrderKept.{kept_put, place_of_new}
 use Rattle.line_arena.proofs.arena.LineArena.put_line.Goals as goal
 
 pub put_line-id-requires-clause-apart : goal.put_line-id-requires-clause-apart

@@ -2,8 +2,8 @@
 use Rattle.std.proofs.Common.{refl, arith, ◌≡◌, ◌∙◌, ◌+◌, sym, subst}
 use Rattle.std.specs.FinMap.{remove}
 use Rattle.line_arena.specs.View.{arena_of}
-use Rattle.line_arena.proofs.ArenaLemmas.{after_remove_crossing, live_spot, none_spot}
-use Rattle.line_arena.proofs.OrderKept.{kept_same}
+use Rattle.line_arena.proofs.Arenas.ArenaLemmas.{after_remove_crossing, live_spot, none_spot}
+use Rattle.line_arena.proofs.LineOrder.OrderKept.{kept_same}
 use Rattle.line_arena.proofs.arena.LineArena.remove_crossing.Goals as goal
 
 pub remove_crossing-requires-clause-live : goal.remove_crossing-requires-clause-live

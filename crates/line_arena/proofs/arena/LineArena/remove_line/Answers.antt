@@ -5,8 +5,8 @@ use Rattle.std.specs.FinMap.{remove}
 use Rattle.line_arena.specs.Entries.{entry_at}
 use Rattle.line_arena.specs.Lists.{line_at}
 use Rattle.line_arena.specs.View.{arena_of}
-use Rattle.line_arena.proofs.ArenaLemmas.{after_remove_line, live_line, none_line, pair_at, pair_with}
-use Rattle.line_arena.proofs.OrderKept.{kept_removed}
+use Rattle.line_arena.proofs.Arenas.ArenaLemmas.{after_remove_line, live_line, none_line, pair_at, pair_with}
+use Rattle.line_arena.proofs.LineOrder.OrderKept.{kept_removed}
 use Rattle.line_arena.proofs.arena.LineArena.remove_line.Goals as goal
 
 pub remove_line-requires-clause-live : goal.remove_line-requires-clause-live

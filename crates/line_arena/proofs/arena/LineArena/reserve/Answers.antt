@@ -3,9 +3,9 @@ use Rattle.std.proofs.Common.{◌≤◌, ◌-◌, ◌∙◌, ap, refl, sym, subs
 use Rattle.slab.specs.Slab.{slab_len}
 use Rattle.line_arena.specs.declared.lists.Lists.{Lists}
 use Rattle.line_arena.specs.View.{pair_of}
-use Rattle.line_arena.proofs.ArenaLemmas.{lists_same}
-use Rattle.line_arena.proofs.OrderKept.{kept_same, same_lines, same_count}
-use Rattle.line_arena.proofs.Seen.{seen_slots}
+use Rattle.line_arena.proofs.Arenas.ArenaLemmas.{lists_same}
+use Rattle.line_arena.proofs.LineOrder.OrderKept.{kept_same, same_lines, same_count}
+use Rattle.line_arena.proofs.Arenas.Seen.{seen_slots}
 use Rattle.line_arena.proofs.arena.LineArena.reserve.Goals as goal
 
 -- where memory is wanting for the order, or for the lines, or for the crossings, or for nothing

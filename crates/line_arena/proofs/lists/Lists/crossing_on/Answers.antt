@@ -4,8 +4,8 @@ use Rattle.std.specs.Option.{option_map}
 use Rattle.plane_geom.specs.Along.{reach}
 use Rattle.line_arena.specs.Entries.{entry_at}
 use Rattle.line_arena.specs.Lists.{IsFirstFrom, Spot, Stands, spot_at, spot_of}
-use Rattle.line_arena.proofs.Linked.{same_spot}
-use Rattle.line_arena.proofs.Walk.{first_down, stands_live}
+use Rattle.line_arena.proofs.Linking.Linked.{same_spot}
+use Rattle.line_arena.proofs.Linking.Walk.{first_down, stands_live}
 use Rattle.line_arena.proofs.lists.Lists.crossing_on.Goals as goal
 
 pub get-requires : goal.get-requires

@@ -3,7 +3,7 @@ use Rattle.std.proofs.Common.{◌≡◌, ◌<◌, ◌∙◌, Some, subst, sym}
 use Rattle.plane_geom.specs.Along.{IsFurther, reach}
 use Rattle.line_arena.specs.Entries.{entry_at}
 use Rattle.line_arena.specs.Lists.{IsFirstFrom, Stands, spot_at}
-use Rattle.line_arena.proofs.Walk.{IsComing, coming_behind, coming_more, coming_next, found, found_none, left_at, left_falls, read_next, stands_live}
+use Rattle.line_arena.proofs.Linking.Walk.{IsComing, coming_behind, coming_more, coming_next, found, found_none, left_at, left_falls, read_next, stands_live}
 use Rattle.line_arena.proofs.lists.Lists.first_from.Goals as goal
 
 pub next-next-requires-clause-from : goal.next-next-requires-clause-from

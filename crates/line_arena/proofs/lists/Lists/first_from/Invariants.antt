@@ -1,5 +1,5 @@
 -- All crossings before the next one stand before the point.
-use Rattle.line_arena.proofs.Walk.{IsComing, left_at}
+use Rattle.line_arena.proofs.Linking.Walk.{IsComing, left_at}
 use Rattle.line_arena.proofs.lists.Lists.first_from.Given as goal
 
 abbrev pub invariant-loop-crossing : goal.invariant-loop-crossing

@@ -2,7 +2,7 @@
 use Rattle.std.proofs.Common.{◌≡◌, ◌∙◌, ℕ, Some, arith, subst, sym}
 use Rattle.line_arena.specs.Entries.{entry_at}
 use Rattle.line_arena.specs.Lists.{IsShortOf, spot_at}
-use Rattle.line_arena.proofs.Walk.{is_short_of}
+use Rattle.line_arena.proofs.Linking.Walk.{is_short_of}
 use Rattle.line_arena.proofs.lists.Lists.is_before.Goals as goal
 
 some_is : (i j : ℕ) → Some i ≡ Some j → i ≡ j

@@ -2,8 +2,8 @@
 use Rattle.std.proofs.Common.{◌∙◌, refl, sym}
 use Rattle.plane_geom.specs.declared.point.Dir.TheVariants.{East, South, West, North}
 use Rattle.line_arena.specs.Lists.{without}
-use Rattle.line_arena.proofs.Kept.{East≢South, East≢West, East≢North, South≢East, South≢West, South≢North, West≢East, West≢South, West≢North, North≢East, North≢South, North≢West, knows_kept, linked_kept}
-use Rattle.line_arena.proofs.Walk.{read_next}
+use Rattle.line_arena.proofs.Linking.Kept.{East≢South, East≢West, East≢North, South≢East, South≢West, South≢North, West≢East, West≢South, West≢North, North≢East, North≢South, North≢West, knows_kept, linked_kept}
+use Rattle.line_arena.proofs.Linking.Walk.{read_next}
 use Rattle.line_arena.proofs.lists.Lists.link_all.Goals as goal
 
 -- the node tells the neighbours

@@ -1,7 +1,7 @@
 -- The crossing follows the one before it, and what followed that one follows the crossing.
 use Rattle.std.proofs.Common.{Some, subst, sym}
 use Rattle.line_arena.specs.Lists.{AreLinked, RunsAlong}
-use Rattle.line_arena.proofs.Joined.{linked_in, own_links_kept, prev_live, relinks_before, spots_are}
+use Rattle.line_arena.proofs.Linking.Joined.{linked_in, own_links_kept, prev_live, relinks_before, spots_are}
 use Rattle.line_arena.proofs.lists.Lists.link_in.Goals as goal
 
 pub set_next-requires-clause-runs : goal.set_next-requires-clause-runs

@@ -4,7 +4,7 @@ use Rattle.std.specs.Option.{option_map}
 use Rattle.std.proofs.lemmas.Int.{to_z-of_z}
 use Rattle.std.specs.Int.RustNames.{FitsSigned}
 use Rattle.line_arena.specs.Lists.{line_at}
-use Rattle.line_arena.proofs.Put.{met_at}
+use Rattle.line_arena.proofs.Linking.Put.{met_at}
 use Rattle.line_arena.proofs.lists.Lists.meeting_point.Goals as goal
 
 pub returns : goal.returns

@@ -1,7 +1,7 @@
 -- A line that runs along a direction runs along the one against it.
 use Rattle.std.proofs.Common.{sym, subst}
 use Rattle.line_arena.specs.Lists.{RunsAlong}
-use Rattle.line_arena.proofs.Walk.{runs_back}
+use Rattle.line_arena.proofs.Linking.Walk.{runs_back}
 use Rattle.line_arena.proofs.lists.Lists.nearer_start.Goals as goal
 
 pub returns-else-starts_nearer : goal.returns-else-starts_nearer

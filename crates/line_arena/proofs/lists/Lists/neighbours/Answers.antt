@@ -3,7 +3,7 @@ use Rattle.std.proofs.Common.{◌∙◌, None, Some, ap, sym, subst}
 use Rattle.plane_geom.specs.Point.{opposite}
 use Rattle.plane_geom.specs.Along.{reach}
 use Rattle.line_arena.specs.Lists.{IsFirstFrom, IsNext, Stands, link, spot_at}
-use Rattle.line_arena.proofs.Walk.{across, free_back, last_back, none_on, opposite-twice, past_from, runs_back, start_live}
+use Rattle.line_arena.proofs.Linking.Walk.{across, free_back, last_back, none_on, opposite-twice, past_from, runs_back, start_live}
 use Rattle.line_arena.proofs.lists.Lists.neighbours.Goals as goal
 use Rattle.line_arena.proofs.lists.Lists.neighbours.Goals.{After-next-back, After-next-on}
 

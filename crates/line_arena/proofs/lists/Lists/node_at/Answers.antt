@@ -4,8 +4,8 @@ use Rattle.plane_geom.specs.Along.{reach}
 use Rattle.plane_geom.specs.declared.point.Dir.TheVariants.{East, South, West, North}
 use Rattle.line_arena.specs.Entries.{entry_at}
 use Rattle.line_arena.specs.Lists.{IsNext, Stands, link, spot_at}
-use Rattle.line_arena.proofs.Put.{spot_runs}
-use Rattle.line_arena.proofs.Walk.{last_back, next_live, none_on, stands_live, start_live}
+use Rattle.line_arena.proofs.Linking.Put.{spot_runs}
+use Rattle.line_arena.proofs.Linking.Walk.{last_back, next_live, none_on, stands_live, start_live}
 use Rattle.line_arena.proofs.lists.Lists.node_at.Goals as goal
 
 -- the line's last crossing is there

@@ -8,8 +8,8 @@ use Rattle.line_arena.specs.declared.lists.Lists.{Lists}
 use Rattle.line_arena.specs.declared.node.Node.{Node}
 use Rattle.line_arena.specs.Node.{next_of}
 use Rattle.line_arena.specs.Lists.{AreLinked, IsNext, IsSound, KnowsNeighbours, Stands, line_at, spot_at, spot_of, without}
-use Rattle.line_arena.proofs.Joined.{line_of-spot}
-use Rattle.line_arena.proofs.Put.{free_at, knows_with, linked_with, new_point, node_spot, sound_same, sound_with}
+use Rattle.line_arena.proofs.Linking.Joined.{line_of-spot}
+use Rattle.line_arena.proofs.Linking.Put.{free_at, knows_with, linked_with, new_point, node_spot, sound_same, sound_with}
 use Rattle.line_arena.proofs.lists.Lists.put_crossing.Goals as goal
 use Rattle.line_arena.proofs.lists.Lists.put_crossing.Goals.{After-insert}
 

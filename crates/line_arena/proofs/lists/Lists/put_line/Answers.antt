@@ -2,7 +2,7 @@
 use Rattle.std.proofs.Common.{None, Some, ap, refl, subst}
 use Rattle.std.specs.Option.{option_map}
 use Rattle.slab.specs.Slab.{Updates}
-use Rattle.line_arena.proofs.Put.{lists_with_line}
+use Rattle.line_arena.proofs.Linking.Put.{lists_with_line}
 use Rattle.line_arena.proofs.lists.Lists.put_line.Goals as goal
 
 pub returns-clause-lists : goal.returns-clause-lists

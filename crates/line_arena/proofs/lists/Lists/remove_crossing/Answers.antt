@@ -2,7 +2,7 @@
 use Rattle.std.proofs.Common.{None, refl, subst}
 use Rattle.slab.specs.Slab.{Updates}
 use Rattle.line_arena.specs.Lists.{spot_at}
-use Rattle.line_arena.proofs.Put.{knows_linked, lists_without, nexts_update, some_of, sound_same, spots_update}
+use Rattle.line_arena.proofs.Linking.Put.{knows_linked, lists_without, nexts_update, some_of, sound_same, spots_update}
 use Rattle.line_arena.proofs.lists.Lists.remove_crossing.Goals as goal
 
 pub unlink_all-requires-clause-knows : goal.unlink_all-requires-clause-knows

@@ -1,7 +1,7 @@
 -- No link leads to or from a line without crossings.
 use Rattle.std.proofs.Common.{None, refl, subst}
 use Rattle.slab.specs.Slab.{Updates}
-use Rattle.line_arena.proofs.Put.{lists_without_line}
+use Rattle.line_arena.proofs.Linking.Put.{lists_without_line}
 use Rattle.line_arena.proofs.lists.Lists.remove_line.Goals as goal
 
 pub returns-clause-lists : goal.returns-clause-lists

@@ -3,7 +3,7 @@ use Rattle.std.proofs.Common.{◌≡◌, ◌∙◌, Some, sym, subst}
 use Rattle.slab.specs.Slab.{Updates}
 use Rattle.line_arena.specs.Entries.{entry_at}
 use Rattle.line_arena.specs.Lists.{Relinks}
-use Rattle.line_arena.proofs.Relinked.{relinks_next, relinks_start}
+use Rattle.line_arena.proofs.Linking.Relinked.{relinks_next, relinks_start}
 use Rattle.line_arena.proofs.lists.Lists.set_next.Goals as goal
 
 pub returns-in-None : goal.returns-in-None

@@ -3,7 +3,7 @@ use Rattle.std.proofs.Common.{◌≢◌, ◌∙◌, None, ap, sym, subst}
 use Rattle.plane_geom.specs.Point.{opposite}
 use Rattle.line_arena.specs.Entries.{entry_at}
 use Rattle.line_arena.specs.Lists.{link}
-use Rattle.line_arena.proofs.Walk.{runs_back, start_live}
+use Rattle.line_arena.proofs.Linking.Walk.{runs_back, start_live}
 use Rattle.line_arena.proofs.lists.Lists.starts_nearer.Goals as goal
 
 -- the last crossing is there

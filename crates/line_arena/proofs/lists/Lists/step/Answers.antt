@@ -1,7 +1,7 @@
 -- What follows a crossing in a direction is there.
 use Rattle.std.proofs.Common.{◌≡◌, Some, subst}
 use Rattle.line_arena.specs.Entries.{entry_at}
-use Rattle.line_arena.proofs.Walk.{step_live}
+use Rattle.line_arena.proofs.Linking.Walk.{step_live}
 use Rattle.line_arena.proofs.lists.Lists.step.Goals as goal
 
 pub returns-in-Some : goal.returns-in-Some

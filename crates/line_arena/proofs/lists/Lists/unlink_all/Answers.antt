@@ -1,7 +1,7 @@
 -- A link that is taken out in one direction changes nothing in the other three.
 use Rattle.plane_geom.specs.declared.point.Dir.TheVariants.{East, South, West, North}
 use Rattle.line_arena.specs.Lists.{without}
-use Rattle.line_arena.proofs.Kept.{East≢South, East≢West, East≢North, South≢East, South≢West, South≢North, West≢East, West≢South, West≢North, North≢East, North≢South, North≢West, knows_kept, linked_kept}
+use Rattle.line_arena.proofs.Linking.Kept.{East≢South, East≢West, East≢North, South≢East, South≢West, South≢North, West≢East, West≢South, West≢North, North≢East, North≢South, North≢West, knows_kept, linked_kept}
 use Rattle.line_arena.proofs.lists.Lists.unlink_all.Goals as goal
 
 pub unlink_in-requires-2-clause-knows : goal.unlink_in-requires-2-clause-knows

@@ -1,7 +1,7 @@
 -- What followed the crossing follows the one before it.
 use Rattle.std.proofs.Common.{subst, sym}
 use Rattle.line_arena.specs.Lists.{AreLinked, without}
-use Rattle.line_arena.proofs.Joined.{linked_out, own_links_kept, own_next_is, own_prev_is, own_relinks, own_runs, prev_live, spots_are}
+use Rattle.line_arena.proofs.Linking.Joined.{linked_out, own_links_kept, own_next_is, own_prev_is, own_relinks, own_runs, prev_live, spots_are}
 use Rattle.line_arena.proofs.lists.Lists.unlink_in.Goals as goal
 
 pub set_next-requires-clause-runs : goal.set_next-requires-clause-runs

@@ -6,7 +6,7 @@ use Rattle.std.proofs.lemmas.List.Sorted.{answers_always}
 use Rattle.walk_model.specs.declared.route.Answer.{Answer}
 use Rattle.scene_model.specs.Stale.{answer_of}
 use Rattle.route_book.specs.Exchange.{AreInOrder}
-use Rattle.route_book.proofs.Ordered.{got, not_got}
+use Rattle.route_book.proofs.Answering.Ordered.{got, not_got}
 use Rattle.route_book.proofs.answers.AnswerList.get.Goals as goal
 
 pub returns-in-Ok : goal.returns-in-Ok

@@ -5,7 +5,7 @@ use Rattle.std.proofs.lemmas.List.{get_or_default, take_all}
 use Rattle.walk_model.specs.declared.route.Answer.{Answer}
 use Rattle.par_route.proofs.Zips.{zip_more}
 use Rattle.route_book.specs.Search.{newer}
-use Rattle.route_book.proofs.Ordered.{in_order, newer_own, zip_edges}
+use Rattle.route_book.proofs.Answering.Ordered.{in_order, newer_own, zip_edges}
 use Rattle.route_book.proofs.answers.AnswerList.merged.Goals as goal
 
 pub loop-number-preserved : goal.loop-number-preserved

@@ -3,8 +3,8 @@ use Rattle.std.proofs.Common.{◌≡◌, ◌<◌, Option, List, length, get_or, 
 use Rattle.std.proofs.lemmas.List.{get_or_default, take_all}
 use Rattle.walk_model.specs.declared.route.Route.{Route}
 use Rattle.walk_model.specs.declared.route.Answer.{Answer}
-use Rattle.route_book.proofs.Ordered.{in_order}
-use Rattle.route_book.proofs.Taken.{read_more, next_same, rest_same}
+use Rattle.route_book.proofs.Answering.Ordered.{in_order}
+use Rattle.route_book.proofs.Answering.Taken.{read_more, next_same, rest_same}
 use Rattle.route_book.proofs.answers.AnswerList.of_routes.Goals as goal
 
 pub loop-place-preserved : goal.loop-place-preserved

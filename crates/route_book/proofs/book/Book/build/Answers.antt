@@ -3,8 +3,8 @@ use Rattle.std.proofs.Common.{ℕ, List, subst, ◌∙◌}
 use Rattle.std.specs.List.{AllZip}
 use Rattle.scene_model.specs.Scene.{connectors}
 use Rattle.route_book.specs.Search.{IsAnswerWith}
-use Rattle.route_book.proofs.Connectors.{connecting}
-use Rattle.route_book.proofs.Searched.{all_answered}
+use Rattle.route_book.proofs.Answering.Connectors.{connecting}
+use Rattle.route_book.proofs.Answering.Searched.{all_answered}
 use Rattle.route_book.proofs.book.Book.build.Goals as goal
 
 pub returns-clause-right : goal.returns-clause-right

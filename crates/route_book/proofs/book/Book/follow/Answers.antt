@@ -5,10 +5,10 @@ use Rattle.std.specs.List.{AllZip}
 use Rattle.walk_model.specs.declared.route.Answer.{Answer}
 use Rattle.scene_model.specs.Scene.{connectors}
 use Rattle.scene_model.specs.Stale.{IsCurrent, IsStale}
-use Rattle.scene_model.proofs.Edges.{number_of}
+use Rattle.scene_model.proofs.Editing.Edges.{number_of}
 use Rattle.route_book.specs.Search.{AreRising, IsAnswerWith, IsConnector, newer}
-use Rattle.route_book.proofs.Connectors.{picked_connectors, picked_rising}
-use Rattle.route_book.proofs.Merged.{all_known, merged_right}
+use Rattle.route_book.proofs.Answering.Connectors.{picked_connectors, picked_rising}
+use Rattle.route_book.proofs.Answering.Merged.{all_known, merged_right}
 use Rattle.route_book.proofs.book.Book.follow.Goals as goal
 
 pub answers-requires-clause-order : goal.answers-requires-clause-order

@@ -4,7 +4,7 @@ use Rattle.std.specs.Prelude.{Any}
 use Rattle.plane_geom.specs.declared.point.Point.{Point}
 use Rattle.plane_geom.specs.declared.rect.Solid.{Solid}
 use Rattle.scene_model.specs.Stale.{IsOpen, LineMeets}
-use Rattle.route_book.proofs.Opened.{none_open, open_some}
+use Rattle.route_book.proofs.Comparing.Opened.{none_open, open_some}
 use Rattle.route_book.proofs.comparison.Comparison.is_open.Goals as goal
 
 pub returns-in-None : goal.returns-in-None

@@ -8,8 +8,8 @@ use Rattle.plane_geom.specs.declared.rect.Solid.{Solid}
 use Rattle.scene_model.specs.Scene.{node_with}
 use Rattle.scene_model.specs.Stale.{IsWithinReach}
 use Rattle.route_book.specs.Reach.{IsBox}
-use Rattle.route_book.proofs.Picks.{none_of}
-use Rattle.route_book.proofs.Reached.{are_parts, near_reached, removed_boxes}
+use Rattle.route_book.proofs.Comparing.Picks.{none_of}
+use Rattle.route_book.proofs.Touching.Reached.{are_parts, near_reached, removed_boxes}
 use Rattle.route_book.proofs.comparison.Comparison.is_reached.Goals as goal
 
 abbrev no_solid : Solid

@@ -7,10 +7,10 @@ use Rattle.std.proofs.lemmas.Option.{none-some}
 use Rattle.scene_model.specs.declared.settings.Settings.{Settings}
 use Rattle.scene_model.specs.Scene.{edge_with}
 use Rattle.scene_model.specs.Stale.{IsCurrent, IsStale, is_open, looks, looks_different}
-use Rattle.scene_model.proofs.Entries.{key_found}
-use Rattle.scene_model.proofs.Edges.{number_of}
-use Rattle.route_book.proofs.Opened.{same_open}
-use Rattle.route_book.proofs.Reuse.{answered_edge, was_answered}
+use Rattle.scene_model.proofs.Editing.Entries.{key_found}
+use Rattle.scene_model.proofs.Editing.Edges.{number_of}
+use Rattle.route_book.proofs.Comparing.Opened.{same_open}
+use Rattle.route_book.proofs.Staying.Reuse.{answered_edge, was_answered}
 use Rattle.route_book.proofs.comparison.Comparison.is_stale.Goals as goal
 
 pub returns-in_default-edge-clause-stale : goal.returns-in_default-edge-clause-stale

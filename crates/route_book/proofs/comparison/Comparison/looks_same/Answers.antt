@@ -3,7 +3,7 @@ use Rattle.std.proofs.Common.{◌≡◌, sym, ap, ◌∙◌, arith, w64, to_z, o
 use Rattle.std.proofs.lemmas.Int.{ints}
 use Rattle.scene_model.specs.declared.settings.Settings.{Settings}
 use Rattle.scene_model.specs.Stale.{shape}
-use Rattle.route_book.proofs.Looks.{looks_by, same_target}
+use Rattle.route_book.proofs.Comparing.Looks.{looks_by, same_target}
 use Rattle.route_book.proofs.comparison.Comparison.looks_same.Goals as goal
 
 pub returns-then-has_same_shape : goal.returns-then-has_same_shape

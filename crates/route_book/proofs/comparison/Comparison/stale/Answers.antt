@@ -8,8 +8,8 @@ use Rattle.std.proofs.lemmas.Option.{slice_get_within}
 use Rattle.scene_model.specs.declared.edge.Edge.{Edge}
 use Rattle.scene_model.specs.Scene.{is_loop}
 use Rattle.scene_model.specs.Stale.{ArePicked, IsCurrent, IsStale}
-use Rattle.route_book.proofs.Connectors.{next_connector, next_loop, pass_more, pick_more}
-use Rattle.route_book.proofs.Picks.{past_end}
+use Rattle.route_book.proofs.Answering.Connectors.{next_connector, next_loop, pass_more, pick_more}
+use Rattle.route_book.proofs.Comparing.Picks.{past_end}
 use Rattle.route_book.proofs.comparison.Comparison.stale.Goals as goal
 use Rattle.route_book.proofs.comparison.Comparison.stale.Goals.{then-edge+then-is_stale+in_ok-push, else-edge, else-edge-via-then-edge+else-is_stale, else-edge-via-else-edge}
 

@@ -2,7 +2,7 @@
 use Rattle.std.proofs.Common.{◌≡◌, arith}
 use Rattle.std.specs.Prelude.{unsigned_abs}
 use Rattle.std.proofs.lemmas.Int.{ints}
-use Rattle.route_book.proofs.Near.{near_within}
+use Rattle.route_book.proofs.Touching.Near.{near_within}
 use Rattle.route_book.proofs.reach.Reach.is_near.Goals as goal
 
 pub returns : goal.returns

@@ -6,7 +6,7 @@ use Rattle.std.proofs.lemmas.List.{get_or_default, take_all}
 use Rattle.std.proofs.lemmas.List.Elements.{All-more}
 use Rattle.scene_model.specs.declared.pin.Pin.{Pin}
 use Rattle.route_book.specs.Reach.{IsNearFrom}
-use Rattle.route_book.proofs.Picks.{none_passing, one_passing}
+use Rattle.route_book.proofs.Comparing.Picks.{none_passing, one_passing}
 use Rattle.route_book.proofs.reach.Reach.is_near_between.Goals as goal
 use Rattle.route_book.proofs.reach.Reach.is_near_between.Goals.{else-start-class-via-then-start-class+else-is_near_from, else-start-class-via-else-start-class}
 

@@ -12,7 +12,7 @@ use Rattle.route_search.specs.Finds.{counted_by}
 use Rattle.par_route.specs.Routes.{MayBeSearched}
 use Rattle.scene_model.specs.Routing.{solids}
 use Rattle.route_book.specs.Search.{IsAnswerWith, IsTaskWith}
-use Rattle.route_book.proofs.Searched.{all_may, answered, both_ok, on_ok, zip_length}
+use Rattle.route_book.proofs.Answering.Searched.{all_may, answered, both_ok, on_ok, zip_length}
 use Rattle.route_book.proofs.search.Searches.answers.Goals as goal
 
 pub route_all-requires-clause-tasks : goal.route_all-requires-clause-tasks

@@ -7,7 +7,7 @@ use Rattle.scene_model.specs.Scene.{edge_with}
 use Rattle.scene_model.specs.Routing.{task_of}
 use Rattle.par_route.proofs.Zips.{zip_more}
 use Rattle.route_book.specs.Search.{IsConnector, IsTaskWith}
-use Rattle.route_book.proofs.Searched.{there_then}
+use Rattle.route_book.proofs.Answering.Searched.{there_then}
 use Rattle.route_book.proofs.search.Searches.tasks.Goals as goal
 
 pub loop-number-preserved : goal.loop-number-preserved

@@ -1,6 +1,6 @@
 -- Entries and labels are small.
 use Rattle.std.proofs.Common.{sym, ◌∙◌}
-use Rattle.route_search.proofs.LeastEntries.{entry_is_place, entry_is_small, found_is_small}
+use Rattle.route_search.proofs.Ahead.LeastEntries.{entry_is_place, entry_is_small, found_is_small}
 use Rattle.route_search.proofs.labels.Labels.better.Goals as goal
 
 pub ahead_of-requires-clause-place : goal.ahead_of-requires-clause-place

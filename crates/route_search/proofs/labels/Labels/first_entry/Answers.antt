@@ -1,7 +1,7 @@
 -- Entry by entry.
 use Rattle.std.proofs.Common.{◌≡◌, ◌<◌, ◌≤◌, List, length, get_or, subst}
 use Rattle.search_labels.specs.declared.ends.Entry.{Entry}
-use Rattle.route_search.proofs.LeastEntries.{least_more, none_found}
+use Rattle.route_search.proofs.Ahead.LeastEntries.{least_more, none_found}
 use Rattle.route_search.proofs.labels.Labels.first_entry.Goals as goal
 
 pub loop-entry-preserved : goal.loop-entry-preserved

@@ -4,15 +4,15 @@ use Rattle.std.specs.Prelude.{slice_get}
 use Rattle.std.proofs.lemmas.Option.{get_or_from_slice_get}
 use Rattle.plane_geom.specs.declared.point.Point.{Point}
 use Rattle.plane_geom.specs.Point.{PointIsOnSheet, forward}
-use Rattle.line_arena.proofs.ArenaLaws.{one_point}
+use Rattle.line_arena.proofs.Arenas.ArenaLaws.{one_point}
 use Rattle.walk_model.specs.declared.task.Choice.{Choice}
 use Rattle.walk_model.specs.Cost.{turn}
 use Rattle.route_search.specs.Following.{IsNext}
-use Rattle.route_search.proofs.Corners.{route_through}
-use Rattle.route_search.proofs.Entering.{cost_is, enters, small_lead}
-use Rattle.route_search.proofs.Following.{IsFollowing, how_on}
-use Rattle.route_search.proofs.Sizes.{crossing_on_sheet}
-use Rattle.route_search.proofs.Stepping.{ends_with, goes_with}
+use Rattle.route_search.proofs.Tracing.Corners.{route_through}
+use Rattle.route_search.proofs.Tracing.Entering.{cost_is, enters, small_lead}
+use Rattle.route_search.proofs.Tracing.Following.{IsFollowing, how_on}
+use Rattle.route_search.proofs.Moving.Sizes.{crossing_on_sheet}
+use Rattle.route_search.proofs.Tracing.Stepping.{ends_with, goes_with}
 use Rattle.route_search.proofs.labels.Labels.follow.Goals as goal
 
 pub unreachable-requires : goal.unreachable-requires

@@ -1,7 +1,7 @@
 -- The first walk has been followed to where it stands, and each step leaves less ahead.
 use Rattle.walk_model.specs.Order.{Triple}
 use Rattle.route_search.specs.Starting.{EntersAt}
-use Rattle.route_search.proofs.Following.{IsFollowing}
+use Rattle.route_search.proofs.Tracing.Following.{IsFollowing}
 use Rattle.route_search.proofs.labels.Labels.follow.Given as goal
 
 abbrev pub invariant-loop-dir : goal.invariant-loop-dir

@@ -5,11 +5,11 @@ use Rattle.plane_geom.specs.Point.{PointIsOnSheet, opposite}
 use Rattle.line_arena.specs.Arena.{IsNearest, LiesFurther}
 use Rattle.move_model.specs.declared.ahead.Stretch.{Stretch}
 use Rattle.move_model.specs.Places.{ComesTo}
-use Rattle.move_model.proofs.Stages.{one_stage}
+use Rattle.move_model.proofs.Moving.Stages.{one_stage}
 use Rattle.route_search.specs.declared.labels.Labels.{Labels}
-use Rattle.route_search.proofs.HandingOn.{Handing, all_handed, handing_more, handing_past, none_behind, way_behind}
+use Rattle.route_search.proofs.Offers.HandingOn.{Handing, all_handed, handing_more, handing_past, none_behind, way_behind}
 use Rattle.search_labels.proofs.Legs.{distance_small}
-use Rattle.route_search.proofs.Sizes.{crossing_on_sheet}
+use Rattle.route_search.proofs.Moving.Sizes.{crossing_on_sheet}
 use Rattle.route_search.proofs.labels.Labels.hand_on.Goals as goal
 use Rattle.route_search.proofs.labels.Labels.hand_on.Goals.{In-Some, After-point-at, After-point-from, After-stage_at, then-stage_at-place+in_ok-offer_all, else-stage_at-place}
 

@@ -1,5 +1,5 @@
 -- What lies ahead of the place has been offered to all stages so far from which a walk comes to it.
-use Rattle.route_search.proofs.HandingOn.{Handing}
+use Rattle.route_search.proofs.Offers.HandingOn.{Handing}
 use Rattle.route_search.proofs.labels.Labels.hand_on.Given as goal
 
 abbrev pub invariant-loop-stage : goal.invariant-loop-stage

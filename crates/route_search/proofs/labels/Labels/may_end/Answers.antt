@@ -1,7 +1,7 @@
 -- The stub of an ending is short, and its port on the sheet.
 use Rattle.std.proofs.Common.{◌≤◌, arith, unsigned_abs}
 use Rattle.plane_geom.specs.Along.{across, way_of}
-use Rattle.route_search.proofs.Sizes.{across_small, small_ending}
+use Rattle.route_search.proofs.Moving.Sizes.{across_small, small_ending}
 use Rattle.route_search.proofs.labels.Labels.may_end.Goals as goal
 
 pub makes-requires-clause-cost : goal.makes-requires-clause-cost

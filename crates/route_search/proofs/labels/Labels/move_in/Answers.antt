@@ -8,9 +8,9 @@ use Rattle.move_model.specs.Ahead.{with_stretch}
 use Rattle.search_labels.specs.Labels.{ahead_in}
 use Rattle.route_search.specs.Labels.{label_at}
 use Rattle.search_labels.proofs.Legs.{distance_small}
-use Rattle.route_search.proofs.Sizes.{across_small, crossing_on_sheet}
-use Rattle.route_search.proofs.Tails.{the_only}
-use Rattle.route_search.proofs.TheMoves.{the_move}
+use Rattle.route_search.proofs.Moving.Sizes.{across_small, crossing_on_sheet}
+use Rattle.route_search.proofs.Tracing.Tails.{the_only}
+use Rattle.route_search.proofs.Moving.TheMoves.{the_move}
 use Rattle.route_search.proofs.labels.Labels.move_in.Goals as goal
 
 pub returns-in_err-crossing-clause-none : goal.returns-in_err-crossing-clause-none

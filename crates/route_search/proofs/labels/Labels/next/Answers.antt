@@ -1,7 +1,7 @@
 -- In order, so that none goes on in an earlier direction.
 use Rattle.plane_geom.specs.declared.point.Dir.{Dir}
 use Rattle.route_search.specs.Following.{IsNoneIn}
-use Rattle.route_search.proofs.Directions.{each, each_before}
+use Rattle.route_search.proofs.Moving.Directions.{each, each_before}
 use Rattle.route_search.proofs.labels.Labels.next.Goals as goal
 
 pub returns-in-Some-clause-is : goal.returns-in-Some-clause-is

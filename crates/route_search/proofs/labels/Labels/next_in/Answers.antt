@@ -1,5 +1,5 @@
 -- What both together say.
-use Rattle.route_search.proofs.Tails.{next_from, none_from}
+use Rattle.route_search.proofs.Tracing.Tails.{next_from, none_from}
 use Rattle.route_search.proofs.labels.Labels.next_in.Goals as goal
 
 pub returns-clause-is : goal.returns-clause-is

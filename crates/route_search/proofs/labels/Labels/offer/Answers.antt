@@ -16,10 +16,10 @@ use Rattle.search_labels.specs.declared.queue.Candidate.{Candidate}
 use Rattle.search_labels.specs.declared.table.Table.{Table}
 use Rattle.route_search.specs.Labels.{IsPlace, IsSmallAhead, bound_at, label_at, label_weight, row_weight}
 use Rattle.route_search.specs.declared.labels.Labels.{Labels}
-use Rattle.route_search.proofs.AheadOrder.{less_than, not_at_most, not_greater}
-use Rattle.route_search.proofs.Offering.{labels_fall, none_closed, opened}
-use Rattle.route_search.proofs.Queues.{All-only}
-use Rattle.route_search.proofs.Weights.{lighter_label, lighter_rows}
+use Rattle.route_search.proofs.Ahead.AheadOrder.{less_than, not_at_most, not_greater}
+use Rattle.route_search.proofs.Offers.Offering.{labels_fall, none_closed, opened}
+use Rattle.route_search.proofs.Offers.Queues.{All-only}
+use Rattle.route_search.proofs.Offers.Weights.{lighter_label, lighter_rows}
 use Rattle.route_search.proofs.labels.Labels.offer.Goals as goal
 
 pub queue_up-requires : goal.queue_up-requires

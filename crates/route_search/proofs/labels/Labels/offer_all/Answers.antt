@@ -4,7 +4,7 @@ use Rattle.plane_geom.specs.declared.point.Dir.{Dir}
 use Rattle.move_model.specs.Ahead.{with_stretch}
 use Rattle.move_model.specs.declared.place.Place.{Place}
 use Rattle.route_search.specs.Labels.{IsOffered}
-use Rattle.route_search.proofs.Falling.{by_heading, falls_both, offered_still, spreads_both}
+use Rattle.route_search.proofs.Offers.Falling.{by_heading, falls_both, offered_still, spreads_both}
 use Rattle.route_search.proofs.labels.Labels.offer_all.Goals as goal
 
 pub offer_behind-requires-2-clause-searching : goal.offer_behind-requires-2-clause-searching

@@ -1,8 +1,8 @@
 -- The label behind a stretch may be offered.
 use Rattle.std.proofs.Common.{subst, sym, arith}
 use Rattle.route_search.specs.Labels.{IsOfferable}
-use Rattle.route_search.proofs.Falling.{offerable}
-use Rattle.route_search.proofs.Sizes.{across_small}
+use Rattle.route_search.proofs.Offers.Falling.{offerable}
+use Rattle.route_search.proofs.Moving.Sizes.{across_small}
 use Rattle.route_search.proofs.labels.Labels.offer_behind.Goals as goal
 
 pub behind-more-requires-clause-lean : goal.behind-more-requires-clause-lean

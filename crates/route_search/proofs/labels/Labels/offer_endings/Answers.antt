@@ -8,9 +8,9 @@ use Rattle.plane_geom.specs.declared.point.Dir.{Dir}
 use Rattle.move_model.specs.Ahead.{nothing, with_stretch}
 use Rattle.search_labels.specs.declared.ends.Ending.{Ending}
 use Rattle.route_search.specs.Labels.{IsOffered, IsStubOffered, IsWayAhead}
-use Rattle.route_search.proofs.Falling.{offered_still}
-use Rattle.route_search.proofs.OfferingStubs.{way_by_stub}
-use Rattle.route_search.proofs.Sizes.{IsSmallEnding, small_ending}
+use Rattle.route_search.proofs.Offers.Falling.{offered_still}
+use Rattle.route_search.proofs.Offers.OfferingStubs.{way_by_stub}
+use Rattle.route_search.proofs.Moving.Sizes.{IsSmallEnding, small_ending}
 use Rattle.route_search.proofs.labels.Labels.offer_endings.Goals as goal
 use Rattle.route_search.proofs.labels.Labels.offer_endings.Goals.{After-ending-item}
 

@@ -1,7 +1,7 @@
 -- The queue has the candidate and what it had before.
 use Rattle.std.proofs.Common.{◌∷◌, heap_items, arith}
 use Rattle.std.proofs.lemmas.List.Sorted.{length_permutation}
-use Rattle.route_search.proofs.Queues.{push_has, push_keeps, push_only}
+use Rattle.route_search.proofs.Offers.Queues.{push_has, push_keeps, push_only}
 use Rattle.route_search.proofs.labels.Labels.queue_up.Goals as goal
 
 pub returns-clause-kept : goal.returns-clause-kept

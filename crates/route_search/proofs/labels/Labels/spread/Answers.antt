@@ -1,8 +1,8 @@
 -- Candidate by candidate, the least bound first.
 use Rattle.std.proofs.Common.{◌+◌, ◌≤◌, rules, arith}
 use Rattle.route_search.specs.Labels.{weight}
-use Rattle.route_search.proofs.Falling.{offered_still, queue_falls, with_queue}
-use Rattle.route_search.proofs.Spreading.{lighter_queue, searching_begins, spread_at_break, spread_at_end, taken_out, taken_place}
+use Rattle.route_search.proofs.Offers.Falling.{offered_still, queue_falls, with_queue}
+use Rattle.route_search.proofs.Offers.Spreading.{lighter_queue, searching_begins, spread_at_break, spread_at_end, taken_out, taken_place}
 use Rattle.route_search.proofs.labels.Labels.spread.Goals as goal
 
 pub offer_endings-requires-clause-searching : goal.offer_endings-requires-clause-searching

@@ -3,7 +3,7 @@ use Rattle.std.proofs.Common.{◌≡◌, ◌+◌, [], ◌∷◌, ◌++◌, rules
 use Rattle.std.proofs.lemmas.List.{take_more}
 use Rattle.search_labels.specs.declared.ends.Ending.{Ending}
 use Rattle.route_search.specs.Following.{IsEarliest, IsTailIn}
-use Rattle.route_search.proofs.Tails.{tails_begin, tails_stay, tails_take}
+use Rattle.route_search.proofs.Tracing.Tails.{tails_begin, tails_stay, tails_take}
 use Rattle.route_search.proofs.labels.Labels.tail_in.Goals as goal
 use Rattle.route_search.proofs.labels.Labels.tail_in.Goals.{then-may_end, else-may_end}
 

@@ -4,9 +4,9 @@ use Rattle.search_labels.specs.Labels.{ahead_in}
 use Rattle.search_labels.specs.declared.label.Label.TheVariants.{Open}
 use Rattle.route_search.specs.declared.labels.Labels.{Labels}
 use Rattle.route_search.specs.Labels.{label_at}
-use Rattle.route_search.proofs.Falling.{falls_both, queue_falls}
-use Rattle.route_search.proofs.Sizes.{crossing_on_sheet}
-use Rattle.route_search.proofs.Taking.{closing, handed_searching, none_open}
+use Rattle.route_search.proofs.Offers.Falling.{falls_both, queue_falls}
+use Rattle.route_search.proofs.Moving.Sizes.{crossing_on_sheet}
+use Rattle.route_search.proofs.Offers.Taking.{closing, handed_searching, none_open}
 use Rattle.route_search.proofs.labels.Labels.take.Goals as goal
 
 pub returns-in_default : goal.returns-in_default

@@ -1,7 +1,7 @@
 -- The box of a node lies on the sheet, before it is grown and after.
 use Rattle.std.proofs.Common.{◌≡◌, arith, w64, to_z, of_z}
 use Rattle.std.proofs.lemmas.Int.{ints}
-use Rattle.scene_model.proofs.Floors.{box_on_sheet, buffered_on_sheet}
+use Rattle.scene_model.proofs.ForRouting.Floors.{box_on_sheet, buffered_on_sheet}
 use Rattle.scene_model.proofs.node.Node.buffered_rect.Goals as goal
 
 pub grow-requires-clause-within : goal.grow-requires-clause-within

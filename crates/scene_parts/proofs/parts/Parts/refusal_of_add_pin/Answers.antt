@@ -1,6 +1,6 @@
 -- The place fits, since a node of a valid scene has few pins.
 use Rattle.std.proofs.Common.{sym, ap, length, arith}
-use Rattle.scene_model.proofs.Nodes.{few_pins}
+use Rattle.scene_model.proofs.Editing.Nodes.{few_pins}
 use Rattle.scene_parts.proofs.parts.Parts.refusal_of_add_pin.Goals as goal
 
 pub overflow_cast-result : goal.overflow_cast-result

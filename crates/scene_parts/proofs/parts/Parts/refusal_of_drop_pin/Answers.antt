@@ -3,7 +3,7 @@ use Rattle.std.proofs.Common.{◌-◌, ◌<◌, refl, sym, ap, ◌∙◌, to_z-o
 use Rattle.std.proofs.lemmas.Option.{slice_get_read}
 use Rattle.scene_model.specs.Scene.{node_with}
 use Rattle.scene_model.specs.Edits.{is_no_place}
-use Rattle.scene_model.proofs.Refusals.{place_within}
+use Rattle.scene_model.proofs.Editing.Refusals.{place_within}
 use Rattle.scene_parts.proofs.Refused.{dropped}
 use Rattle.scene_parts.proofs.parts.Parts.refusal_of_drop_pin.Goals as goal
 

@@ -2,7 +2,7 @@
 use Rattle.std.proofs.Common.{sym, ap, subst, ◌∙◌, refl}
 use Rattle.scene_model.specs.Valid.{IsValid}
 use Rattle.scene_model.specs.Edits.{refusal, changed}
-use Rattle.scene_model.proofs.Validity.{keeps_valid}
+use Rattle.scene_model.proofs.Editing.Validity.{keeps_valid}
 use Rattle.scene_store.proofs.Memory.{calm_edit, refused}
 use Rattle.scene_store.proofs.scene.Scene.edit.Goals as goal
 use Rattle.scene_store.proofs.scene.Scene.edit.Goals.{in-Ok, in-Err}

@@ -3,7 +3,7 @@ use Rattle.std.proofs.Common.{sym, ap, subst, ◌∙◌, refl}
 use Rattle.scene_model.specs.Scene.{Scene}
 use Rattle.scene_model.specs.Valid.{IsValid}
 use Rattle.scene_model.specs.Loads.{edge_refusal, with_edge, IsLoadableEdge}
-use Rattle.scene_model.proofs.Loads.{loads_keep_valid}
+use Rattle.scene_model.proofs.Editing.Loads.{loads_keep_valid}
 use Rattle.scene_store.proofs.Memory.{calm_load_edge, refused}
 use Rattle.scene_store.proofs.scene.Scene.load_edge.Goals as goal
 use Rattle.scene_store.proofs.scene.Scene.load_edge.Goals.{in-Ok, in-Err}

@@ -2,7 +2,7 @@
 use Rattle.std.proofs.Common.{sym, ap, subst, ◌∙◌, refl}
 use Rattle.scene_model.specs.Valid.{IsValid}
 use Rattle.scene_model.specs.Loads.{node_refusal, with_node}
-use Rattle.scene_model.proofs.Loads.{loads_keep_valid}
+use Rattle.scene_model.proofs.Editing.Loads.{loads_keep_valid}
 use Rattle.scene_store.proofs.Memory.{calm_load_node, refused}
 use Rattle.scene_store.proofs.scene.Scene.load_node.Goals as goal
 use Rattle.scene_store.proofs.scene.Scene.load_node.Goals.{in-Ok, in-Err}

@@ -1,6 +1,6 @@
 -- An empty stretch gives way to the next segment.
 use Rattle.std.proofs.Common.{◌∙◌, sym}
-use Rattle.walk_model.proofs.StepLists.{drop-stretch}
+use Rattle.walk_model.proofs.Ranking.StepLists.{drop-stretch}
 use Rattle.walk_model.proofs.steps.RemainingSteps.after.Goals as goal
 
 pub returns-clause-left : goal.returns-clause-left

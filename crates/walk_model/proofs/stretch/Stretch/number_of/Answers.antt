@@ -2,7 +2,7 @@
 use Rattle.std.proofs.Common.{◌≡◌, ◌↔◌, max, ◌-ℤ◌, unsigned_abs, IsTrue, arith, rules}
 use Rattle.plane_geom.specs.Point.{forward}
 use Rattle.plane_geom.proofs.Signed.{coordinate_fits, signed}
-use Rattle.walk_model.proofs.Stretches.{between_on_sheet, number_answer, place_of_point}
+use Rattle.walk_model.proofs.Checkpoints.Stretches.{between_on_sheet, number_answer, place_of_point}
 use Rattle.walk_model.proofs.stretch.Stretch.number_of.Goals as goal
 
 pub forward-there-requires-clause-ends_within : goal.forward-there-requires-clause-ends_within

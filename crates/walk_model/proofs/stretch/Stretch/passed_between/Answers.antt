@@ -1,6 +1,6 @@
 -- Each checkpoint is taken at its number, or none of those left is.
 use Rattle.std.proofs.Common.{◌≡◌, Some, sym, ◌∙◌, arith}
-use Rattle.walk_model.proofs.Along.{so_far_more, so_far_stop}
+use Rattle.walk_model.proofs.Checkpoints.Along.{so_far_more, so_far_stop}
 use Rattle.walk_model.proofs.stretch.Stretch.passed_between.Goals as goal
 
 pub returns-in_default-clause-most : goal.returns-in_default-clause-most

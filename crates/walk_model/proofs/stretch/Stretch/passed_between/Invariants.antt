@@ -1,5 +1,5 @@
 -- The checkpoints passed so far.
-use Rattle.walk_model.proofs.Along.{PassedSoFar}
+use Rattle.walk_model.proofs.Checkpoints.Along.{PassedSoFar}
 use Rattle.walk_model.proofs.stretch.Stretch.passed_between.Given as goal
 
 abbrev pub invariant-loop-passed : goal.invariant-loop-passed

@@ -1,0 +1,3 @@
+-- The lines of an arena in order.
+pub mod InOrder
+pub mod OrderKept

@@ -1,0 +1,5 @@
+-- Two scenes compared.
+pub mod Opened
+pub mod Picks
+pub mod Same
+pub mod Looks

@@ -1,0 +1,4 @@
+-- What routing sees of a scene.
+pub mod OneList
+pub mod Floors
+pub mod Fresh
