@@ -11,7 +11,8 @@ use Rattle.plane_geom.proofs.Pieces.{longest_apart}
 use Rattle.line_arena.specs.Arena.{Arena, IsArena}
 use Rattle.line_arena.specs.Stands.{HasLine, StandsFor}
 use Rattle.visibility_graph.specs.Drawing.{Drawing}
-use Rattle.visibility_graph.specs.Meeting.{coming, counted_by, meets, pairs_by}
+use Rattle.visibility_graph.specs.Meeting.{coming, meets, pairs_by}
+use Rattle.line_arena.specs.Count.{counted_by}
 use Rattle.visibility_graph.specs.Fill.{AreLines, ArePut, CanPut}
 use Rattle.graph_repair.specs.Change.{AreAlone, AreShared, Change, IsWriteCount, LeadsFrom}
 use Rattle.graph_repair.specs.Take.{AreTaken}

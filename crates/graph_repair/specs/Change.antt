@@ -6,7 +6,8 @@ use Rattle.plane_geom.specs.declared.floor.Floor.{Floor}
 use Rattle.plane_geom.specs.Floor.{IsKept}
 use Rattle.sweep_lines.specs.Kept.{AreOrdered}
 use Rattle.visibility_graph.specs.Drawing.{Drawing}
-use Rattle.visibility_graph.specs.Meeting.{coming, counted_by, meets, pairs_by}
+use Rattle.visibility_graph.specs.Meeting.{coming, meets, pairs_by}
+use Rattle.line_arena.specs.Count.{counted_by}
 
 -- the floor for which the graph does not stand; the kept lines of both floors, those of the graph's floor alone,
 -- and those of the other floor alone; and whether the repair was applied

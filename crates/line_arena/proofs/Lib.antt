@@ -1,4 +1,5 @@
 -- The lemmas on crossings in two lists, callees first.
+pub mod Counting
 pub mod Linking
 pub mod Arenas
 pub mod LineOrder

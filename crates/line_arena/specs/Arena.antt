@@ -1,5 +1,5 @@
 -- What an arena is seen as, and what its calls answer.
-use Rattle.std.specs.Prelude.{◌≡◌, ℕ, ◌+◌, ◌⊎◌, ◌≤ℤ◌, min, Some, refl, Bool, true, false, ℤ}
+use Rattle.std.specs.Prelude.{◌≡◌, ℕ, ◌⊎◌, ◌≤ℤ◌, Some, refl, Bool, true, false, ℤ}
 use Rattle.std.specs.Coded.{Coded, code_by, coded×, coded_ℕ, coded_ℤ, coded_bool}
 use Rattle.std.specs.Ordering.{nat_cmp}
 use Rattle.std.specs.FinMap.{FinMap, get, code}
@@ -61,10 +61,6 @@ arena_code =
     (λ a. (a.lines, (a.crossings, (a.spare_lines, (a.spare_crossings, (a.places, a.written))))))
     (λ p. record { lines = p.0; crossings = p.1.0; spare_lines = p.1.1.0; spare_crossings = p.1.1.1.0; places = p.1.1.1.1.0; written = p.1.1.1.1.1 })
     (λ _. refl)
-
--- one more, where a counter does not stand at its last value
-abbrev pub counted : ℕ → ℕ
-counted n = min (n + 1) 18446744073709551615
 
 -- the line of the pair along which one travels in the direction
 abbrev pub line_along : Dir → Pair → ℕ

@@ -1,4 +1,5 @@
 -- What an arena is seen as, beside the lists and maps that it is.
+pub mod Count
 pub mod Link
 pub mod Entries
 pub mod Node

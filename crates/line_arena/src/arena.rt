@@ -1,8 +1,9 @@
 //! The arena: lines and crossings under ids, linked along their lines.
-ghost use Rattle.std.specs.Prelude.{◌≡◌, ◌+◌, ◌-◌, ◌<◌, ◌≤◌, ◌↔◌, ◌≤ℤ◌, ℕ, None, Some, Contains, IsNone, IsSome, IfSome, OnOk};
+ghost use Rattle.std.specs.Prelude.{◌≡◌, ◌+◌, ◌-◌, ◌^◌, ◌<◌, ◌≤◌, ◌↔◌, ◌≤ℤ◌, ℕ, None, Some, Contains, IsNone, IsSome, IfSome, OnOk};
 ghost use Rattle.std.specs.FinMap as map;
 ghost use Rattle.plane_geom.specs.declared.floor.Line.{Line};
-ghost use Rattle.line_arena.specs.Arena.{IsApart, IsArena, IsFirst, IsNearest, IsOn, LiesFurther, Meet, StandsAt, counted};
+ghost use Rattle.line_arena.specs.Arena.{IsApart, IsArena, IsFirst, IsNearest, IsOn, LiesFurther, Meet, StandsAt};
+ghost use Rattle.line_arena.specs.Count.{counted_by};
 ghost use Rattle.line_arena.specs.Order.{AreInOrder};
 
 use crate::entries::Entries;
@@ -65,9 +66,11 @@ impl LineArena {
 
     /// What holds of every arena, for proofs. Does nothing.
     pub fn laws(&self)
-        ensures { IsArena self.now }
+        ensures arena { IsArena self.now }
+        ensures written { self.now.written < 2 ^ 64 }
     {
         let _ = &self.lists;
+        let _written = self.written;
     }
 
     /// Makes room for so many more lines and crossings, so that as many puts take no memory.
@@ -102,7 +105,7 @@ impl LineArena {
         ensures after { self.new ≡ record self.old {
           lines = map.insert self.old.lines result line;
           spare_lines = self.old.spare_lines - 1;
-          written = counted self.old.written;
+          written = counted_by 1 self.old.written;
         } }
         ensures arena { IsArena self.new }
     {
@@ -124,7 +127,7 @@ impl LineArena {
         ensures after { self.new ≡ record self.old {
           crossings = map.insert self.old.crossings result (record { vertical = vertical; horizontal = horizontal });
           spare_crossings = self.old.spare_crossings - 1;
-          written = counted self.old.written;
+          written = counted_by 1 self.old.written;
         } }
         ensures arena { IsArena self.new }
     {

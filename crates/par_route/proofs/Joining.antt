@@ -8,7 +8,7 @@ use Rattle.std.proofs.lemmas.List.Sums.{sum_by-cons}
 use Rattle.std.specs.declared.alloc.AllocError.{AllocError}
 use Rattle.plane_geom.specs.declared.rect.Solid.{Solid}
 use Rattle.walk_model.specs.Answers.{IsAnswer}
-use Rattle.route_search.specs.Finds.{counted_by}
+use Rattle.line_arena.specs.Count.{counted_by}
 use Rattle.par_route.specs.declared.pieces.Piece.{Piece}
 use Rattle.par_route.specs.declared.pieces.Searched.{Searched}
 use Rattle.par_route.specs.Pieces.{IsSearched, all_tasks, answers_in, searches_in}
@@ -18,9 +18,6 @@ use Rattle.par_route.proofs.Zips.{zip_append}
 -- what a piece gave, where memory sufficed, is right
 abbrev pub Fits : List Solid → Piece → Result Searched AllocError → Type 0
 Fits solids piece r = IfOk r (IsSearched solids piece)
-
-pub counted_more : (a b n : ℕ) → counted_by b (counted_by a n) ≡ counted_by (a + b) n
-counted_more a b n = omega arith
 
 -- a part that was counted up to the last value adds as much
 pub counted_part : (a n : ℕ) → counted_by (counted_by a 0) n ≡ counted_by a n

@@ -5,7 +5,7 @@ use Rattle.std.specs.declared.alloc.AllocError.{AllocError}
 use Rattle.plane_geom.specs.declared.rect.Solid.{Solid}
 use Rattle.walk_model.specs.declared.task.Task.{Task}
 use Rattle.walk_model.specs.declared.route.Route.{Route}
-use Rattle.route_search.specs.Finds.{counted_by}
+use Rattle.line_arena.specs.Count.{counted_by}
 use Rattle.par_route.specs.declared.pieces.Piece.{Piece}
 use Rattle.par_route.specs.declared.pieces.Searched.{Searched}
 use Rattle.par_route.specs.Routes.{AreAnswers}

@@ -1,7 +1,7 @@
 //! Pieces of the tasks, each of which is searched in one go.
 ghost use Rattle.std.specs.Prelude.{◌≡◌, ◌<◌, ◌≤◌, All, IfOk, OnErr, OnOk, IsOk, length, min};
 ghost use Rattle.std.specs.List.{flat_map, sum_by};
-ghost use Rattle.route_search.specs.Finds.{counted_by};
+ghost use Rattle.line_arena.specs.Count.{counted_by};
 ghost use Rattle.par_route.specs.Pieces.{AreCut, IsSearched, answers_in, piece_length, searches_in};
 ghost use Rattle.par_route.specs.Routes.{MayBeSearched};
 

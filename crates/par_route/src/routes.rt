@@ -1,6 +1,6 @@
 //! The answers of many tasks, by searches side by side.
 ghost use Rattle.std.specs.Prelude.{◌≡◌, ◌≤◌, All, IfOk, OnErr, OnOk, length};
-ghost use Rattle.route_search.specs.Finds.{counted_by};
+ghost use Rattle.line_arena.specs.Count.{counted_by};
 ghost use Rattle.par_route.specs.Pieces.{IsSearched};
 ghost use Rattle.par_route.specs.Routes.{AreAnswers, HaveOneList, MayBeSearched};
 

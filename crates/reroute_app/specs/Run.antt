@@ -11,7 +11,7 @@ use Rattle.reroute_app.specs.declared.status.Status.{Status}
 use Rattle.reroute_app.specs.declared.status.Status.TheVariants.{Words}
 use Rattle.command_words.specs.Words.{Form, check, route, make, form_of}
 use Rattle.edit_script.specs.Script.{commands}
-use Rattle.route_search.specs.Finds.{counted_by}
+use Rattle.line_arena.specs.Count.{counted_by}
 use Rattle.reroute_app.specs.Outcome.{Outcome, Course, Ends, EndsWith, unsearched}
 use Rattle.reroute_app.specs.Reads.{HasRead, ReadsFile}
 use Rattle.reroute_app.specs.Diagram.{most_bytes, IsDiagram, ReadsDiagram}

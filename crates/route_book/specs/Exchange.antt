@@ -1,7 +1,7 @@
 -- What the changes of a book are seen as, and what searches they count.
 use Rattle.std.specs.Prelude.{◌≡◌, ℕ, ◌<◌, List, length, AllPairs}
 use Rattle.walk_model.specs.declared.route.Answer.{Answer}
-use Rattle.route_search.specs.Finds.{counted_by}
+use Rattle.line_arena.specs.Count.{counted_by}
 use Rattle.scene_model.specs.Scene.{Scene}
 use Rattle.scene_model.specs.Stale.{AreStale}
 

@@ -1,6 +1,6 @@
 //! The saved answers of a scene, and their change with the scene.
 ghost use Rattle.std.specs.Prelude.{◌≡◌, ◌≤◌, IfOk, OnOk, length, option_copied};
-ghost use Rattle.route_search.specs.Finds.{counted_by};
+ghost use Rattle.line_arena.specs.Count.{counted_by};
 ghost use Rattle.route_book.specs.Exchange.{CountsStale, turned};
 ghost use Rattle.scene_model.specs.Answers.{AreAnswers};
 ghost use Rattle.scene_model.specs.Routing.{floor_of};

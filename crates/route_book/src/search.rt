@@ -1,7 +1,7 @@
 //! Searches for the connectors of a scene.
 ghost use Rattle.std.specs.Prelude.{◌≡◌, ◌≤◌, All, IfOk, OnOk, length, map};
 ghost use Rattle.std.specs.List.{AllZip};
-ghost use Rattle.route_search.specs.Finds.{counted_by};
+ghost use Rattle.line_arena.specs.Count.{counted_by};
 ghost use Rattle.route_book.specs.Search.{AreRising, IsAnswerWith, IsConnector, IsTaskWith};
 ghost use Rattle.scene_model.specs.Routing.{floor_of};
 ghost use Rattle.scene_model.specs.Scene.{connectors};

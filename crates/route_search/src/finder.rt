@@ -5,7 +5,7 @@ ghost use Rattle.move_model.specs.Problems.{IsProblem};
 ghost use Rattle.plane_geom.specs.declared.floor.Floor.{Floor};
 ghost use Rattle.search_labels.specs.Tables.{IsMarked};
 ghost use Rattle.walk_model.specs.Answers.{IsAnswer};
-ghost use Rattle.route_search.specs.Finds.{counted_by};
+ghost use Rattle.line_arena.specs.Count.{counted_by};
 ghost use Rattle.route_search.specs.Labels.{AreNone};
 
 use crate::labels::Labels;

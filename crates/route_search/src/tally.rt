@@ -1,6 +1,6 @@
 //! How many searches were made.
 ghost use Rattle.std.specs.Prelude.{◌≡◌};
-ghost use Rattle.route_search.specs.Finds.{counted_by};
+ghost use Rattle.line_arena.specs.Count.{counted_by};
 
 use std::marker::Model;
 

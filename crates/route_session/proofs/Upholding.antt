@@ -1,15 +1,13 @@
 -- What a session upholds through its calls.
-use Rattle.std.proofs.Common.{◌≡◌, ℕ, zero, suc, ◌≤◌, Bool, true, false, not, List, [], ◌∷◌, length, take, drop, slice_get, Option, None, Some, Ok, Err, Result, refl, sym, ap, subst, arith}
+use Rattle.std.proofs.Common.{◌≡◌, ℕ, ◌≤◌, Bool, true, false, not, List, [], ◌∷◌, length, take, drop, slice_get, Option, None, Some, Ok, Err, Result, refl, sym, ap, subst, arith}
 use Rattle.std.proofs.lemmas.List.Filters.{length-filter_both}
 use Rattle.std.specs.Prelude.{IsOk, OnErr, is_err, is_ok, is_some, option_map}
 use Rattle.plane_geom.specs.declared.floor.Floor.{Floor}
 use Rattle.plane_geom.specs.Floor.{IsFloor}
 use Rattle.walk_model.specs.declared.route.Answer.{Answer}
 use Rattle.visibility_graph.specs.Drawing.{Drawing}
-use Rattle.visibility_graph.specs.Meeting.{counted_by as written_by}
-use Rattle.line_arena.specs.Arena.{counted}
 use Rattle.graph_repair.specs.Change.{CountsWrites, IsWriteCount}
-use Rattle.route_search.specs.Finds.{counted_by}
+use Rattle.line_arena.specs.Count.{counted_by}
 use Rattle.scene_model.specs.declared.edit.Command.TheVariants as commands
 use Rattle.scene_model.specs.declared.fault.SessionFault.TheVariants as faults
 use Rattle.scene_model.specs.Scene.{Scene, connectors, is_loop}
@@ -181,11 +179,6 @@ pub few_counted : (s : Scene) → IsValid s → counted_by (length (connectors s
 few_counted s valid =
     let most : length (connectors s) ≤ length s.edges = omega (arith, length-filter_both (λ e. not (is_loop e)) is_loop (λ e. twice_not (is_loop e)) s.edges) in
     few_counted_by (length (connectors s)) (omega (arith, valid.few_edges, most))
-
--- counts follow one another
-pub written_again : (m n before : ℕ) → (k : ℕ) × (written_by m (written_by n before) ≡ written_by k before)
-written_again zero n before = (n, refl)
-written_again (suc m) n before = let rest = written_again m n before in (suc rest.0, ap counted rest.1)
 
 -- a fact of each error
 pub on_error : {T E P : Type 0} (r : Result T E) → P → OnErr r P

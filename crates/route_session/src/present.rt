@@ -3,10 +3,9 @@ ghost use Rattle.std.specs.Prelude.{◌≡◌, ◌≤◌, ℕ, true, IfOk, OnErr
 ghost use Rattle.plane_geom.specs.Floor.{IsFloor};
 ghost use Rattle.graph_repair.specs.Change.{CountsWrites, LeadsFrom};
 ghost use Rattle.route_book.specs.Exchange.{CountsStale, turned};
-ghost use Rattle.route_search.specs.Finds.{counted_by};
+ghost use Rattle.line_arena.specs.Count.{counted_by};
 ghost use Rattle.scene_model.specs.Answers.{AreAnswers};
 ghost use Rattle.scene_model.specs.Routing.{floor_of};
-ghost use Rattle.visibility_graph.specs.Meeting.{counted_by as written_by};
 
 use graph_repair::{Repair, apply, plan, revert};
 use par_route::Gate;
@@ -71,11 +70,12 @@ impl Present {
         ensures written { OnOk result (CountsWrites self.old.graph.floor self.new.graph.floor self.old.graph.arena.written self.new.graph.arena.written) }
         ensures tally { OnOk result (CountsStale self.old.scene self.old.book other.now self.old.tally self.new.tally) }
         ensures err_floor { OnErr result (self.new.graph.floor ≡ self.old.graph.floor) }
-        ensures err_written { OnErr result ((n : ℕ) × (self.new.graph.arena.written ≡ written_by n self.old.graph.arena.written)) }
+        ensures err_written { OnErr result ((n : ℕ) × (self.new.graph.arena.written ≡ counted_by n self.old.graph.arena.written)) }
         ensures err_tally { OnErr result ((n : ℕ) × (self.new.tally ≡ counted_by n self.old.tally)) }
     {
-        // That the count is within its limit is known from here.
+        // That both counts are within their limit is known from here.
         let _count = self.tally.count();
+        self.graph.arena().laws();
         let mut repair = self.repair(other)?;
         let mut searches = self.tally.split();
         let found = self.book.follow(

@@ -8,7 +8,7 @@ ghost use Rattle.nudge_laws.specs.Apart.{KeepsApart};
 ghost use Rattle.nudge_phases.specs.Nudged.{AreLegalNudgedLines, IsNudgedScene};
 ghost use Rattle.nudge_phases.specs.Raw.{routed};
 ghost use Rattle.route_book.specs.Exchange.{CountsStale};
-ghost use Rattle.route_search.specs.Finds.{counted_by};
+ghost use Rattle.line_arena.specs.Count.{counted_by};
 ghost use Rattle.session_laws.specs.Calls.{IsFaultOf};
 ghost use Rattle.route_session.specs.Upheld.{turned_step};
 ghost use Rattle.scene_model.specs.Answers.{AreAnswers};
@@ -20,7 +20,6 @@ ghost use Rattle.scene_model.specs.declared.edit.Command.TheVariants as commands
 ghost use Rattle.scene_model.specs.declared.fault.SceneFault.TheVariants as scene_faults;
 ghost use Rattle.scene_model.specs.declared.fault.SessionFault.TheVariants as faults;
 ghost use Rattle.undo_log.specs.Lending.{gone_back, gone_forth};
-ghost use Rattle.visibility_graph.specs.Meeting.{counted_by as written_by};
 
 use crate::present::Present;
 use crate::scenes::{edits, inverses, scene_after, scene_before};
@@ -173,7 +172,7 @@ impl Session {
         ensures refused_searched { IsErrOf result faults.NoTransaction → self.new.searched ≡ self.old.searched }
         ensures refused_written { IsErrOf result faults.NoTransaction → self.new.written ≡ self.old.written }
         ensures memory_searched { IsErrOf result faults.Memory → (n : ℕ) × (self.new.searched ≡ counted_by n self.old.searched) }
-        ensures memory_written { IsErrOf result faults.Memory → (n : ℕ) × (self.new.written ≡ written_by n self.old.written) }
+        ensures memory_written { IsErrOf result faults.Memory → (n : ℕ) × (self.new.written ≡ counted_by n self.old.written) }
     {
         let Some(txn) = self.txn.take() else {
             return Err(SessionFault::NoTransaction);

@@ -16,7 +16,7 @@ use Rattle.scene_model.specs.World.{World, refused, given_up, step, taken, or_gi
 use Rattle.report_text.specs.declared.refusal.Refusal.TheVariants as told
 use Rattle.report_text.specs.declared.reply.Reply.{Reply}
 use Rattle.report_text.specs.declared.reply.Reply.TheVariants.{Searched, Refused}
-use Rattle.route_search.specs.Finds.{counted_by}
+use Rattle.line_arena.specs.Count.{counted_by}
 use Rattle.session_laws.specs.State.{State}
 use Rattle.session_laws.specs.Calls.{IsFaultOf}
 use Rattle.script_replay.specs.Replies.{IsReplyOf}

@@ -1,5 +1,5 @@
 -- A line comes to have its crossings, one by one.
-use Rattle.std.proofs.Common.{◌≡◌, ◌⊎◌, inl, inr, ℕ, zero, suc, ◌+◌, ◌-◌, ◌<◌, ◌≤◌, min, Bool, true, false, cond, List, [], ◌∷◌, ◌++◌, length, get_or, take, None, Some, refl, sym, ap, subst, ◌∙◌, arith, append-nil}
+use Rattle.std.proofs.Common.{◌≡◌, ◌⊎◌, inl, inr, ℕ, zero, suc, ◌+◌, ◌-◌, ◌^◌, ◌<◌, ◌≤◌, min, Bool, true, false, cond, List, [], ◌∷◌, ◌++◌, length, get_or, take, None, Some, refl, sym, ap, subst, ◌∙◌, arith, append-nil}
 use Rattle.std.specs.Prelude.{Contains, count_by, filter}
 use Rattle.std.specs.FinMap.{get, insert, len}
 use Rattle.std.proofs.lemmas.List.{length-append, length-take, get_or-take, get_or_default}
@@ -8,30 +8,19 @@ use Rattle.std.proofs.lemmas.List.Elements.{Contains-append_left, Contains-appen
 use Rattle.plane_geom.specs.declared.point.Way.{Way}
 use Rattle.plane_geom.specs.declared.point.Way.TheVariants.{Vertical, Horizontal}
 use Rattle.plane_geom.specs.declared.floor.Line.{Line}
-use Rattle.line_arena.specs.Arena.{Arena, IsArena, Pair, counted}
+use Rattle.line_arena.specs.Arena.{Arena, IsArena, Pair}
 use Rattle.line_arena.proofs.Arenas.ArenaLaws.{within_crossing_put}
 use Rattle.sweep_lines.specs.Kept.{AreOrdered}
 use Rattle.plane_geom.specs.Order.{stands_before}
 use Rattle.sweep_lines.proofs.Members.{Among, among_filter, among_filtered, among_of_contains, contains_of_among}
 use Rattle.plane_geom.proofs.Order.{never_both}
-use Rattle.visibility_graph.specs.Meeting.{counted_by}
+use Rattle.line_arena.specs.Count.{counted_by}
+use Rattle.line_arena.proofs.Counting.{counted_on}
 use Rattle.visibility_graph.specs.Fill.{IsCrossed, IsUncrossed, IsWithOneOf, pair_along}
 use Rattle.visibility_graph.proofs.Lines.{in_put, one_id, one_more, put_there, same_some}
 
--- a counter counts on
-pub counted_on : (m n before : ℕ) → counted_by n (counted_by m before) ≡ counted_by (m + n) before
-counted_on m zero before = ap (λ k. counted_by k before) (let e : m ≡ m + 0 = omega arith in e)
-counted_on m (suc n) before = ap counted (counted_on m n before) ∙ ap (λ k. counted_by k before) (let e : suc (m + n) ≡ m + suc n = omega arith in e)
-
--- it counts each where it does not come to its last value
-pub counted_all : (n before : ℕ) → before + n ≤ 18446744073709551615 → counted_by n before ≡ before + n
-counted_all zero before h = omega arith
-counted_all (suc n) before h =
-    let e = counted_all n before (omega arith) in
-    ap counted e ∙ (let f : min ((before + n) + 1) 18446744073709551615 ≡ before + suc n = omega arith in f)
-
-pub crossed_none : (a : Arena) (id : ℕ) (way : Way) → IsCrossed a a id way []
-crossed_none a id way = record {
+pub crossed_none : (a : Arena) (id : ℕ) (way : Way) → a.written < 2 ^ 64 → IsCrossed a a id way []
+crossed_none a id way counts = record {
   lines = refl;
   stay = λ c p is. is;
   come = λ l o among is. absurd (omega (arith, among.1));
@@ -39,7 +28,7 @@ crossed_none a id way = record {
   entries = omega arith;
   spare_lines = refl;
   spare_crossings = omega arith;
-  written = refl;
+  written = omega arith;
 }
 
 with_more : (a b : Arena) (id : ℕ) (way : Way) (xs ys : List Line) (p : Pair) → a.lines ≡ b.lines → ((l : Line) → Contains xs l → Contains ys l) → IsWithOneOf b id way xs p → IsWithOneOf a id way ys p
@@ -86,7 +75,7 @@ the_one x = (0, omega arith, refl)
 
 -- the crossing with one line is put in
 pub crossed_one : (a b : Arena) (id other_id c : ℕ) (way : Way) (pair : Pair) (other : Line) → pair ≡ pair_along way id other_id → IsArena a → get a.lines other_id ≡ Some other → get a.crossings c ≡ None → 0 < a.spare_crossings →
-    b ≡ record a { crossings = insert a.crossings c pair; spare_crossings = a.spare_crossings - 1; written = counted a.written } → IsCrossed a b id way (other ∷ [])
+    b ≡ record a { crossings = insert a.crossings c pair; spare_crossings = a.spare_crossings - 1; written = counted_by 1 a.written } → IsCrossed a b id way (other ∷ [])
 crossed_one a b id other_id c way pair other this arena is free room after =
     let crossings : b.crossings ≡ insert a.crossings c pair = ap (λ (x : Arena). x.crossings) after in
     let spare : b.spare_crossings ≡ a.spare_crossings - 1 = ap (λ (x : Arena). x.spare_crossings) after in

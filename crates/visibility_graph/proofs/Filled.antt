@@ -1,5 +1,5 @@
 -- Lines come with all their crossings, one line after another.
-use Rattle.std.proofs.Common.{◌≡◌, ◌⊎◌, inl, inr, ℕ, ◌+◌, ◌-◌, ◌<◌, ◌≤◌, true, List, [], ◌∷◌, ◌++◌, length, get_or, take, None, Some, refl, sym, ap, subst, ◌∙◌, arith}
+use Rattle.std.proofs.Common.{◌≡◌, ◌⊎◌, inl, inr, ℕ, ◌+◌, ◌-◌, ◌^◌, ◌<◌, ◌≤◌, true, List, [], ◌∷◌, ◌++◌, length, get_or, take, None, Some, refl, sym, ap, subst, ◌∙◌, arith}
 use Rattle.std.specs.Prelude.{Contains, count_by, filter}
 use Rattle.std.specs.FinMap.{get, insert, len}
 use Rattle.std.proofs.lemmas.List.{length-append, get_or-take, length-take-le}
@@ -8,17 +8,19 @@ use Rattle.std.proofs.lemmas.List.Sums.{length-filter}
 use Rattle.plane_geom.specs.declared.point.Way.{Way}
 use Rattle.plane_geom.specs.declared.point.Way.TheVariants.{Vertical, Horizontal}
 use Rattle.plane_geom.specs.declared.floor.Line.{Line}
-use Rattle.line_arena.specs.Arena.{Arena, IsApart, IsArena, Meet, counted}
+use Rattle.line_arena.specs.Arena.{Arena, IsApart, IsArena, Meet}
 use Rattle.line_arena.specs.Stands.{HasLine, IsComplete}
 use Rattle.line_arena.proofs.Arenas.ArenaLaws.{across_where_meet, within_line_put}
 use Rattle.sweep_lines.specs.Kept.{AreOrdered}
 use Rattle.plane_geom.specs.Order.{stands_before}
 use Rattle.sweep_lines.proofs.Members.{among_filter, among_of_contains, contains_of_among}
-use Rattle.visibility_graph.specs.Meeting.{coming, counted_by, meets}
+use Rattle.visibility_graph.specs.Meeting.{coming, meets}
+use Rattle.line_arena.specs.Count.{counted_by}
+use Rattle.line_arena.proofs.Counting.{counted_on}
 use Rattle.visibility_graph.specs.Fill.{AreLines, ArePut, AreStrange, CanPut, IsCrossed, IsUncrossed, pair_along}
 use Rattle.visibility_graph.proofs.Counts.{meets_back}
 use Rattle.visibility_graph.proofs.Lines.{in_put, meets_of_across, not_none, one_more, put_there}
-use Rattle.visibility_graph.proofs.Crossed.{counted_on, not_before, only_one, the_one}
+use Rattle.visibility_graph.proofs.Crossed.{not_before, only_one, the_one}
 
 -- a line under a new id has no crossing yet
 pub no_crossing : (a : Arena) (id : ℕ) (way : Way) (o c : ℕ) → IsArena a → get a.lines id ≡ None → get a.crossings c ≡ Some (pair_along way id o) → ⊥
@@ -28,7 +30,7 @@ no_crossing a id Horizontal o c arena free is = let m = arena.meet c (pair_along
 -- the arena once a line stands in it
 pub record IsLinePut (a b : Arena) (id : ℕ) (line : Line) : Type 0 where
   pub free : get a.lines id ≡ None
-  pub after : b ≡ record a { lines = insert a.lines id line; spare_lines = a.spare_lines - 1; written = counted a.written }
+  pub after : b ≡ record a { lines = insert a.lines id line; spare_lines = a.spare_lines - 1; written = counted_by 1 a.written }
   pub room : 0 < a.spare_lines
 
 module _ (a b : Arena) (id : ℕ) (line : Line) (put : IsLinePut a b id line) where
@@ -117,17 +119,6 @@ module _ (a b : Arena) (id : ℕ) (line : Line) (put : IsLinePut a b id line) wh
         }
 
 -- ---- one line after another
-
-pub put_none : (a : Arena) → IsComplete a → ArePut a a [] 0
-put_none a complete = record {
-  stands = λ l. (λ h. inl h, λ h. elim h as (λ _. HasLine a l) [ inl old ↦ old | inr none ↦ absurd (omega (arith, none.1)) ]);
-  complete = complete;
-  line_entries = omega arith;
-  crossing_entries = omega arith;
-  spare_lines = omega arith;
-  spare_crossings = omega arith;
-  written = refl;
-}
 
 pub put_on : (a b c : Arena) (xs ys : List Line) (m n : ℕ) → ArePut a b xs m → ArePut b c ys n → ArePut a c (xs ++ ys) (m + n)
 put_on a b c xs ys m n f g =

@@ -9,7 +9,8 @@ use Rattle.plane_geom.specs.Floor.{AreOnOneWholeLine, Holds}
 use Rattle.line_arena.specs.Arena.{Arena, Pair}
 use Rattle.line_arena.specs.Stands.{HasLine, IsComplete}
 use Rattle.sweep_lines.specs.Kept.{AreOrdered}
-use Rattle.visibility_graph.specs.Meeting.{coming, counted_by}
+use Rattle.visibility_graph.specs.Meeting.{coming}
+use Rattle.line_arena.specs.Count.{counted_by}
 
 -- the lines are exactly those of the arena
 abbrev pub AreLines : Arena → List Line → Type 0

@@ -1,9 +1,8 @@
 -- Which lines meet, and how many.
-use Rattle.std.specs.Prelude.{ℕ, zero, suc, ℤ, ◌+◌, Bool, true, false, not, ◌&&◌, int_lt, List, [], ◌∷◌, sum_by, count_by}
+use Rattle.std.specs.Prelude.{ℕ, ℤ, ◌+◌, Bool, true, false, not, ◌&&◌, int_lt, List, [], ◌∷◌, sum_by, count_by}
 use Rattle.plane_geom.specs.declared.point.Way.{Way}
 use Rattle.plane_geom.specs.declared.point.Way.TheVariants.{Vertical, Horizontal}
 use Rattle.plane_geom.specs.declared.floor.Line.{Line}
-use Rattle.line_arena.specs.Arena.{counted}
 
 abbrev pub same_way : Way → Way → Bool
 same_way Vertical Vertical = true
@@ -27,11 +26,6 @@ pairs_by test (x ∷ xs) = count_by (test x) xs + pairs_by test xs
 -- how many crossings come where new lines are put beside those that stay: with these, and with one another
 abbrev pub coming : List Line → List Line → ℕ
 coming new stay = sum_by (λ l. count_by (meets l) stay) new + pairs_by meets new
-
--- a counter of writes after so many more; it stays at its last value
-abbrev pub counted_by : ℕ → ℕ → ℕ
-counted_by zero before = before
-counted_by (suc n) before = counted (counted_by n before)
 
 -- whether, vertical lines standing first, a line of the second way stands before those across a line of the first; the rest tells lines across
 abbrev pub sorted_out : Way → Way → Bool → Bool

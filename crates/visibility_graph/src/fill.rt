@@ -19,6 +19,7 @@ pub fn put_lines(arena: &mut LineArena, new: &[Line], stay: &[Line])
     requires { CanPut arena.old new.now stay.now }
     ensures { ArePut arena.old arena.new new.now (coming new.now stay.now) }
 {
+    arena.laws();
     for (place, line) in new.iter().enumerate() {
         let (before, _) = new.split_at(place);
         put_crossed(arena, line, stay, before);
@@ -53,6 +54,7 @@ fn cross(arena: &mut LineArena, id: LineId, line: &Line, others: &[Line])
     requires room { count_by (meets line.now) others.now ≤ arena.old.spare_crossings }
     ensures { IsCrossed arena.old arena.new id line.now.way (filter (meets line.now) others.now) }
 {
+    arena.laws();
     // Where all lines of the arena are the others, each stands at its own place among them; where they are not,
     // mostly behind the one before it.
     let (mut place, here) = beside(line, others);

@@ -15,7 +15,8 @@ use Rattle.plane_geom.specs.Floor.{Holds}
 use Rattle.line_arena.specs.declared.lists.Lists.{Lists}
 use Rattle.plane_geom.specs.Along.{reach, rising, way_of}
 use Rattle.line_arena.specs.Arena as seen
-use Rattle.line_arena.specs.Arena.{Arena, counted, IsArena, IsFirst, IsNearest, IsOn, LiesFurther, Meet, Pair, StandsAt}
+use Rattle.line_arena.specs.Arena.{Arena, IsArena, IsFirst, IsNearest, IsOn, LiesFurther, Meet, Pair, StandsAt}
+use Rattle.line_arena.specs.Count.{counted_by}
 use Rattle.line_arena.specs.Lists.{AreLinked, AreLists, AreMet, IsNext, IsSound, Spot, Stands, UpdatesAt, line_along, line_at, spot_at, spot_of}
 use Rattle.line_arena.specs.View.{arena_of, pair_of, seen as map_of, spare_of}
 use Rattle.line_arena.proofs.Arenas.Seen.{get-seen, seen_insert, seen_remove, seen_same}
@@ -331,8 +332,8 @@ pairs_update a b k x updates = record {
 
 module _ (a b : Lists) (w : ℕ) where
   pub after_put_line : (u id : ℕ) (line : Line) → UpdatesAt (line_at a) (line_at b) id (Some line) → b.crossings ≡ a.crossings
-      → slab_len b.lines.slab ≡ slab_len a.lines.slab + 1 → b.lines.room ≡ a.lines.room → u ≡ counted w
-      → arena_of b u ≡ record (arena_of a w) { lines = fin.insert (arena_of a w).lines id line; spare_lines = (arena_of a w).spare_lines - 1; written = counted w }
+      → slab_len b.lines.slab ≡ slab_len a.lines.slab + 1 → b.lines.room ≡ a.lines.room → u ≡ counted_by 1 w
+      → arena_of b u ≡ record (arena_of a w) { lines = fin.insert (arena_of a w).lines id line; spare_lines = (arena_of a w).spare_lines - 1; written = counted_by 1 w }
   after_put_line u id line updates crossings len room counts =
       let lines = seen_insert (λ e. e.0) a.lines.slab b.lines.slab id line updates in
       let spare : b.lines.room - slab_len b.lines.slab ≡ (a.lines.room - slab_len a.lines.slab) - 1 = omega (arith, len, room) in
@@ -365,8 +366,8 @@ module _ (a b : Lists) (w : ℕ) where
     lines_are : map_of (λ e. e.0) b.lines.slab ≡ map_of (λ e. e.0) a.lines.slab
     lines_are = seen_same (λ e. e.0) a.lines.slab b.lines.slab lines
 
-    pub after_put_crossing : (u id : ℕ) (s : Spot) → UpdatesAt (spot_at a) (spot_at b) id (Some s) → slab_len b.crossings.slab ≡ slab_len a.crossings.slab + 1 → u ≡ counted w
-        → arena_of b u ≡ record (arena_of a w) { crossings = fin.insert (arena_of a w).crossings id (pair_at s); spare_crossings = (arena_of a w).spare_crossings - 1; written = counted w }
+    pub after_put_crossing : (u id : ℕ) (s : Spot) → UpdatesAt (spot_at a) (spot_at b) id (Some s) → slab_len b.crossings.slab ≡ slab_len a.crossings.slab + 1 → u ≡ counted_by 1 w
+        → arena_of b u ≡ record (arena_of a w) { crossings = fin.insert (arena_of a w).crossings id (pair_at s); spare_crossings = (arena_of a w).spare_crossings - 1; written = counted_by 1 w }
     after_put_crossing u id s updates len counts =
         let crossings = seen_insert pair_of a.crossings.slab b.crossings.slab id (pair_at s) (pairs_update a b id (Some s) updates) in
         let spare_lines : b.lines.room - slab_len b.lines.slab ≡ a.lines.room - slab_len a.lines.slab = omega (arith, line_count, line_room) in

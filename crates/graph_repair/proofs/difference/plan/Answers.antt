@@ -60,7 +60,7 @@ returns-clause-leads c =
     let few : length c.as_slice-3.result.now ≡ length here = ap length c.as_slice-3.ensures.value in
     let room = c.in_ok-make_room.ensures in
     let leads = leads_first graph b stay here there arena shared alone other
-    (subst IsArena c.arena-2.ensures.arena c.laws.ensures) (subst (StandsFor a) c.arena.ensures.arena c.arena.ensures.stands)
+    (subst IsArena c.arena-2.ensures.arena c.laws.ensures.arena) (subst (StandsFor a) c.arena.ensures.arena c.arena.ensures.stands)
     c.make_room.ensures.lines c.make_room.ensures.crossings (omega (arith, many, few, room.room_for_lines)) (omega (arith, come, go, room.room_for_crossings)) in
     leads_at (record { floor = a; arena = arena }) c.make_room.new.graph.floor arena
     (record { floor = b; stay = stay; here = here; there = there; applied = false }) (record { floor = b; stay = stay; here = here; there = there; applied = false })

@@ -47,7 +47,7 @@ put_lines-requires c =
     let leads = leads_here at.After-take-parts in
     let r = c.repair.inside in
     let left = c.take_lines.new.arena in
-    let can = may_come c.take-parts.result.floor r.floor r.stay.items r.here.items leads.stay leads.here c.take-parts.result.arena c.take-parts.ensures.stands left (taken_here at.After-take_lines) r.there.items leads.there c.laws-2.ensures leads.line_places leads.crossing_places in
+    let can = may_come c.take-parts.result.floor r.floor r.stay.items r.here.items leads.stay leads.here c.take-parts.result.arena c.take-parts.ensures.stands left (taken_here at.After-take_lines) r.there.items leads.there c.laws-2.ensures.arena leads.line_places leads.crossing_places in
     subst (λ (new : List Line). CanPut left new c.as_slice-3.result.now) (sym c.as_slice-2.ensures.value)
     (subst (CanPut left r.there.items) (sym c.as_slice-3.ensures.value) can)
 
@@ -67,7 +67,7 @@ returns-clause-back c =
     let r = c.repair.inside in
     let parts = c.take-parts.result in
     let last = c.put_lines.new.arena in
-    let back = leads_back parts.floor r.floor r.stay.items r.here.items leads.stay leads.here parts.arena c.take-parts.ensures.stands c.take_lines.new.arena (taken_here at.After-take_lines) r.there.items leads.there last (put_there at.After-put_lines) (not r.applied) c.laws.ensures in
+    let back = leads_back parts.floor r.floor r.stay.items r.here.items leads.stay leads.here parts.arena c.take-parts.ensures.stands c.take_lines.new.arena (taken_here at.After-take_lines) r.there.items leads.there last (put_there at.After-put_lines) (not r.applied) c.laws.ensures.arena in
     leads_at (record { floor = r.floor; arena = last }) c.from_parts.result.floor c.from_parts.result.arena
     (record { floor = parts.floor; stay = r.stay.items; here = r.there.items; there = r.here.items; applied = not r.applied })
     (record { floor = c.swap.new.y; stay = r.stay.items; here = c.swap-2.new.x.items; there = c.swap-2.new.y.items; applied = not r.applied })

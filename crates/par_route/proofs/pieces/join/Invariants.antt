@@ -1,7 +1,7 @@
 -- What stands so far is what the pieces so far have.
 use Rattle.std.proofs.Common.{◌≡◌, All, IsOk}
 use Rattle.std.specs.List.{flat_map, sum_by}
-use Rattle.route_search.specs.Finds.{counted_by}
+use Rattle.line_arena.specs.Count.{counted_by}
 use Rattle.par_route.specs.Pieces.{answers_in, searches_in}
 use Rattle.par_route.proofs.pieces.join.Given as goal
 

@@ -1,7 +1,7 @@
 -- All pieces, searched side by side, are all tasks.
 use Rattle.std.proofs.Common.{rules, ◌≡◌, ◌∙◌, All, IsOk, length}
 use Rattle.std.specs.List.{AllZip, flat_map, sum_by}
-use Rattle.route_search.specs.Finds.{counted_by}
+use Rattle.line_arena.specs.Count.{counted_by}
 use Rattle.par_route.specs.declared.pieces.Piece.{Piece}
 use Rattle.par_route.specs.Pieces.{answers_in, searches_in}
 use Rattle.par_route.specs.Routes.{AreAnswers, MayBeSearched}

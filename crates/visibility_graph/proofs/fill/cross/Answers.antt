@@ -44,7 +44,7 @@ put_meeting-place-requires-clause-room c =
     c.beside-place.ensures.met c.loop-other-test.true (c.beside-place.ensures.across c.loop-other.other-index no_line c.loop-other-test.true ∙ sym c.is_reached.ensures ∙ c.if-is_reached.true) c.requires.room c.loop-other.invariant.spare_crossings
 
 pub loop-other-init : goal.loop-other-init
-loop-other-init c = crossed_none c.args.arena.now c.args.id c.args.line.now.way
+loop-other-init c = crossed_none c.args.arena.now c.args.id c.args.line.now.way c.laws.ensures.written
 
 pub loop-other-preserved : goal.loop-other-preserved
 loop-other-preserved c =

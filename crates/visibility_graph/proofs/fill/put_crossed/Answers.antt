@@ -20,7 +20,7 @@ cross-requires-clause-others_there c = λ l among.
     (was.0, there_more c.args.arena.now c.put_line-id.new.self c.put_line-id.result c.args.line.now (record { free = c.put_line-id.ensures.new_id; after = c.put_line-id.ensures.after; room = c.requires.room_for_line }) was.0 l was.1)
 
 pub cross-requires-clause-uncrossed : goal.cross-requires-clause-uncrossed
-cross-requires-clause-uncrossed c = λ l among. uncrossed_yet c.args.arena.now c.put_line-id.new.self c.put_line-id.result c.args.line.now (record { free = c.put_line-id.ensures.new_id; after = c.put_line-id.ensures.after; room = c.requires.room_for_line }) c.args.line.now.way l c.laws.ensures
+cross-requires-clause-uncrossed c = λ l among. uncrossed_yet c.args.arena.now c.put_line-id.new.self c.put_line-id.result c.args.line.now (record { free = c.put_line-id.ensures.new_id; after = c.put_line-id.ensures.after; room = c.requires.room_for_line }) c.args.line.now.way l c.laws.ensures.arena
 
 pub cross-requires-2-clause-there : goal.cross-requires-2-clause-there
 cross-requires-2-clause-there c =
@@ -37,7 +37,7 @@ cross-requires-2-clause-uncrossed c = λ l among.
     let stay = c.args.stay.now in
     let test = meets line in
     still_uncrossed c.put_line-id.new.self c.cross.new.arena c.put_line-id.result line.way (filter test stay) l c.cross.ensures
-    (uncrossed_yet c.args.arena.now c.put_line-id.new.self c.put_line-id.result line (record { free = c.put_line-id.ensures.new_id; after = c.put_line-id.ensures.after; room = c.requires.room_for_line }) line.way l c.laws.ensures)
+    (uncrossed_yet c.args.arena.now c.put_line-id.new.self c.put_line-id.result line (record { free = c.put_line-id.ensures.new_id; after = c.put_line-id.ensures.after; room = c.requires.room_for_line }) line.way l c.laws.ensures.arena)
     (λ s. c.requires.strange l (contains_of_among stay l (among_filtered test stay l (among_of_contains (filter test stay) l s)).0) among)
 
 pub cross-requires-2-clause-room : goal.cross-requires-2-clause-room

@@ -5,8 +5,8 @@ use Rattle.std.specs.FinMap.{len, len-empty}
 use Rattle.std.specs.Ordering.{nat_cmp}
 use Rattle.plane_geom.specs.declared.floor.Line.{Line}
 use Rattle.line_arena.specs.Arena.{Pair}
-use Rattle.visibility_graph.specs.Meeting.{coming, counted_by}
-use Rattle.visibility_graph.proofs.Crossed.{counted_all}
+use Rattle.visibility_graph.specs.Meeting.{coming}
+use Rattle.line_arena.specs.Count.{counted_by}
 use Rattle.visibility_graph.proofs.Empty.{complete_empty, no_line_in}
 use Rattle.visibility_graph.proofs.graph.filled.Goals as goal
 
@@ -48,5 +48,5 @@ returns-clause-written c =
     let no_lines = ap len (c.reserve.ensures.lines ∙ c.new-arena.ensures.lines) ∙ len-empty nat_cmp Line in
     let no_crossings = ap len (c.reserve.ensures.crossings ∙ c.new-arena.ensures.crossings) ∙ len-empty nat_cmp Pair in
     let fits : 0 + n ≤ 18446744073709551615 = omega (arith, c.in_ok-added.ensures.within, c.in_ok-crossings.ensures) in
-    let all = counted_all n 0 fits in
+    let all : counted_by n 0 ≡ n = omega (arith, fits) in
     put.written ∙ ap (counted_by n) before ∙ omega (arith, all, put.line_entries, put.crossing_entries, no_lines, no_crossings)

@@ -2,7 +2,8 @@
 use Rattle.std.proofs.Common.{arith, refl, ◌≡◌, ◌∙◌, ◌-◌, ap, subst, rules}
 use Rattle.std.specs.Option.{option_map}
 use Rattle.std.specs.FinMap.{insert}
-use Rattle.line_arena.specs.Arena.{Pair, counted}
+use Rattle.line_arena.specs.Arena.{Pair}
+use Rattle.line_arena.specs.Count.{counted_by}
 use Rattle.line_arena.specs.View.{arena_of}
 use Rattle.line_arena.proofs.Arenas.ArenaLemmas.{is_arena, after_put_crossing, met_in, pair_at, pair_in, pair_with}
 use Rattle.line_arena.proofs.LineOrder.OrderKept.{kept_same}
@@ -32,7 +33,7 @@ returns-clause-after c =
     let u = c.saturating_add-self-inside.result in
     let id = c.put_crossing.result in
     let pair : Pair = record { vertical = c.args.vertical; horizontal = c.args.horizontal } in
-    subst (λ v. arena_of b u ≡ record v { crossings = insert v.crossings id pair; spare_crossings = v.spare_crossings - 1; written = counted v.written }) c.self.view_is
+    subst (λ v. arena_of b u ≡ record v { crossings = insert v.crossings id pair; spare_crossings = v.spare_crossings - 1; written = counted_by 1 v.written }) c.self.view_is
     (after_put_crossing a b c.self.inside.written e.lines e.line_count e.line_room e.room e.places u id _ e.put.updates e.count (search rules))
 
 pub returns-clause-arena : goal.returns-clause-arena

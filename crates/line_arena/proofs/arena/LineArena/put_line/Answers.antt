@@ -2,7 +2,7 @@
 use Rattle.std.proofs.Common.{refl, ◌≡◌, ◌∙◌, ◌-◌, ◌<◌, sym, subst, arith, rules}
 use Rattle.slab.specs.Slab.{slab_len}
 use Rattle.std.specs.FinMap.{insert}
-use Rattle.line_arena.specs.Arena.{counted}
+use Rattle.line_arena.specs.Count.{counted_by}
 use Rattle.line_arena.specs.View.{arena_of}
 use Rattle.line_arena.proofs.Arenas.ArenaLemmas.{is_arena, after_put_line, line_in}
 use Rattle.line_arena.proofs.LineOrder.OrderKept.{kept_put, place_of_new}
@@ -43,7 +43,7 @@ returns-clause-after c =
     let e = c.put_line-id.ensures in
     let u = c.saturating_add-self-inside.result in
     let id = c.put_line-id.result in
-    subst (λ v. arena_of b u ≡ record v { lines = insert v.lines id c.args.line; spare_lines = v.spare_lines - 1; written = counted v.written }) c.self.view_is
+    subst (λ v. arena_of b u ≡ record v { lines = insert v.lines id c.args.line; spare_lines = v.spare_lines - 1; written = counted_by 1 v.written }) c.self.view_is
     (after_put_line a b c.self.inside.written u id c.args.line e.put e.crossings e.count e.room (search rules))
 
 pub returns-clause-arena : goal.returns-clause-arena

@@ -2,7 +2,7 @@
 use Rattle.std.proofs.Common.{◌∙◌}
 use Rattle.walk_model.specs.Answers.{IsAnswer}
 use Rattle.par_route.specs.Routes.{MayBeSearched}
-use Rattle.par_route.proofs.Joining.{counted_more}
+use Rattle.line_arena.proofs.Counting.{counted_on}
 use Rattle.par_route.proofs.Zips.{All-read, zip_more}
 use Rattle.par_route.proofs.pieces.Piece.search.Goals as goal
 
@@ -19,5 +19,5 @@ loop-task-preserved g c =
       c.in_ok-find.ensures.solids ∙ kept.1,
       rw c.in_ok-push.ensures.items
           (zip_more (IsAnswer c.args.solids.now) c.args.self.tasks.now c.loop-task.answers.items c.loop-task.task-index c.task-item.result c.in_ok-find.field-0 c.loop-task-test.true c.task-item.is kept.2 answer),
-      rw (c.in_ok-find.ensures.tally, kept.3) (counted_more c.loop-task.task-index 1 c.args.self.tally),
+      rw (c.in_ok-find.ensures.tally, kept.3) (counted_on c.loop-task.task-index 1 c.args.self.tally),
     )

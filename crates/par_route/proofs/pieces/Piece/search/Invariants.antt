@@ -1,6 +1,6 @@
 -- The answers so far are those of the tasks so far.
 use Rattle.std.proofs.Common.{◌≡◌, take}
-use Rattle.route_search.specs.Finds.{counted_by}
+use Rattle.line_arena.specs.Count.{counted_by}
 use Rattle.par_route.specs.Routes.{AreAnswers}
 use Rattle.par_route.proofs.pieces.Piece.search.Given as goal
 

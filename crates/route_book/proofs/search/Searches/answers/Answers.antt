@@ -8,7 +8,7 @@ use Rattle.walk_model.specs.declared.task.Task.{Task}
 use Rattle.walk_model.specs.declared.route.Route.{Route}
 use Rattle.walk_model.specs.declared.route.Answer.{Answer}
 use Rattle.walk_model.specs.Answers.{IsAnswer}
-use Rattle.route_search.specs.Finds.{counted_by}
+use Rattle.line_arena.specs.Count.{counted_by}
 use Rattle.par_route.specs.Routes.{MayBeSearched}
 use Rattle.scene_model.specs.Routing.{solids}
 use Rattle.route_book.specs.Search.{IsAnswerWith, IsTaskWith}

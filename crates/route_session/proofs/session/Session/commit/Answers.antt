@@ -2,9 +2,8 @@
 use Rattle.std.proofs.Common.{◌≡◌, ℕ, ◌∷◌, take, None, Some, Ok, sym, ap, subst, ◌∙◌}
 use Rattle.plane_geom.specs.Floor.{IsFloor}
 use Rattle.visibility_graph.specs.Drawing.{Drawing}
-use Rattle.visibility_graph.specs.Meeting.{counted_by}
+use Rattle.line_arena.specs.Count.{counted_by}
 use Rattle.graph_repair.specs.Change.{CountsWrites}
-use Rattle.route_search.specs.Finds.{counted_by as searched_by}
 use Rattle.scene_model.specs.declared.edit.Command.TheVariants.{Commit}
 use Rattle.scene_model.specs.Answers.{AreAnswers}
 use Rattle.scene_model.specs.Routing.{floor_of}
@@ -64,7 +63,7 @@ returns-clause-written g c =
 
 pub returns-in_default-follow-clause-memory_searched : goal.returns-in_default-follow-clause-memory_searched
 returns-in_default-follow-clause-memory_searched g c is =
-    subst (λ (s : State). (n : ℕ) × (c.follow.new.self.tally ≡ searched_by n s.searched)) c.self.view_is c.in_default-follow.ensures.err_tally
+    subst (λ (s : State). (n : ℕ) × (c.follow.new.self.tally ≡ counted_by n s.searched)) c.self.view_is c.in_default-follow.ensures.err_tally
 
 pub returns-in_default-follow-clause-memory_written : goal.returns-in_default-follow-clause-memory_written
 returns-in_default-follow-clause-memory_written g c is =

@@ -3,7 +3,7 @@ use Rattle.std.proofs.Common.{length, ap, subst, ◌∙◌}
 use Rattle.line_arena.specs.Stands.{StandsFor}
 use Rattle.visibility_graph.specs.Drawing.{Drawing}
 use Rattle.scene_model.specs.Routing.{floor_of}
-use Rattle.route_search.specs.Finds.{counted_by}
+use Rattle.line_arena.specs.Count.{counted_by}
 use Rattle.scene_model.specs.Scene.{connectors}
 use Rattle.route_session.proofs.Upholding.{few_counted}
 use Rattle.route_session.proofs.session.Session.open.Goals as goal

@@ -19,7 +19,7 @@ returns-clause-ready c =
     record {
       floor = c.requires.0;
       problem = c.requires.1;
-      arena = c.laws.ensures;
+      arena = c.laws.ensures.arena;
       entries = c.in_ok-entries.ensures;
       endings = c.in_ok-endings.ensures;
       origins = c.in_ok-origins.ensures.origins;
