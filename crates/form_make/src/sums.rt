@@ -23,8 +23,7 @@ pub(crate) fn summed(scene: &Scene, answers: &[Answer], searched: u64) -> Summar
     requires { AreAnswers scene.now answers.now }
     ensures { SumsUp answers.now searched result }
 {
-    // That the scene is valid is known from here.
-    let _settings = scene.settings();
+    scene.valid();
     let mut summary = Summary {
         routed: 0,
         unrouted: 0,

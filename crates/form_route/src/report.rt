@@ -20,7 +20,7 @@ pub(crate) fn connector_count(scene: &Scene) -> u64
     ensures count { result ≡ length (connectors scene.now) }
     ensures valid { IsValid scene.now }
 {
-    let _settings = scene.settings();
+    scene.valid();
     let mut count = 0;
     let mut place = 0;
     while let Some(edge) = scene.edge_at(place) {

@@ -115,8 +115,7 @@ fn printed_diagram(alloc: Global, doc: &Doc, session: &Session) -> Result<Vec<u8
     ensures { IfOk result (λ text. IfOk (scene_of (tree doc.now)) (λ was. IsDiagram (tree doc.now) was session.now.world.present session.now.book text.items)) }
 {
     let scene = session.scene();
-    // So the scene is known to be valid.
-    let _settings = scene.settings();
+    scene.valid();
     let nudged = session.nudged()?;
     printed_lines(alloc, doc, session, &nudged.routes)
 }

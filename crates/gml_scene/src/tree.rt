@@ -84,8 +84,7 @@ fn node_from(scene: &Scene, place: usize) -> Option<&Node>
     ensures found { option_copied result ≡ node_from scene.now place }
     ensures node { IfSome result (λ n. IsNode n.now) }
 {
-    // So the scene is known to be valid.
-    let _settings = scene.settings();
+    scene.valid();
     let mut index = 0;
     while let Some(node) = scene.node_at(index) {
         if is_at(place, node.origin) {
@@ -100,8 +99,7 @@ fn node_from(scene: &Scene, place: usize) -> Option<&Node>
 fn edge_from(scene: &Scene, place: usize) -> Option<&Edge>
     ensures { option_copied result ≡ edge_from scene.now place }
 {
-    // So the scene is known to be valid.
-    let _settings = scene.settings();
+    scene.valid();
     let mut index = 0;
     while let Some(edge) = scene.edge_at(index) {
         if is_at(place, edge.origin) {
@@ -236,8 +234,7 @@ impl Change<'_> {
     fn push_new_nodes(&self, out: &mut Vec<Pair>) -> Result<(), AllocError>
         ensures { OnOk result (pairs out.new.items ≡ pairs out.old.items then new_nodes self.now.scene.now.nodes) }
     {
-        // So the scene is known to be valid.
-        let _settings = self.scene.settings();
+        self.scene.valid();
         let mut index = 0;
         while let Some(node) = self.scene.node_at(index) {
             push_new_node(self.alloc, out, node)?;
@@ -260,8 +257,7 @@ impl Change<'_> {
     fn push_new_edges(&self, out: &mut Vec<Pair>) -> Result<(), AllocError>
         ensures { OnOk result (pairs out.new.items ≡ pairs out.old.items then new_edges self.now.routes.now self.now.scene.now.edges) }
     {
-        // So the scene is known to be valid.
-        let _settings = self.scene.settings();
+        self.scene.valid();
         let mut index = 0;
         while let Some(edge) = self.scene.edge_at(index) {
             self.push_new_edge(out, edge)?;

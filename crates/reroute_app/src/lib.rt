@@ -84,8 +84,7 @@ pub fn run_gated<R: Threads + Sync, F: Folder, O: Sink, G: Gate>(
         (F.files folder.old) (F.notes folder.old) (F.notes folder.new) tally.old tally.new }
     ensures tally_never_falls { tally.old ≤ tally.new }
 {
-    // That the count is within its limit is known from here.
-    let _count = tally.count();
+    tally.bounded();
     let Ok(outcome) = outcome_of(rt, alloc, words, folder, gate) else {
         return Status::NoMemory;
     };

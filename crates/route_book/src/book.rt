@@ -124,7 +124,7 @@ impl Book {
         ensures tally { OnOk result (CountsStale old.now self.old new.now tally.old tally.new) }
         ensures never_falls { tally.old ≤ tally.new }
     {
-        let _settings = old.settings();
+        old.valid();
         let connectors = connector_numbers(self.alloc, new)?;
         let numbers = self.stale(old, new)?;
         let searches = Searches {

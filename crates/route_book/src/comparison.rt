@@ -52,7 +52,7 @@ impl<'a> Comparison<'a> {
         requires right { AreAnswers self.now.old.now answers.now }
         ensures { IfOk result (λ numbers. AreStale self.now.old.now answers.now self.now.new.now numbers.items) }
     {
-        let _settings = self.new.settings();
+        self.new.valid();
         let mut numbers = Vec::new(self.alloc);
         let mut place = 0;
         while let Some(edge) = self.new.edge_at(place) {

@@ -23,7 +23,7 @@ pub(crate) fn connector_numbers(alloc: Global, scene: &Scene) -> Result<Vec<u32>
     ensures connectors { IfOk result (λ ns. All (IsConnector scene.now) ns.items) }
     ensures valid { IsValid scene.now }
 {
-    let _settings = scene.settings();
+    scene.valid();
     let mut numbers = Vec::new(alloc);
     let mut place = 0;
     while let Some(edge) = scene.edge_at(place) {
@@ -75,8 +75,7 @@ impl<'a> Searches<'a> {
         ensures tally { OnOk result (tally.new ≡ counted_by (length numbers.now) tally.old) }
         ensures never_falls { tally.old ≤ tally.new }
     {
-        // That the count is within its limit is known from here.
-        let _count = tally.count();
+        tally.bounded();
         let tasks = self.tasks(numbers)?;
         let solids = self.graph.floor().solids.as_slice();
         let routes = route_all(

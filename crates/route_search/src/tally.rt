@@ -1,5 +1,5 @@
 //! How many searches were made.
-ghost use Rattle.std.specs.Prelude.{◌≡◌};
+ghost use Rattle.std.specs.Prelude.{◌≡◌, ◌^◌, ◌<◌};
 ghost use Rattle.line_arena.specs.Count.{counted_by};
 
 use std::marker::Model;
@@ -26,6 +26,13 @@ impl Tally {
         ensures { result ≡ 0 }
     {
         Tally { count: 0 }
+    }
+
+    /// What holds of every tally, for proofs: its count is below 2^64. Does nothing.
+    pub fn bounded(&self)
+        ensures { self.now < 2 ^ 64 }
+    {
+        let _count = self.count;
     }
 
     /// How many searches were made, and 2^64 - 1 where it would be more.

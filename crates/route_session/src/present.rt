@@ -73,8 +73,7 @@ impl Present {
         ensures err_written { OnErr result ((n : ℕ) × (self.new.graph.arena.written ≡ counted_by n self.old.graph.arena.written)) }
         ensures err_tally { OnErr result ((n : ℕ) × (self.new.tally ≡ counted_by n self.old.tally)) }
     {
-        // That both counts are within their limit is known from here.
-        let _count = self.tally.count();
+        self.tally.bounded();
         self.graph.arena().laws();
         let mut repair = self.repair(other)?;
         let mut searches = self.tally.split();

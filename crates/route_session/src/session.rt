@@ -87,8 +87,7 @@ impl Session {
         ensures searched { IfOk result (λ s. s.searched ≡ length (connectors scene)) }
         ensures written { IfOk result (λ s. (a : Arena) × StandsFor (floor_of scene) a × (s.written ≡ len a.lines + len a.crossings)) }
     {
-        // That the scene is valid is known from here.
-        let _settings = scene.settings();
+        scene.valid();
         let floor = scene.floor()?;
         let graph = Graph::build(alloc, &floor)?;
         let mut tally = Tally::new();

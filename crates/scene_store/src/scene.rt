@@ -44,6 +44,13 @@ impl Scene {
         }
     }
 
+    /// What holds of every scene, for proofs: it is valid. Does nothing.
+    pub fn valid(&self)
+        ensures { IsValid self.now }
+    {
+        let _ = &self.parts;
+    }
+
     /// The node with the id.
     pub fn node(&self, id: i64) -> Option<&Node>
         ensures { option_copied result ≡ node_with self.now id }
@@ -72,7 +79,7 @@ impl Scene {
         self.parts.edges().get(place)
     }
 
-    /// The settings. That the scene is valid is known from here too.
+    /// The settings. That the scene is valid is known from here too, as from `valid`.
     pub fn settings(&self) -> Settings
         ensures value { result ≡ self.now.settings }
         ensures valid { IsValid self.now }

@@ -592,7 +592,7 @@ fn edit_all(scene: &mut Scene, edits: &[Edit]) -> Result<(), SceneFault> {
 fn there_and_back(scene: &mut Scene, edit: &Edit) -> Result<(), SceneFault>
     requires { IsDirected edit.now }
 {
-    let _settings = scene.settings();
+    scene.valid();
     if let Some(fault) = scene.refusal(edit) {
         return Err(fault);
     }

@@ -50,7 +50,7 @@ pub fn replay<R: Threads + Sync, G: Gate>(
     ensures searched { IfOk result (λ r. r.session.searched ≡ length (connectors scene) + searched_in r.replies.items) }
 {
     // That the scene has few connectors.
-    let _settings = scene.settings();
+    scene.valid();
     let mut session = Session::open(rt, alloc, scene, workers, gate)?;
     match replies_to(rt, alloc, &mut session, commands, workers, gate) {
         Ok(replies) => {
@@ -134,7 +134,7 @@ fn reply_to_commit<R: Threads + Sync, G: Gate>(
     let before = session.searched();
     let answer = session.commit(rt, workers, gate);
     // That the scene after has few connectors.
-    let _settings = session.scene().settings();
+    session.scene().valid();
     let searched = session.searched() - before;
     reply_of(answer, Reply::Searched(searched))
 }

@@ -296,7 +296,7 @@ fn found_on(alloc: Global, floor: &Floor, task: &Task) -> Result<Found, Fail>
 fn found_of(alloc: Global, scene: &Scene, number: u32) -> Result<Found, Fail>
     requires { IsSomeAnd (edge_with scene.now number) (λ e. e.from ≢ e.to) }
 {
-    let _settings = scene.settings();
+    scene.valid();
     let task = scene.task(number)?;
     let floor = scene.floor()?;
     found_on(alloc, &floor, &task)

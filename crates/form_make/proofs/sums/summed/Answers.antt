@@ -10,7 +10,7 @@ use Rattle.form_make.proofs.sums.summed.Goals.{in-Some, in-None}
 
 pub overflow_add-summary-in-Some : goal.overflow_add-summary-in-Some
 overflow_add-summary-in-Some c =
-    let valid = c.settings-settings.ensures.valid in
+    let valid = c.valid.ensures in
     let few = few_answers c.args.scene.now c.args.answers.now valid c.requires in
     let is_small = small c.args.scene.now c.args.answers.now valid c.requires c.loop-answer.answer-index c.answer-item.result c.in-Some.route c.loop-answer-test.true c.answer-item.is c.in-Some.is in
     omega (arith, few, is_small)
@@ -18,11 +18,11 @@ overflow_add-summary-in-Some c =
 pub bends_of-requires : goal.bends_of-requires
 bends_of-requires c =
     subst IsOrthogonal (sym c.as_slice.ensures)
-    (small c.args.scene.now c.args.answers.now c.settings-settings.ensures.valid c.requires c.loop-answer.answer-index c.answer-item.result c.in-Some.route c.loop-answer-test.true c.answer-item.is c.in-Some.is).line
+    (small c.args.scene.now c.args.answers.now c.valid.ensures c.requires c.loop-answer.answer-index c.answer-item.result c.in-Some.route c.loop-answer-test.true c.answer-item.is c.in-Some.is).line
 
 pub overflow_add-summary-in-Some-2 : goal.overflow_add-summary-in-Some-2
 overflow_add-summary-in-Some-2 c =
-    let valid = c.settings-settings.ensures.valid in
+    let valid = c.valid.ensures in
     let few = few_answers c.args.scene.now c.args.answers.now valid c.requires in
     let is_small = small c.args.scene.now c.args.answers.now valid c.requires c.loop-answer.answer-index c.answer-item.result c.in-Some.route c.loop-answer-test.true c.answer-item.is c.in-Some.is in
     let short = is_small.line.corners.few in
@@ -40,7 +40,7 @@ loop-answer-preserved c =
     let so = c.loop-answer.invariant in
     elim c.match-answer.branch [
       | in-Some w ↦ (
-          let is_small = small c.args.scene.now answers c.settings-settings.ensures.valid c.requires i a w.in-Some.route h is w.in-Some.is in
+          let is_small = small c.args.scene.now answers c.valid.ensures c.requires i a w.in-Some.route h is w.in-Some.is in
           let bent = w.bends_of.ensures ∙ ap (λ ps. bends (steps_of ps)) w.as_slice.ensures in
           with_route answers searches i a m h is so w.in-Some.route c.match-answer.summary w.in-Some.is is_small
           (ap (λ (n : Summary). n.routed) w.summary-is) (ap (λ (n : Summary). n.unrouted) w.summary-is)
@@ -53,4 +53,4 @@ loop-answer-preserved c =
     ]
 
 pub returns : goal.returns
-returns c = sums_up c.args.scene.now c.args.answers.now c.settings-settings.ensures.valid c.requires c.loop-answer.answer-index c.args.searched c.loop-answer.summary c.loop-answer-test.false c.loop-answer.invariant
+returns c = sums_up c.args.scene.now c.args.answers.now c.valid.ensures c.requires c.loop-answer.answer-index c.args.searched c.loop-answer.summary c.loop-answer-test.false c.loop-answer.invariant

@@ -11,7 +11,7 @@ printed_lines-requires-clause-routes c =
     let session = c.args.session.now in
     subst (AreRoutesOf session.world.present) (sym c.deref.ensures.value)
     (subst (λ s. AreRoutesOf s c.in_ok-nudged.nudged.routes.items) c.scene-scene.ensures.scene
-    (lines_are_routes c.scene-scene.result.now session.book c.in_ok-nudged.nudged.routes.items c.settings-settings.ensures.valid c.scene-scene.ensures.right c.in_ok-nudged.ensures.edges))
+    (lines_are_routes c.scene-scene.result.now session.book c.in_ok-nudged.nudged.routes.items c.valid.ensures c.scene-scene.ensures.right c.in_ok-nudged.ensures.edges))
 
 pub printed_lines-requires-clause-lines : goal.printed_lines-requires-clause-lines
 printed_lines-requires-clause-lines c =

@@ -10,7 +10,7 @@ returns-then-is_at c = found_here (λ x. is_at c.args.place x.origin) c.args.sce
 
 pub overflow_add-index : goal.overflow_add-index
 overflow_add-index c =
-    let few = place_fits c.args.scene.now.edges c.loop-edge.index c.in-Some.edge.now 512 (sym c.in-Some.ensures) c.settings-settings.ensures.valid.few_edges in
+    let few = place_fits c.args.scene.now.edges c.loop-edge.index c.in-Some.edge.now 512 (sym c.in-Some.ensures) c.valid.ensures.few_edges in
     omega (arith, few)
 
 pub loop-edge-smaller : goal.loop-edge-smaller

@@ -9,12 +9,12 @@ use Rattle.gml_scene.proofs.tree.node_from.Goals as goal
 pub returns-then-is_at : goal.returns-then-is_at
 returns-then-is_at c = record {
   found = found_here (λ x. is_at c.args.place x.origin) c.args.scene.now.nodes c.loop-node.index c.in-Some.node.now c.loop-node.invariant (sym c.in-Some.ensures) (sym c.is_at.ensures ∙ c.if-is_at.true);
-  node = held_here IsNode c.args.scene.now.nodes c.loop-node.index c.in-Some.node.now c.settings-settings.ensures.valid.nodes (sym c.in-Some.ensures);
+  node = held_here IsNode c.args.scene.now.nodes c.loop-node.index c.in-Some.node.now c.valid.ensures.nodes (sym c.in-Some.ensures);
 }
 
 pub overflow_add-index : goal.overflow_add-index
 overflow_add-index c =
-    let few = place_fits c.args.scene.now.nodes c.loop-node.index c.in-Some.node.now 256 (sym c.in-Some.ensures) c.settings-settings.ensures.valid.few_nodes in
+    let few = place_fits c.args.scene.now.nodes c.loop-node.index c.in-Some.node.now 256 (sym c.in-Some.ensures) c.valid.ensures.few_nodes in
     omega (arith, few)
 
 pub loop-node-smaller : goal.loop-node-smaller

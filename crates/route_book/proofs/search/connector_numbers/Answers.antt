@@ -48,11 +48,11 @@ returns-clause-order c =
     let es : List Edge = c.args.scene.now.edges in
     let numbers : c.loop-edge.numbers.items ≡ map number_of (connectors c.args.scene.now) =
     c.loop-edge.invariant.0 ∙ ap (λ (ds : List Edge). map number_of (filter (λ d. not (is_loop d)) ds)) (take_all c.loop-edge.place es (past_end es c.loop-edge.place (sym c.in_default.ensures))) in
-    subst AreRising (sym numbers) (all_rising c.args.scene.now c.settings-settings.ensures.valid)
+    subst AreRising (sym numbers) (all_rising c.args.scene.now c.valid.ensures)
 
 pub returns-clause-connectors : goal.returns-clause-connectors
 returns-clause-connectors c =
     let es : List Edge = c.args.scene.now.edges in
     let numbers : c.loop-edge.numbers.items ≡ map number_of (connectors c.args.scene.now) =
     c.loop-edge.invariant.0 ∙ ap (λ (ds : List Edge). map number_of (filter (λ d. not (is_loop d)) ds)) (take_all c.loop-edge.place es (past_end es c.loop-edge.place (sym c.in_default.ensures))) in
-    subst (All (IsConnector c.args.scene.now)) (sym numbers) (all_connectors c.args.scene.now c.settings-settings.ensures.valid)
+    subst (All (IsConnector c.args.scene.now)) (sym numbers) (all_connectors c.args.scene.now c.valid.ensures)

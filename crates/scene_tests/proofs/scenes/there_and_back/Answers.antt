@@ -10,7 +10,7 @@ pub restore-requires : goal.restore-requires
 restore-requires c =
     let s = c.args.scene.now in
     let e = c.args.edit.now in
-    let valid = c.settings-settings.ensures.valid in
+    let valid = c.valid.ensures in
     let done = c.in_ok-edit.ensures in
     let back = takes_back e s valid done.0 in
     record {

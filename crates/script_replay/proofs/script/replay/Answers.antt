@@ -4,4 +4,4 @@ use Rattle.script_replay.proofs.Commits.{few_connectors}
 use Rattle.script_replay.proofs.script.replay.Goals as goal
 
 pub replies_to-requires-clause-few_searched : goal.replies_to-requires-clause-few_searched
-replies_to-requires-clause-few_searched g c κs within = omega (arith, few_connectors c.args.scene c.settings-settings.ensures.valid, c.in_ok-session.ensures.searched)
+replies_to-requires-clause-few_searched g c κs within = omega (arith, few_connectors c.args.scene c.valid.ensures, c.in_ok-session.ensures.searched)

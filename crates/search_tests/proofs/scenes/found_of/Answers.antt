@@ -32,8 +32,8 @@ of_connector s number floor task valid is there asks = by (edge_with s number) r
 
 pub found_on-requires-clause-task : goal.found_on-requires-clause-task
 found_on-requires-clause-task c =
-    (of_connector c.args.scene.now c.args.number c.in_ok-floor.floor c.in_ok-task.task c.settings-settings.ensures.valid c.in_ok-floor.ensures.floor c.requires c.in_ok-task.ensures.ok).is_task
+    (of_connector c.args.scene.now c.args.number c.in_ok-floor.floor c.in_ok-task.task c.valid.ensures c.in_ok-floor.ensures.floor c.requires c.in_ok-task.ensures.ok).is_task
 
 pub found_on-requires-clause-floor_of : goal.found_on-requires-clause-floor_of
 found_on-requires-clause-floor_of c =
-    (of_connector c.args.scene.now c.args.number c.in_ok-floor.floor c.in_ok-task.task c.settings-settings.ensures.valid c.in_ok-floor.ensures.floor c.requires c.in_ok-task.ensures.ok).floor_of
+    (of_connector c.args.scene.now c.args.number c.in_ok-floor.floor c.in_ok-task.task c.valid.ensures c.in_ok-floor.ensures.floor c.requires c.in_ok-task.ensures.ok).floor_of

@@ -12,7 +12,7 @@ use Rattle.gml_scene.proofs.tree.Change.push_new_edges.Goals as goal
 
 pub overflow_add-index : goal.overflow_add-index
 overflow_add-index c =
-    let few = place_fits c.args.self.now.scene.now.edges c.loop-edge.index c.in-Some.edge.now 512 (sym c.in-Some.ensures) c.settings-settings.ensures.valid.few_edges in
+    let few = place_fits c.args.self.now.scene.now.edges c.loop-edge.index c.in-Some.edge.now 512 (sym c.in-Some.ensures) c.valid.ensures.few_edges in
     omega (arith, few)
 
 pub loop-edge-smaller : goal.loop-edge-smaller

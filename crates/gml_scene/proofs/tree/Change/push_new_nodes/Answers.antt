@@ -11,11 +11,11 @@ use Rattle.gml_scene.proofs.Walks.{passed_more, passed_all}
 use Rattle.gml_scene.proofs.tree.Change.push_new_nodes.Goals as goal
 
 pub push_new_node-requires : goal.push_new_node-requires
-push_new_node-requires c = held_here IsNode c.args.self.now.scene.now.nodes c.loop-node.index c.in-Some.node.now c.settings-settings.ensures.valid.nodes (sym c.in-Some.ensures)
+push_new_node-requires c = held_here IsNode c.args.self.now.scene.now.nodes c.loop-node.index c.in-Some.node.now c.valid.ensures.nodes (sym c.in-Some.ensures)
 
 pub overflow_add-index : goal.overflow_add-index
 overflow_add-index c =
-    let few = place_fits c.args.self.now.scene.now.nodes c.loop-node.index c.in-Some.node.now 256 (sym c.in-Some.ensures) c.settings-settings.ensures.valid.few_nodes in
+    let few = place_fits c.args.self.now.scene.now.nodes c.loop-node.index c.in-Some.node.now 256 (sym c.in-Some.ensures) c.valid.ensures.few_nodes in
     omega (arith, few)
 
 pub loop-node-smaller : goal.loop-node-smaller

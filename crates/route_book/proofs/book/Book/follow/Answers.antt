@@ -42,4 +42,4 @@ returns-clause-there g c =
     let merged : AllZip (λ n a. newer found c.args.self.now n ≡ Some a) (map number_of (connectors new)) there =
     subst (λ (ns : List ℕ). AllZip (λ n a. newer found c.args.self.now n ≡ Some a) ns there) (c.deref-2.ensures.value ∙ c.in_ok-connectors.ensures.numbers)
     (subst (λ (kept : List Answer). AllZip (λ n a. newer found kept n ≡ Some a) c.deref-2.result.now there) c.self.view_is c.in_ok-there.ensures) in
-    merged_right old new c.args.self.now found numbers answers c.settings-settings.ensures.valid c.connector_numbers.ensures.valid c.requires.right c.in_ok-numbers.ensures there merged
+    merged_right old new c.args.self.now found numbers answers c.valid.ensures c.connector_numbers.ensures.valid c.requires.right c.in_ok-numbers.ensures there merged

@@ -10,7 +10,7 @@ use Rattle.route_session.proofs.session.Session.open.Goals as goal
 
 pub returns-clause-searched : goal.returns-clause-searched
 returns-clause-searched g c =
-    c.in_ok-book.ensures.tally ∙ ap (counted_by (length (connectors c.args.scene))) c.new-tally.ensures ∙ few_counted c.args.scene c.settings-settings.ensures.valid
+    c.in_ok-book.ensures.tally ∙ ap (counted_by (length (connectors c.args.scene))) c.new-tally.ensures ∙ few_counted c.args.scene c.valid.ensures
 
 pub returns-clause-written : goal.returns-clause-written
 returns-clause-written g c =
