@@ -7,7 +7,7 @@ use std::process::Abort;
 use std::test::Fail;
 use std::thread::Threads;
 
-/// Runs `check` of the bytes, which must end so and leave this output.
+/// Runs `check` of the bytes, which must end with the status and this output.
 fn check(
     rt: &(impl Abort + Threads + Sync),
     alloc: Global,
@@ -40,7 +40,7 @@ fn check_graph(
 const IN_A_ROW: &str = "node [ id 1 graphics [ x 0 y 0 w 20 h 20 ] ] \
     node [ id 2 graphics [ x 100 y 0 w 20 h 20 ] ] node [ id 3 graphics [ x 50 y 0 w 20 h 40 ] ]";
 
-/// From the first to the second of them through the third, and round it.
+/// From the first to the second of them through the third, and around it.
 const THROUGH: &str =
     "edge [ source 1 target 2 graphics [ Line [ point [ x 0 y 0 ] point [ x 100 y 0 ] ] ] ]";
 
@@ -61,7 +61,7 @@ pub(crate) const ORDINARY: &str =
     edge [ source 0 target 1\n  graphics [ fill \"#000000\" Line [ point [ x 0.0 y 0.0 ] point [ x 50.0 y 40.0 ] \
     point [ x 100.0 y 0.0 ] ] targetArrow \"standard\" ] ]\n]\n";
 
-/// Edges between the nodes in a row, how the check ends, and its output.
+/// Edges between the nodes in a row, the status of the check, and its output.
 const LINES: [(&str, Status, &str); 10] = [
     ("", Status::Done, ""),
     (ROUND, Status::Done, "edge 1: cost 248.000\n"),
@@ -152,7 +152,7 @@ fn checks_pins(rt: HostRuntime) -> Result<(), Fail> {
     Ok(())
 }
 
-/// Files that are no diagrams.
+/// Files that are not valid diagrams.
 const REFUSED: [(&str, &str); 13] = [
     ("", "diagram: NoGraph\n"),
     ("graph 1 # no list", "diagram: NoGraph\n"),
@@ -178,7 +178,7 @@ const REFUSED: [(&str, &str); 13] = [
     ),
 ];
 
-/// What stands behind the nodes in a row in a file that is no diagram.
+/// The text after the nodes in a row in a file that is not a valid diagram.
 const REFUSED_BEHIND: [(&str, &str); 9] = [
     ("node [ id 3 ]", "diagram: SameId node 4\n"),
     (
@@ -230,7 +230,7 @@ fn refuses_nodes_and_edges(rt: HostRuntime) -> Result<(), Fail> {
     Ok(())
 }
 
-/// A text so many times, between two others, and what is said of it.
+/// A text repeated between two others, and the expected output.
 #[derive(Clone, Copy)]
 struct Repetition<'a> {
     front: &'a str,
@@ -328,7 +328,7 @@ fn push_nodes(file: &mut String, count: u16) -> Result<(), AllocError> {
     Ok(())
 }
 
-/// One node more than there may be.
+/// One node more than the limit.
 fn too_many_nodes(alloc: Global) -> Result<String, AllocError> {
     let mut file = String::from_str(alloc, "graph [")?;
     push_nodes(&mut file, 257)?;
@@ -355,7 +355,7 @@ fn push_loops(file: &mut String) -> Result<(), AllocError> {
     Ok(())
 }
 
-/// As many nodes and edges as there may be, and of the last edges one drawn through many equal points.
+/// The greatest numbers of nodes and edges, the last edges drawn through many equal points.
 fn large_diagram(alloc: Global) -> Result<String, AllocError> {
     let mut file = String::from_str(alloc, "graph [")?;
     push_nodes(&mut file, 256)?;

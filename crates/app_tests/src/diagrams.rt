@@ -1,7 +1,7 @@
-//! Worked diagrams with scripts, and what `route` must write for them with the numbers of searches, which was worked
-//! out apart from this program.
+//! Worked diagrams with scripts, and what `route` must write for them with the numbers of searches,
+//! which was worked out independently of this program.
 
-/// Within the cost of the route lies a box that moves.
+/// A box that moves lies within the cost of the route.
 pub(crate) const AT_THE_BOUND_SCRIPT: &str =
     "begin, node 1 0 0 20 20, node 2 100 0 20 20, node 3 50 0 20 40, edge 1 2 0 0, node 4 50 -88 20 20, commit, \
     begin, move 4 50 -500, commit";
@@ -58,7 +58,7 @@ pub(crate) const CHEAP_PIN_OUT: &str =
     w 20 h 20 ] ] edge [ source 1 target 2 sourcePin 1 graphics [ Line [ point [ x 10.000 y 0.000 ] point [ x \
     100.000 y 0.000 ] ] ] ] ]";
 
-/// One that costs as much as the way round, which has more runs.
+/// A pin that costs as much as the way around, which has more runs.
 pub(crate) const EVEN_PIN_DIAGRAM: &str =
     "graph [ node [ id 1 graphics [ x 0 y 0 w 20 h 20 ] pin [ class 1 x 10 y 0 dirs \"E\" cost 148 ] pin [ class \
     1 x 0 y -10 dirs \"N\" cost 20 ] ] node [ id 2 graphics [ x 100 y 0 w 20 h 20 ] ] edge [ source 1 target 2 \
@@ -70,7 +70,7 @@ pub(crate) const EVEN_PIN_OUT: &str =
     w 20 h 20 ] ] edge [ source 1 target 2 sourcePin 1 graphics [ Line [ point [ x 10.000 y 0.000 ] point [ x \
     100.000 y 0.000 ] ] ] ] ]";
 
-/// One that costs a thousandth more.
+/// A pin that costs one thousandth more.
 pub(crate) const DEAR_PIN_DIAGRAM: &str =
     "graph [ node [ id 1 graphics [ x 0 y 0 w 20 h 20 ] pin [ class 1 x 10 y 0 dirs \"E\" cost 148.001 ] pin [ \
     class 1 x 0 y -10 dirs \"N\" cost 20 ] ] node [ id 2 graphics [ x 100 y 0 w 20 h 20 ] ] edge [ source 1 \
@@ -110,7 +110,7 @@ pub(crate) const PIN_PAST_THE_BOUND_OUT: &str =
     graphics [ x 100 y 0 w 20 h 20 ] ] node [ id 3 graphics [ x 50 y -500.000 w 20 h 20 ] ] edge [ source 1 \
     target 2 sourcePin 1 graphics [ Line [ point [ x 10.000 y 0.000 ] point [ x 100.000 y 0.000 ] ] ] ] ]";
 
-/// Two ways of one cost along one line, of which the shorter one stands first.
+/// Two ways of one cost along one line; the shorter one comes first.
 pub(crate) const SHORTER_DIAGRAM: &str =
     "graph [ node [ id 1 graphics [ x 0 y 0 w 20 h 20 ] ] node [ id 2 graphics [ x 100 y 0 w 20 h 20 ] pin [ \
     class 1 x -10 y 0 dirs \"W\" cost 5 ] pin [ class 1 x -5 y 0 dirs \"W\" ] ] edge [ source 1 target 2 \

@@ -1,11 +1,12 @@
-//! Faults of the outside, files that are missing or too long, words of no form, and the codes of all ends.
+//! Faults of the outside, files that are missing or too long, invalid arguments, and the exit codes
+//! of all statuses.
 
 use crate::rows;
 use crate::runs::{Row, Wanted, run_row, whole_row};
 use reroute_app::Status;
 use std::test::Fail;
 
-/// Three nodes in a row, and an edge that leads round one of them.
+/// Three nodes in a row, and an edge that leads around one of them.
 const ROUND: &[u8] = b"graph [ node [ id 1 graphics [ x 0 y 0 w 20 h 20 ] ] \
     node [ id 2 graphics [ x 100 y 0 w 20 h 20 ] ] node [ id 3 graphics [ x 50 y 0 w 20 h 40 ] ] \
     edge [ source 1 target 2 graphics [ Line [ \
@@ -76,7 +77,7 @@ fn meets_faults_at_routes(rt: HostRuntime) -> Result<(), Fail> {
             ..whole_row("route|d.gml|s.txt", Status::WriteFault, "")
         },
         whole_row("make|1", Status::Done, rows::MADE_OUT),
-        // Behind a diagram that is refused no script is read.
+        // After a diagram that is refused no script is read.
         Row {
             diagram: b"",
             failing_read: 2,
@@ -129,7 +130,7 @@ fn tells_missing_files(rt: HostRuntime) -> Result<(), Fail> {
     Ok(())
 }
 
-/// Words of no form.
+/// Invalid arguments.
 const OTHER_WORDS: [&str; 11] = [
     "",
     "check",
@@ -186,7 +187,7 @@ fn refuses_long_scripts(rt: HostRuntime) -> Result<(), Fail> {
     Ok(())
 }
 
-/// Each end, with the exit status for it.
+/// Each status, with its exit status.
 const CODES: [(Status, u8); 9] = [
     (Status::Done, 0),
     (Status::Refused, 1),

@@ -1,4 +1,5 @@
-//! Gates that count the pieces of searches that pass, or hold one until the next has passed; and runs by them.
+//! Gates that count the pieces of searches that pass, or delay one until the next has passed; and
+//! runs with them.
 
 use crate::rows;
 use crate::runs::{Row, route_row, run_row_gated};
@@ -21,10 +22,10 @@ impl Gate for Counts {
     }
 }
 
-/// For how many turns piece 1 is held at most.
+/// The greatest number of turns for which piece 1 is delayed.
 const MOST_TURNS: u32 = 100_000_000;
 
-/// Holds piece 1 until piece 2 has passed.
+/// Delays piece 1 until piece 2 has passed.
 #[derive(Drop)]
 struct Holds {
     second: AtomicBool,

@@ -1,21 +1,22 @@
-//! Diagrams of as many boxes and edges as there may be, and a long script, with all that `route` must write for them.
+//! Diagrams with the greatest numbers of boxes and edges, and a long script, with all that `route`
+//! must write for them.
 
 use crate::runs::{Row, run_row, whole_row};
 use reroute_app::Status;
 use std::alloc::{AllocError, Global};
 use std::test::Fail;
 
-/// Groups of four boxes, one group below the other, with 512 edges in all. From the first box of a group to the second
-/// lead so many equal edges, and the third stands between the two.
+/// Groups of four boxes, one group below the other, with 512 edges in all. A number of equal edges
+/// lead from the first box of a group to the second, and the third is between the two.
 #[derive(Clone, Copy)]
 struct Groups {
     count: u16,
     edges: u16,
-    /// Whether the third box of the first group stands aside at the end.
+    /// Whether the third box of the first group is aside at the end.
     is_moved: bool,
 }
 
-/// The boxes of a group, each by its place and where it stands.
+/// The boxes of a group, each by its place and its centre.
 const BOXES: [(u16, u16); 4] = [(1, 0), (2, 100), (3, 50), (4, 300)];
 
 /// The number of a box, by its group and its place there.
@@ -59,7 +60,8 @@ fn diagram(alloc: Global, groups: Groups) -> Result<String, AllocError> {
     Ok(file)
 }
 
-/// The costs of the edges, which are straight only where nothing stands between the boxes of their group.
+/// The costs of the edges, which are straight only if there is nothing between the boxes of their
+/// group.
 fn push_costs(output: &mut String, groups: Groups) -> Result<(), AllocError> {
     for edge in 1..513u32 {
         let is_straight = groups.is_moved && edge <= u32::from(groups.edges);
@@ -128,10 +130,10 @@ fn output(alloc: Global, groups: Groups, searches: &str) -> Result<String, Alloc
     Ok(output)
 }
 
-/// The words of a run by four workers.
+/// The arguments of a run with four workers.
 const WORDS: &str = "route|--workers|4|d.gml|s.txt|--count";
 
-/// 256 boxes and 512 edges, of which eight lead round a box that moves.
+/// 256 boxes and 512 edges, of which eight lead around a box that moves.
 #[test]
 fn routes_many_boxes(rt: HostRuntime) -> Result<(), Fail> {
     let groups = Groups {
@@ -153,7 +155,7 @@ fn routes_many_boxes(rt: HostRuntime) -> Result<(), Fail> {
     Ok(())
 }
 
-/// 512 edges round one box, which moves.
+/// 512 edges around one box, which moves.
 #[test]
 fn routes_many_edges(rt: HostRuntime) -> Result<(), Fail> {
     let groups = Groups {

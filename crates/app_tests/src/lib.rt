@@ -1,4 +1,4 @@
-//! Tests of the replays, the reports and the program's runs: their rows, asked through public calls alone.
+//! Tests of the replays, the reports and the program's runs: rows that use only public calls.
 #![tactic(auto)]
 
 #[cfg(test)]

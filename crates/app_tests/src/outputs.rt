@@ -17,7 +17,7 @@ use std::process::Abort;
 use std::test::Fail;
 use std::thread::Threads;
 
-/// What is given beside the empty diagram, and what must come of it.
+/// The input beside the empty diagram, and the expected result.
 #[derive(Clone, Copy)]
 struct Row<'a> {
     script: &'a str,
@@ -70,7 +70,7 @@ fn document(alloc: Global, text: &str) -> Option<Doc>
     parse(alloc, text.as_bytes()).ok()
 }
 
-/// Compares what came of the row's script with what the row says.
+/// Compares the result of the row's script with the row.
 fn judge(rt: &impl Abort, alloc: Global, row: &Row, routing: &Routing) -> Option<()> {
     let text = spaced(alloc, &routing.text).ok()?;
     let wanted = spaced(alloc, row.output.as_bytes()).ok()?;

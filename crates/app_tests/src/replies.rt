@@ -103,8 +103,8 @@ fn at(line: u64, reply: Reply) -> LineReply {
     LineReply { line, reply }
 }
 
-/// Replays the commands on the small scene, which must lead to these replies. It answers whether a transaction is open
-/// at the end, and the number of searches.
+/// Replays the commands on the small scene, which must lead to these replies. It returns whether a
+/// transaction is open at the end, and the number of searches.
 fn replayed(
     rt: &(impl Abort + Threads + Sync),
     alloc: Global,

@@ -61,7 +61,7 @@ fn push_transactions(script: &mut String) -> Result<(), AllocError> {
     Ok(())
 }
 
-/// 101 transactions that put a node in, and 101 times `undo`.
+/// 101 transactions that each add a node, and 101 times `undo`.
 fn many_undone(alloc: Global) -> Result<String, AllocError> {
     let mut script = String::new(alloc);
     push_transactions(&mut script)?;

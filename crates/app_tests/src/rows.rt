@@ -1,5 +1,5 @@
-//! Worked scripts, their lines parted by commas, and what `route` must write for them, which was worked out apart from
-//! this program.
+//! Worked scripts, with commas between their lines, and what `route` must write for them, which was
+//! worked out independently of this program.
 
 /// Straight.
 pub(crate) const STRAIGHT: &str =
@@ -44,7 +44,7 @@ graph [
 ]
 ";
 
-/// Round a box.
+/// Around a box.
 pub(crate) const ROUND_A_BOX: &str =
     "begin, node 1 0 0 20 20, node 2 100 0 20 20, node 3 50 0 20 40, edge 1 2 0 0, commit";
 
@@ -114,7 +114,7 @@ pub(crate) const STUB_OUT: &str =
     10.000 y 0.000 dirs \"W\" ] ] node [ id 2 graphics [ x -100.000 y 0.000 w 20.000 h 20.000 ] ] edge [ source 1 \
     target 2 sourcePin 1 graphics [ Line [ point [ x 10.000 y 0.000 ] point [ x -100.000 y 0.000 ] ] ] ] ]";
 
-/// Of two routes that are alike the one with the first choice.
+/// Of two equal routes the one with the first choice.
 pub(crate) const CORNER: &str =
     "begin, node 1 0 0 20 20, node 2 100 100 20 20, edge 1 2 0 0, commit";
 
@@ -200,7 +200,7 @@ pub(crate) const UNFINISHED: &str = "begin, node 1 0 0 20 20, node 2 100 0 20 20
 
 pub(crate) const UNFINISHED_OUT: &str = "# end: X16 Unfinished\ngraph [\n]\n";
 
-/// What is left of 101 nodes, each put in by a transaction, after 101 times `undo`.
+/// What is left of 101 nodes, each added by a transaction, after 101 times `undo`.
 pub(crate) const MANY_UNDONE_OUT: &str =
     "# line 404: X14 NothingToUndo graph [ node [ id 1 graphics [ x 100.000 y 0.000 w 20.000 h 20.000 ] ] ]";
 
@@ -213,6 +213,6 @@ pub(crate) const ORDINARY_OUT: &str =
     1 graphics [ fill \"#000000\" Line [ point [ x 0.000 y 0.123 ] point [ x 100.000 y 0.123 ] ] targetArrow \
     \"standard\" ] ] ]";
 
-/// The summary of what is made from 1.
+/// The summary of what is generated from seed 1.
 pub(crate) const MADE_OUT: &str =
     "nodes 36\nedges 48\nrouted 48\nno route 0\ncost 44735.000\nbends 86\nsearched 206\n";

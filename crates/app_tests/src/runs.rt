@@ -1,4 +1,4 @@
-//! One run of the program on files in memory: a row has all that it is given, and what it must leave.
+//! One run of the program on files in memory: a row has its whole input, and the expected result.
 
 use crate::texts::{lines_of, spaced};
 use host_edge::{MemFolder, MemSink, NamedFile};
@@ -10,27 +10,27 @@ use std::process::Abort;
 use std::test::Fail;
 use std::thread::Threads;
 
-/// What a sink must hold at the end.
+/// The expected contents of a sink at the end.
 #[derive(Clone, Copy)]
 pub(crate) enum Wanted<'a> {
     /// These bytes.
     Bytes(&'a str),
-    /// These words, whatever parts them.
+    /// These words, whatever separates them.
     Words(&'a str),
 }
 
-/// What a run is given, and what it must leave.
+/// The input of a run, and its expected result.
 #[derive(Clone, Copy)]
 pub(crate) struct Row<'a> {
-    /// The words, parted by bars.
+    /// The arguments, separated by bars.
     pub(crate) words: &'a str,
     /// The file `d.gml`.
     pub(crate) diagram: &'a [u8],
-    /// The lines of the file `s.txt`, parted by commas.
+    /// The lines of the file `s.txt`, separated by commas.
     pub(crate) script: &'a [u8],
     /// The number of the read that fails, or 0.
     pub(crate) failing_read: u64,
-    /// How many bytes the sink takes at most in a call.
+    /// The greatest number of bytes that the sink takes in a call.
     pub(crate) most: usize,
     /// The number of the write that fails, or 0.
     pub(crate) failing_write: u64,
@@ -38,7 +38,7 @@ pub(crate) struct Row<'a> {
     pub(crate) wanted: Wanted<'a>,
 }
 
-/// A run with these words on an empty diagram, which must end so and leave these bytes.
+/// A run with these arguments on an empty diagram, with the expected status and bytes.
 pub(crate) fn whole_row<'a>(words: &'a str, status: Status, output: &'a str) -> Row<'a> {
     Row {
         words,
@@ -52,7 +52,7 @@ pub(crate) fn whole_row<'a>(words: &'a str, status: Status, output: &'a str) -> 
     }
 }
 
-/// A run of `route`, which must leave these words.
+/// A run of `route`, with the expected words.
 pub(crate) fn route_row<'a>(
     diagram: &'a str,
     script: &'a str,
@@ -99,7 +99,7 @@ fn sink(alloc: Global, row: &Row) -> Result<MemSink, AllocError> {
     Ok(MemSink::new(alloc, row.most.max(1), fails))
 }
 
-/// Compares what a run left with what the row says.
+/// Compares the result of a run with the row.
 fn judge(
     rt: &impl Abort,
     alloc: Global,
@@ -148,7 +148,7 @@ fn run_in_folder<G: Gate>(
     run_into_sink(rt, alloc, row, gate, words, &mut folder, tally)
 }
 
-/// Does the row by this gate, or by none. It answers how many searches were made.
+/// Runs the row with this gate, or with none. It returns the number of searches.
 pub(crate) fn run_row_gated<G: Gate>(
     rt: &(impl Abort + Threads + Sync),
     alloc: Global,
@@ -161,7 +161,7 @@ pub(crate) fn run_row_gated<G: Gate>(
     judged.map(|_| tally.count())
 }
 
-/// Does the row.
+/// Runs the row.
 pub(crate) fn run_row(
     rt: &(impl Abort + Threads + Sync),
     alloc: Global,

@@ -1,4 +1,4 @@
-//! What comes of some numbers, as an independent program finds it.
+//! The results for some seeds, as an independent program computes them.
 
 use form_make::{make, seeds_come_to_one};
 use par_route::OpenGate;
@@ -26,7 +26,7 @@ const ROWS: [(u64, &str, u64); 3] = [
     ),
 ];
 
-/// Makes the seed, which must leave this text after so many searches.
+/// Runs `make` with the seed, which must print this text after this number of searches.
 fn make_row(
     rt: &(impl Abort + Threads + Sync),
     alloc: Global,

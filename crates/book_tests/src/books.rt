@@ -23,25 +23,25 @@ struct Place {
     group: bool,
 }
 
-/// What else a scene has.
+/// The other properties of a scene.
 #[derive(Clone, Copy, PartialEq, Eq)]
 enum Extra {
     None,
     /// The connector begins at the two pins of node 1, which differ in cost.
     Pins,
-    /// It goes by a checkpoint.
+    /// It passes a checkpoint.
     Via,
-    /// A bend costs a thousandth more.
+    /// A bend costs one thousandth more.
     Penalty,
-    /// Solids reach a thousandth further.
+    /// Solids extend one thousandth further.
     Buffer,
 }
 
-/// The boxes of a scene with a connector from node 1 to node 2, and what else it has.
+/// The boxes of a scene with a connector from node 1 to node 2, and its other properties.
 #[derive(Clone, Copy)]
 struct Plan(&'static [Place], Extra);
 
-/// Two scenes, whether the connector is stale between them, and what its routes cost in them.
+/// Two scenes, whether the connector is stale between them, and the costs of its routes in them.
 #[derive(Clone, Copy)]
 struct Row {
     old: Plan,
@@ -195,7 +195,7 @@ const BAR: Place = Place {
 };
 
 const ROWS: [Row; 17] = [
-    // Reach is the cost.
+    // The reach equals the cost.
     Row {
         old: Plan(&[SOURCE, TARGET, WALL, NEAR], Extra::None),
         new: Plan(&[SOURCE, TARGET, WALL, FAR], Extra::None),
@@ -209,7 +209,7 @@ const ROWS: [Row; 17] = [
         is_stale: false,
         costs: [Some(248_000), Some(248_000)],
     },
-    // With the costs of the pins it is the cost.
+    // With the costs of the pins it equals the cost.
     Row {
         old: Plan(&[SOURCE, TARGET, ABOVE], Extra::Pins),
         new: Plan(&[SOURCE, TARGET, WAY_ABOVE], Extra::Pins),
@@ -274,7 +274,7 @@ const ROWS: [Row; 17] = [
         is_stale: true,
         costs: [Some(150_000), Some(100_000)],
     },
-    // It has no route, and a box goes or comes.
+    // It has no route, and a box is removed or added.
     Row {
         old: Plan(&[SOURCE, TARGET, COVER, APART], Extra::None),
         new: Plan(&[SOURCE, TARGET, COVER], Extra::None),
@@ -287,14 +287,14 @@ const ROWS: [Row; 17] = [
         is_stale: false,
         costs: [None, None],
     },
-    // The box in the way goes.
+    // The box in the way is removed.
     Row {
         old: Plan(&[SOURCE, TARGET, WALL], Extra::None),
         new: Plan(&[SOURCE, TARGET], Extra::None),
         is_stale: true,
         costs: [Some(248_000), Some(100_000)],
     },
-    // A box comes on the route, or elsewhere.
+    // A box is added on the route, or elsewhere.
     Row {
         old: Plan(&[SOURCE, TARGET, WALL], Extra::None),
         new: Plan(&[SOURCE, TARGET, WALL, BAR], Extra::None),
@@ -325,7 +325,7 @@ const NORTH: Pin = Pin {
     cost: 20_000,
 };
 
-/// The pins of node 1, where it has some.
+/// The pins of node 1, if it has some.
 fn pins(alloc: Global, id: i64, extra: Extra) -> Result<Pins, AllocError>
     ensures { IfOk result (All IsLoadablePin) }
 {
@@ -362,7 +362,7 @@ fn add_extra(scene: &mut Scene, extra: Extra) -> Result<(), SceneFault> {
     }
 }
 
-/// Puts what the plan has into the scene.
+/// Loads the plan into the scene.
 fn fill(alloc: Global, scene: &mut Scene, plan: Plan) -> Result<(), SceneFault> {
     let Plan(places, extra) = plan;
     for place in places {
@@ -394,7 +394,7 @@ fn opened<R: Threads + Sync>(
     Book::build(rt, alloc, scene, &graph, 2, &OpenGate, tally)
 }
 
-/// What is to be exchanged between the scenes.
+/// The exchange of answers between the scenes.
 fn followed<R: Threads + Sync>(
     rt: &R,
     alloc: Global,
@@ -411,7 +411,7 @@ fn followed<R: Threads + Sync>(
     book.follow(rt, old, new, &graph, 2, &OpenGate, tally)
 }
 
-/// What the route of edge 1 costs.
+/// The cost of the route of edge 1.
 fn cost(book: &Book) -> Option<u64> {
     let answer = book.answer(1)?;
     let route = answer.route.as_ref()?;
@@ -424,7 +424,7 @@ fn copied_cost(book: &Book) -> Result<Option<u64>, AllocError> {
     Ok(cost(&copy))
 }
 
-/// How many connectors are stale.
+/// The number of stale connectors.
 fn count_stale(book: &Book, old: &Scene, new: &Scene) -> Result<usize, AllocError>
     requires { AreAnswers old.now book.now }
 {
@@ -432,7 +432,7 @@ fn count_stale(book: &Book, old: &Scene, new: &Scene) -> Result<usize, AllocErro
     Ok(stale.len())
 }
 
-/// What the route costs after an exchange, and after a second one.
+/// The cost of the route after an exchange, and after a second one.
 fn exchanged(book: &mut Book, changes: &mut Changes) -> Result<[Option<u64>; 2], AllocError>
     requires { book.old ≡ changes.old.here }
 {
@@ -442,8 +442,8 @@ fn exchanged(book: &mut Book, changes: &mut Changes) -> Result<[Option<u64>; 2],
     Ok([after?, cost(book)])
 }
 
-/// What comes of a row: how many connectors are stale, how many searches were made, and the costs of the route
-/// before, after an exchange, and after a second one.
+/// The result of a row: the number of stale connectors, the number of searches, and the costs of
+/// the route before, after an exchange, and after a second one.
 #[derive(Clone, Copy, Debug, PartialEq, Eq)]
 struct Outcome {
     stale: usize,
@@ -451,7 +451,7 @@ struct Outcome {
     costs: [Option<u64>; 3],
 }
 
-/// What comes of the book of the old scene.
+/// The result for the book of the old scene.
 fn told_of<R: Threads + Sync>(
     rt: &R,
     alloc: Global,
@@ -473,7 +473,7 @@ fn told_of<R: Threads + Sync>(
     })
 }
 
-/// What comes of a book between the scenes.
+/// The result for a book between the scenes.
 fn told<R: Threads + Sync>(
     rt: &R,
     alloc: Global,
@@ -485,7 +485,7 @@ fn told<R: Threads + Sync>(
     told_of(rt, alloc, &mut book, old, new, &mut tally)
 }
 
-/// Fills both scenes, and tells what comes of the row.
+/// Loads both scenes, and returns the result of the row.
 fn filled<R: Threads + Sync>(
     rt: &R,
     alloc: Global,
@@ -498,7 +498,7 @@ fn filled<R: Threads + Sync>(
     told(rt, alloc, old, new).map_err(|_| SceneFault::Memory)
 }
 
-/// What comes of a row.
+/// The result of a row.
 fn row_told<R: Threads + Sync>(rt: &R, alloc: Global, row: Row) -> Result<Outcome, SceneFault> {
     let mut old = Scene::new(alloc);
     let mut new = Scene::new(alloc);

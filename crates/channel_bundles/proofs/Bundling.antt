@@ -1,4 +1,4 @@
--- Each bundle that is made may be handed on.
+-- Each bundle that is built is accepted by a solver.
 use Rattle.std.proofs.Common.{◌≡◌, ℕ, suc, zero, ◌+◌, ◌<◌, ◌≤◌, ℤ, ◌≤ℤ◌, Bool, Option, Some, None, List, [], ◌∷◌, ◌++◌, map, length, get_or, sym, ap, subst, ◌∙◌, arith}
 use Rattle.std.specs.Prelude.{All}
 use Rattle.std.proofs.lemmas.Int.{ints}
@@ -88,7 +88,7 @@ chosen_rising members places rise within rising =
           (rising.rise (get_or places i 0) (get_or places j 0) (above i j before in_j) (All-get_or (λ k. k < length members) places j 0 in_j within)));
     }
 
--- the bundles of the first classes, so many
+-- the bundles of the first i classes
 pub record IsBundling (nudge : ℤ) (members : List Member) (classes : List (List ℕ)) (found : List RunBundle) (i : ℕ) : Type 0 where
   pub count : length found ≡ i
   pub each : (k : ℕ) (d : RunBundle) → k < i → IsBundleOf nudge (members_at members (get_or classes k [])) (get_or found k d)

@@ -83,7 +83,7 @@ more_routes way routes i route pairs made h e so is_made =
     is_made ∙ ap (λ xs. xs ++ own) so ∙ ap (λ xs. runs_of_way way (take i routes) ++ xs) (sym (append-nil own)) ∙ sym (runs_of_way-append way (take i routes) (route ∷ []))
     ∙ ap (runs_of_way way) (ap (λ r. take i routes ++ r ∷ []) e ∙ sym (take_more routes i route h))
 
--- what the run's maker says of it is what is known of the run in its place
+-- what the function says of the run is what is known of the run in its place
 pub is_placed : (solids : List Solid) (route : PhaseRoute) (k : ℕ) (m : Member) → IsPhaseRoute route → k < length route.runs.items → m.run ≡ run_at route.runs.items k → (IsTrue m.fixed ↔ IsFixed route k) →
     HasLimits solids route k m.low m.high → m.weight ≡ route.weight → IsStanding solids (record { route = route; member = m })
 is_placed solids route k m good h own fixed limits weight =

@@ -18,7 +18,7 @@ lowered low high at m z is = (
   λ both. (both.0.0, omega (arith, ints, clamps, is, both.0.1, both.1)),
 )
 
--- the second condition may be replaced by one that says the same
+-- the second condition may be replaced by an equivalent one
 pub same_when : {A B C D : Type 0} → (A ↔ (B × C)) → (B → C ↔ D) → A ↔ (B × D)
 same_when {A} {B} {C} {D} is same = (λ a. let both = is.0 a in (both.0, (same both.0).0 both.1), λ both. is.1 (both.0, (same both.0).1 both.1))
 

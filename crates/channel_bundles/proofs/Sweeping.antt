@@ -21,7 +21,7 @@ kept_when_along {A} {B} {S} {P} {Q} is sweeps along = (
   λ both. is.1 (both.0, λ p. both.1 (sweeps.1 (p, along))),
 )
 
--- else it sweeps nothing
+-- otherwise it sweeps nothing
 pub kept_when_not_along : {B S P Q : Type 0} → (S ↔ (P × Q)) → (Q → ⊥) → B ↔ (B × (S → ⊥))
 kept_when_not_along {B} {S} {P} {Q} sweeps not_along = (λ b. (b, λ s. not_along (sweeps.0 s).1), λ both. both.0)
 

@@ -68,7 +68,7 @@ turned : (above : List ℕ) (a b i j : ℕ) → LeadsUpOr above a b i j → Conn
 turned above a b i j (inl l) = connected_link i j (inl l)
 turned above a b i j (inr (e, f)) = connected_back j i (connected_link j i (inr (f, e)))
 
--- the pair may be named the other way round
+-- the pair may be named the other way around
 pub exchanged : (old : List ℕ) (a b : ℕ) (above : List ℕ) (low high : ℕ) → IsJoining old a b above low high → IsJoining old a b above high low
 exchanged old a b above low high is = record {
   forest = is.forest;

@@ -17,7 +17,7 @@ pub record Standing : Type 0 where
   pub route : PhaseRoute
   pub member : Member
 
--- what is known of the run of the route is so
+-- the data of the run of the route are right
 pub record IsStanding (solids : List Solid) (s : Standing) : Type 0 where
   pub fixed : IsTrue s.member.fixed ↔ IsFixed s.route (s.member.run.place - 1)
   pub limits : HasLimits solids s.route (s.member.run.place - 1) s.member.low s.member.high
@@ -33,11 +33,11 @@ pub record AreInOrder (solids : List Solid) (routes : List PhaseRoute) (way : Wa
 abbrev pub members_of : List Standing → List Member
 members_of all = map (λ s. s.member) all
 
--- the runs at the places
+-- the runs at the given places
 abbrev pub members_at : List Member → List ℕ → List Member
 members_at members places = map (member_at members) places
 
--- the bundle has these runs, and as its rules their links
+-- the bundle has these runs, and their links as its rules
 pub record IsBundleOf (nudge : ℤ) (ms : List Member) (b : RunBundle) : Type 0 where
   pub items : b.bundle.items.items ≡ map item_of ms
   pub rules : b.bundle.rules.items ≡ rules_after nudge 0 ms

@@ -1,7 +1,7 @@
 -- Numbers that links join, and the classes of them.
 use Rattle.std.specs.Prelude.{◌≡◌, ◌↔◌, ◌⊎◌, ℕ, ◌<◌, ◌≤◌, List, map, length, All, slice_index, Contains, EachIndex}
 
--- links lead from the one number to the other, each forward or back
+-- links lead from the first number to the second, each forward or back
 pub data Connected (linked : ℕ → ℕ → Type 0) : ℕ → ℕ → Type 0 where
   same : (i : ℕ) → Connected linked i i
   onward : (i j k : ℕ) → Connected linked i j → linked j k → Connected linked i k
@@ -20,11 +20,11 @@ pub record AreClasses (connected : ℕ → ℕ → Type 0) (count : ℕ) (classe
   pub whole : (i : ℕ) → i < count → (places : List ℕ) × Contains classes places × Contains places i
   pub linked : (places : List ℕ) (i j : ℕ) → Contains classes places → Contains places i → j < count → (Contains places j ↔ connected i j)
 
--- a forest by what stands above each number: itself, or a smaller one
+-- a forest, given by the number above each number: itself, or a smaller one
 abbrev pub IsForest : List ℕ → Type 0
 IsForest above = EachIndex above (λ k. slice_index above k ≤ k)
 
--- the second number stands above the first
+-- the second number is above the first
 abbrev pub LeadsUp : List ℕ → ℕ → ℕ → Type 0
 LeadsUp above i j = (i < length above) × (slice_index above i ≡ j)
 
@@ -32,7 +32,7 @@ LeadsUp above i j = (i < length above) × (slice_index above i ≡ j)
 abbrev pub LeadsUpOr : List ℕ → ℕ → ℕ → ℕ → ℕ → Type 0
 LeadsUpOr above a b i j = LeadsUp above i j ⊎ ((i ≡ a) × (j ≡ b))
 
--- what stands above a number is connected to it by the links
+-- the number above a number is connected to it by the links
 abbrev pub FollowsLinks : (ℕ → ℕ → Type 0) → List ℕ → Type 0
 FollowsLinks linked above = (i j : ℕ) → LeadsUp above i j → Connected linked i j
 

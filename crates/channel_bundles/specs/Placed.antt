@@ -1,4 +1,4 @@
--- What the list of runs holds while it is made. No public clause cites this module.
+-- The list of runs while it is built. No public clause cites this module.
 use Rattle.std.specs.Prelude.{ℕ, ◌<◌, ◌≤◌, ◌≤ℤ◌, List, map, length}
 use Rattle.plane_geom.specs.declared.rect.Solid.{Solid}
 use Rattle.segment_order.specs.declared.run.Run.{Run}
@@ -13,7 +13,7 @@ use Rattle.channel_bundles.specs.Bundles.{Standing, IsStanding}
 abbrev pub standing_of : Placed → Standing
 standing_of p = record { route = p.route.now; member = p.member }
 
--- by what it is ordered
+-- the keys by which it is ordered
 abbrev pub key_of_placed : Placed → Key
 key_of_placed p = key_of p.route.now.runs.items p.member.run
 
@@ -23,7 +23,7 @@ standings_of placed = map standing_of placed
 abbrev pub pairs_of : List Placed → List (PhaseRoute × Run)
 pairs_of placed = map (λ s. (s.route, s.member.run)) (standings_of placed)
 
--- what is known of the run is so, and it may be handed on as an item
+-- the data of the run are right, and it is accepted as an item
 pub record IsPlaced (solids : List Solid) (p : Placed) : Type 0 where
   pub standing : IsStanding solids (standing_of p)
   pub member : IsMember p.member

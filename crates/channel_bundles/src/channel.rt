@@ -40,7 +40,7 @@ impl Placed<'_> {
     ghost use Rattle.segment_order.specs.Order.{compare_keys};
     ghost use Rattle.channel_bundles.specs.Placed.{key_of_placed};
 
-    /// The order on the line.
+    /// Compares two runs by their order on the line.
     fn compare(&self, other: &Placed<'_>) -> Ordering
         ensures { result ≡ compare_keys (key_of_placed self.now) (key_of_placed other.now) }
     {
@@ -53,7 +53,7 @@ impl Placed<'_> {
     }
 }
 
-/// Adds the route's runs of the way.
+/// Appends the route's runs of the way.
 fn add_runs<'a>(
     placed: &mut Vec<Placed<'a>>,
     solids: &[Solid],
@@ -158,7 +158,7 @@ fn bundle_of(alloc: Global, members: &[Member], nudge: i64) -> Result<RunBundle,
     })
 }
 
-/// The runs at the places.
+/// The runs at the given places.
 fn chosen(alloc: Global, members: &[Member], places: &[usize]) -> Result<Vec<Member>, AllocError>
     requires { All (λ i. i < length members.now) places.now }
     ensures { IfOk result (λ found. found.items ≡ members_at members.now places.now) }
@@ -170,7 +170,7 @@ fn chosen(alloc: Global, members: &[Member], places: &[usize]) -> Result<Vec<Mem
     Ok(found)
 }
 
-/// The bundle of the runs at the places, which rise.
+/// The bundle of the runs at the given places, which rise.
 fn class_bundle(
     alloc: Global,
     members: &[Member],
@@ -190,7 +190,7 @@ fn class_bundle(
     bundle_of(alloc, &runs, nudge)
 }
 
-/// The bundles of the runs, which stand in their order on the line.
+/// The bundles of the runs, which are in their order on the line.
 fn bundles_of(alloc: Global, members: &[Member], nudge: i64) -> Result<Vec<RunBundle>, AllocError>
     requires members { All IsMember members.now }
     requires few { length members.now ≤ most_items }
@@ -207,11 +207,12 @@ fn bundles_of(alloc: Global, members: &[Member], nudge: i64) -> Result<Vec<RunBu
     Ok(found)
 }
 
-/// The bundles of a phase, in the order of their first runs. Its only error is want of memory.
+/// The bundles of a phase, in the order of their first runs. The only error is out of memory.
 ///
-/// A phase moves the runs of one way. The routes are of different edges, all on the sheet, and have weights from 1 to 4;
-/// there are at most 850,000,000 runs of the way, and the wanted nudge is from 0 to 1,000,000 thousandths. Each movable
-/// run may stand where it stands: no part of it lies in a solid, and both its neighbours keep what they have to keep.
+/// A phase moves the runs of one way. The routes are of different edges, all on the sheet, and have
+/// weights from 1 to 4; there are at most 850,000,000 runs of the way, and the wanted nudge is from
+/// 0 to 1,000,000 thousandths. Each movable run may stay at its coordinate: no part of it is in a
+/// solid, and both its neighbours keep the points that they have to keep.
 pub fn bundles(
     alloc: Global,
     solids: &[Solid],

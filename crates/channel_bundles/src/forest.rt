@@ -1,16 +1,17 @@
-//! Numbers in classes, as trees that are joined two at a time.
+//! Numbers in classes, as trees that are joined two at a time (union-find).
 ghost use Rattle.std.specs.Prelude.{◌≡◌, ℕ, ◌<◌, [], All, IfOk, EachIndex, length, map, slice_set, slice_index};
 ghost use Rattle.channel_bundles.specs.Classes.{AreClasses, AreTreeNumbers, Connected, IsForest, LeadsUp, LeadsUpOr};
 
 use std::alloc::{AllocError, Global};
 
-/// Numbers from 0 on in trees. Above each number stands a smaller one of its tree; the root stands above itself.
+/// Numbers from 0 in trees. Above each number is a smaller one of its tree; above a root is the
+/// root itself.
 #[derive(Drop)]
 pub(crate) struct Forest {
     above: Vec<usize>,
 }
 
-/// The trees' roots, and of each number which root it has.
+/// The roots of the trees, and for each number which root it has.
 #[derive(Drop)]
 struct TreeNumbers {
     roots: Vec<usize>,
@@ -18,7 +19,7 @@ struct TreeNumbers {
 }
 
 impl Forest {
-    /// So many numbers, each a tree by itself.
+    /// The numbers below `count`, each a tree by itself.
     pub(crate) fn new(alloc: Global, count: usize) -> Result<Forest, AllocError>
         ensures count { IfOk result (λ f. length f.above.items ≡ count) }
         ensures apart { IfOk result (λ f. EachIndex f.above.items (λ k. slice_index f.above.items k ≡ k)) }
@@ -30,7 +31,7 @@ impl Forest {
         Ok(Forest { above })
     }
 
-    /// Puts the number below what stands above the other, and returns what stood above it.
+    /// Puts `number` below what is above `other`, and returns what was above it.
     fn lift(&mut self, number: usize, other: usize) -> usize
         requires number { number < length self.old.above.items }
         requires other { other < length self.old.above.items }
@@ -43,9 +44,10 @@ impl Forest {
         was
     }
 
-    /// Makes one tree of the two numbers' trees.
+    /// Joins the trees of the two numbers.
     ///
-    /// On the way up each number that is passed is put below a smaller one, so that later ways are short.
+    /// On the way up, each number that is passed is put below a smaller one, so that later ways are
+    /// short.
     pub(crate) fn join(&mut self, a: usize, b: usize)
         requires forest { IsForest self.old.above.items }
         requires a { a < length self.old.above.items }
@@ -99,7 +101,8 @@ impl Forest {
         Ok(TreeNumbers { roots, numbers })
     }
 
-    /// The numbers of each tree, in order, and the trees by their first numbers. Its only error is want of memory.
+    /// The numbers of each tree, in order, and the trees by their first numbers. The only error is
+    /// out of memory.
     pub(crate) fn classes(&self, alloc: Global) -> Result<Vec<Vec<usize>>, AllocError>
         requires { IsForest self.now.above.items }
         ensures { IfOk result (λ lists. AreClasses (Connected (LeadsUp self.now.above.items)) (length self.now.above.items)
@@ -114,7 +117,7 @@ impl Forest {
     }
 }
 
-/// So many empty lists.
+/// A list of `count` empty lists.
 fn empty_lists(alloc: Global, count: usize) -> Result<Vec<Vec<usize>>, AllocError>
     ensures count { IfOk result (λ lists. length lists.items ≡ count) }
     ensures empty { IfOk result (λ lists. All (λ list. list.items ≡ []) lists.items) }

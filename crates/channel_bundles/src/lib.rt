@@ -1,4 +1,4 @@
-//! The runs of a phase, how far each may move, and which keep their distance together.
+//! The runs of a phase, how far each may move, and which of them keep their distance together.
 //!
 //! Coordinates are whole thousandths of a GML unit.
 #![tactic(auto)]

@@ -15,14 +15,15 @@ use crate::route::PhaseRoute;
 use plane_geom::{Dir, Point, SHEET_END, SHEET_START, Solid, Way};
 use segment_order::Run;
 
-/// The coordinates at which a run may stand, from `low` to `high`.
+/// The coordinates at which a run may be, from `low` to `high`.
 #[derive(Clone, Copy, Debug)]
 pub(crate) struct Limits {
     low: i64,
     high: i64,
 }
 
-/// Whether the range has more than a point in common with the run's range; of a run without length, its one point within.
+/// Whether the range and the run's range share more than a point, or, for a run without length,
+/// whether its point is inside the range.
 fn is_along(start: i64, end: i64, run: &Run) -> bool
     requires wide { start <ℤ end }
     requires run { IsRun run.now }
@@ -32,7 +33,7 @@ fn is_along(start: i64, end: i64, run: &Run) -> bool
 }
 
 impl Limits {
-    /// Those that are not below the coordinate.
+    /// The coordinates that are at least `at`.
     fn from(self, at: i64) -> Limits
         ensures { (z : ℤ) → IsFromTo result.low result.high z ↔ (IsFromTo self.low self.high z × (at ≤ℤ z)) }
     {
@@ -42,7 +43,7 @@ impl Limits {
         }
     }
 
-    /// Those that are not above the coordinate.
+    /// The coordinates that are at most `at`.
     fn up_to(self, at: i64) -> Limits
         ensures { (z : ℤ) → IsFromTo result.low result.high z ↔ (IsFromTo self.low self.high z × (z ≤ℤ at)) }
     {
@@ -52,7 +53,7 @@ impl Limits {
         }
     }
 
-    /// Those at which one who travels in the direction has come to the coordinate.
+    /// The coordinates at which one who travels in the direction has reached `at`.
     fn reached(self, dir: Dir, at: i64) -> Limits
         ensures { (z : ℤ) → IsFromTo result.low result.high z ↔ (IsFromTo self.low self.high z × IsReached dir at z) }
     {
@@ -62,14 +63,15 @@ impl Limits {
         }
     }
 
-    /// The same, where it is needed.
+    /// The same, if it is needed; otherwise no change.
     fn reached_if(self, needed: bool, dir: Dir, at: i64) -> Limits
         ensures { (z : ℤ) → IsFromTo result.low result.high z ↔ (IsFromTo self.low self.high z × (IsTrue needed → IsReached dir at z)) }
     {
         if needed { self.reached(dir, at) } else { self }
     }
 
-    /// Those that are reached from the coordinate without a step into the open interval, in which it does not lie.
+    /// The coordinates that are reached from `at` without a step into the open interval, in which
+    /// `at` is not.
     fn kept_beside(self, low: i64, high: i64, at: i64) -> Limits
         requires wide { low <ℤ high }
         requires clear { Overlaps low high at at → ⊥ }
@@ -82,7 +84,7 @@ impl Limits {
         }
     }
 
-    /// Those at which the run has swept no part of the solid.
+    /// The coordinates for which a move of the run from its place sweeps no part of the solid.
     fn kept_out(self, solid: &Solid, run: &Run) -> Limits
         requires solid { IsSolid solid.now }
         requires run { IsRun run.now }
@@ -109,7 +111,8 @@ impl Limits {
         }
     }
 
-    /// Those at which one who travels in the direction has come to each checkpoint on the run.
+    /// The coordinates at which one who travels in the direction has reached each checkpoint on the
+    /// run.
     fn reached_checkpoints(self, via: &[Point], run: &Run, dir: Dir, way: Way) -> Limits
         ensures { (z : ℤ) → IsFromTo result.low result.high z ↔ (IsFromTo self.low self.high z
             × ((p : Point) → Contains via.now p → Holds (line_of_run run.now) p → IsReached dir (across way p) z)) }
@@ -122,7 +125,8 @@ impl Limits {
     }
 }
 
-/// The coordinates of the sheet at which the run has swept no part of a solid.
+/// The coordinates of the sheet for which a move of the run from its place sweeps no part of a
+/// solid.
 fn clear_of(solids: &[Solid], run: &Run) -> Limits
     requires solids { All IsSolid solids.now }
     requires run { IsRun run.now }
@@ -141,7 +145,7 @@ fn clear_of(solids: &[Solid], run: &Run) -> Limits
 }
 
 impl PhaseRoute {
-    /// Those at which the run before still goes as far as it has to.
+    /// The coordinates at which the run before still goes as far as it has to.
     fn reached_before(&self, limits: Limits, k: usize) -> Limits
         requires first { 0 < k }
         requires within { k < length self.now.runs.items }
@@ -157,7 +161,7 @@ impl PhaseRoute {
         tip.reached_checkpoints(&self.anchors.via, &before, dir, way)
     }
 
-    /// Those at which the run after still begins where it has to.
+    /// The coordinates at which the run after still begins where it has to.
     fn reached_after(&self, limits: Limits, k: usize) -> Limits
         requires { k + 1 < length self.now.runs.items }
         ensures { (z : ℤ) → IsFromTo result.low result.high z ↔ (IsFromTo limits.low limits.high z
@@ -173,7 +177,7 @@ impl PhaseRoute {
         tip.reached_checkpoints(&self.anchors.via, &after, dir, way)
     }
 
-    /// The coordinates at which the run, which is not fixed, may stand.
+    /// The coordinates at which the run, which is not fixed, may be.
     fn movable_limits(&self, solids: &[Solid], k: usize) -> Limits
         requires route { IsPhaseRoute self.now }
         requires solids { All IsSolid solids.now }

@@ -1,4 +1,4 @@
-//! The links between runs: the classes that they make, and the rules that they are.
+//! The links between runs: the classes that they form, and the rules that they stand for.
 ghost use Rattle.std.specs.Prelude.{◌≡◌, ℕ, ◌+◌, ◌<◌, ◌≤◌, ◌++◌, All, IfOk, drop, length, map};
 ghost use Rattle.separation_model.specs.Bundle.{most_items};
 ghost use Rattle.channel_bundles.specs.Classes.{AreClasses, Connected, FollowsLinks, IsForest, LeadsUp};
@@ -16,7 +16,7 @@ fn lower_limits(alloc: Global, members: &[Member]) -> Result<Vec<i64>, AllocErro
     members.iter().map(|m| m.low).collect(alloc)
 }
 
-/// The least lower limit from each run on, in their order.
+/// For each run, the least lower limit of the runs from it on, in their order.
 fn first_clear(alloc: Global, members: &[Member]) -> Result<Vec<i64>, AllocError>
     ensures { IfOk result (λ clear. AreClear members.now clear.items) }
 {
@@ -29,7 +29,7 @@ fn first_clear(alloc: Global, members: &[Member]) -> Result<Vec<i64>, AllocError
     Ok(clear)
 }
 
-/// Joins the run's tree with those of all later runs to which it is linked.
+/// Joins the tree of the run at `at` with the trees of all later runs to which it is linked.
 fn join_links_of(forest: &mut Forest, members: &[Member], clear: &[i64], nudge: i64, at: usize)
     requires forest { IsForest forest.old.above.items }
     requires count { length forest.old.above.items ≡ length members.now }
@@ -54,7 +54,8 @@ fn join_links_of(forest: &mut Forest, members: &[Member], clear: &[i64], nudge: 
     }
 }
 
-/// The classes of the runs, by their places, that links join, in the order of their first runs.
+/// The classes of the runs that links join, by the places of the runs, in the order of their first
+/// runs.
 pub(crate) fn linked_classes(
     alloc: Global,
     members: &[Member],
@@ -73,7 +74,7 @@ pub(crate) fn linked_classes(
     forest.classes(alloc)
 }
 
-/// Adds the rules from the run to all later ones to which it is linked, in their order.
+/// Appends the rules from the run at `at` to all later ones to which it is linked, in their order.
 fn push_rules_of(
     rules: &mut Vec<Rule>,
     members: &[Member],

@@ -5,9 +5,9 @@ ghost use Rattle.channel_bundles.specs.Links.{IsMember, IsNudge, asks, asks_mova
 use segment_order::Run;
 use separation_model::Item;
 
-/// A run of the phase's way, with the coordinates from `low` to `high` at which it may stand.
+/// A run of the phase's way, with the coordinates from `low` to `high` at which it may be.
 ///
-/// A fixed run may stand where it stands alone. The weight, from 1 to 4, is that of its route.
+/// A fixed run may only stay at its coordinate. The weight, from 1 to 4, is that of its route.
 #[derive(Clone, Copy, Debug, PartialEq, Eq)]
 pub struct Member {
     pub run: Run,
@@ -17,21 +17,22 @@ pub struct Member {
     pub weight: u32,
 }
 
-/// Whether the two runs have more than a point of their ranges in common.
+/// Whether the ranges of the two runs share more than a point.
 fn overlap(r: &Run, s: &Run) -> bool
     ensures { result ≡ overlap r.now s.now }
 {
     r.lo.max(s.lo) < r.hi.min(s.hi)
 }
 
-/// Whether there is one run between the two in their route.
+/// Whether the two runs are next but one to each other in their route.
 fn is_second_next(r: &Run, s: &Run) -> bool
     ensures { result ≡ is_second_next r.now s.now }
 {
     u64::from(r.place) + 2 == u64::from(s.place) || u64::from(s.place) + 2 == u64::from(r.place)
 }
 
-/// What two runs owe each other that are not both fixed: a separation, a join, or nothing.
+/// What two runs that are not both fixed require of each other: a separation (true), a join
+/// (false), or nothing.
 fn asks_movable(r: &Run, s: &Run) -> Option<bool>
     ensures { result ≡ asks_movable r.now s.now }
 {
@@ -43,7 +44,7 @@ fn asks_movable(r: &Run, s: &Run) -> Option<bool>
 }
 
 impl Member {
-    /// What the two runs owe each other: a separation, a join, or nothing.
+    /// What the two runs require of each other: a separation (true), a join (false), or nothing.
     fn asks(&self, later: &Member) -> Option<bool>
         ensures { result ≡ asks self.now later.now }
     {
@@ -54,7 +55,7 @@ impl Member {
         }
     }
 
-    /// Whether the limits alone do not keep the runs apart.
+    /// Whether the limits alone do not keep the runs apart as far as is required.
     fn presses(&self, later: &Member, nudge: i64, spaced: bool) -> bool
         requires member { IsMember self.now }
         requires nudge { IsNudge nudge }
@@ -63,7 +64,8 @@ impl Member {
         later.low < if spaced { self.high + nudge } else { self.high }
     }
 
-    /// The rule that links the run to a later one, where the limits alone do not keep them apart: whether it is spaced.
+    /// The rule that links the run to a later one, where the limits alone do not keep them apart;
+    /// true where it is spaced.
     pub(crate) fn link(&self, later: &Member, nudge: i64) -> Option<bool>
         requires member { IsMember self.now }
         requires nudge { IsNudge nudge }
@@ -73,7 +75,7 @@ impl Member {
         self.presses(later, nudge, spaced).then_some(spaced)
     }
 
-    /// Whether the run is linked to no later run whose lower limit is at least so great.
+    /// Whether the run is linked to no later run whose lower limit is `low` or more.
     pub(crate) fn is_clear_of(&self, low: i64, nudge: i64) -> bool
         requires member { IsMember self.now }
         requires nudge { IsNudge nudge }
@@ -82,7 +84,7 @@ impl Member {
         self.high + nudge <= low
     }
 
-    /// The run as an item of a bundle. It wants to stay.
+    /// The run as an item of a bundle, wanted at its present coordinate.
     pub(crate) fn item(&self) -> Item
         ensures { result ≡ item_of self.now }
     {

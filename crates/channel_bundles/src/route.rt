@@ -14,9 +14,9 @@ pub struct RouteAnchors {
     pub via: Vec<Point>,
 }
 
-/// A route of a phase, by all its runs in order.
+/// A route of a phase, as all its runs in order.
 ///
-/// The weight, from 1 to 4, counts the squared displacement of its runs so many times.
+/// The weight, from 1 to 4, is the factor of the squared displacement of its runs.
 #[derive(Debug, Drop)]
 pub struct PhaseRoute {
     pub edge: u32,
@@ -28,7 +28,7 @@ pub struct PhaseRoute {
 impl PhaseRoute {
     ghost use Rattle.channel_bundles.specs.Route.{IsFixed};
 
-    /// The run at the index, counted from 0.
+    /// The run at the index, from 0.
     pub fn run(&self, k: usize) -> Run
         requires { k < length self.now.runs.items }
         ensures { result ≡ run_at self.now.runs.items k }
@@ -36,7 +36,8 @@ impl PhaseRoute {
         self.runs[k]
     }
 
-    /// Whether the two runs are parallel. A route doubles back between two neighbours that are.
+    /// Whether the two runs are parallel. Where two neighbours are parallel, the route doubles back
+    /// between them.
     fn are_parallel(&self, i: usize, j: usize) -> bool
         requires i { i < length self.now.runs.items }
         requires j { j < length self.now.runs.items }
@@ -82,8 +83,8 @@ impl PhaseRoute {
         false
     }
 
-    /// Whether the run keeps its coordinate: it is the first or the last, a checkpoint lies on it, or it begins or ends
-    /// with a doubling back.
+    /// Whether the run keeps its coordinate: it is the first or the last, a checkpoint is on it, or
+    /// it begins or ends with a doubling back.
     pub fn is_fixed(&self, k: usize) -> bool
         requires { k < length self.now.runs.items }
         ensures { IsTrue result ↔ IsFixed self.now k }

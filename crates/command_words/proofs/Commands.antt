@@ -9,7 +9,7 @@ use Rattle.command_words.proofs.Numbers.{differ}
 same_some : {X : Type 0} (x y : X) → Some x ≡ Some y → x ≡ y
 same_some x y e = cc
 
--- such words are of no form
+-- such arguments are not valid
 pub no_command : {Z : Type 0} (words : List (String Z)) (command : String Z) (text : List ℕ) → Some command ≡ slice_get words 0 → text ≡ string_bytes command
     → text ≢ codes "check" → text ≢ codes "route" → text ≢ codes "make" → None ≡ form_of (map string_bytes words)
 no_command [] command text first is check route make = absurd (some_none command first)

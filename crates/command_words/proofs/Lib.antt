@@ -1,4 +1,4 @@
--- Lemmas on the words and on what clap makes of them.
+-- Lemmas on the arguments and on what clap makes of them.
 pub mod Built
 pub mod Commands
 pub mod Looks

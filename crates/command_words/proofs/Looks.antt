@@ -1,4 +1,4 @@
--- What a word looks like to the definitions and to clap.
+-- The form of an argument for the definitions and for clap.
 use Rattle.std.proofs.Common.{◌≡◌, inl, inr, ℕ, Bool, true, false, List, [], ◌∷◌, Some, None, codes, refl, subst}
 use Rattle.std.specs.Prelude.{◌==◌, slice_get, bytes_eq}
 use Rattle.std.specs.List.{before_first}
@@ -13,7 +13,7 @@ use Rattle.command_words.specs.Words.{Said, is_option, option_value, with_named,
 abbrev pub dashes : List ℕ
 dashes = codes "--"
 
--- a word is no option, or `--`, or has a name behind two minuses, or letters behind one
+-- an argument is no option, or `--`, or has a name after two minuses, or letters after one
 pub data Look (word : List ℕ) : Type 0 where
   is_plain : is_option word ≡ false → bytes_eq word dashes ≡ false → long_of word ≡ None → short_of word ≡ None → Look word
   is_end : is_option word ≡ true → bytes_eq word dashes ≡ true → Look word
@@ -34,7 +34,7 @@ unfolding encode_utf8
 first_of b bs [] e = absurd (too_short b bs e)
 first_of b bs (c ∷ cs) e = (c, refl)
 
--- behind a minus a text has a first character
+-- after a minus a text has a first character
 first_char : (b : ℕ) (bs : List ℕ) → IsUtf8 (45 ∷ b ∷ bs) → (c : ℕ) × (slice_get (chars (b ∷ bs)) 0 ≡ Some c)
 unfolding chars
 first_char b bs h = first_of b bs (chars (b ∷ bs)) (encodes-chars (45 ∷ b ∷ bs) h)

@@ -1,4 +1,4 @@
--- The numbers that words name.
+-- The numbers that arguments give.
 use Rattle.std.proofs.Common.{◌≡◌, ◌≢◌, ℕ, ◌^◌, ◌<◌, ◌≤◌, Bool, true, false, List, [], ◌∷◌, length, None, Some, Result, Ok, Err, codes, refl, sym, ap, subst, ◌∙◌, arith, ltb-true, true≢false, lit<, lit≤}
 use Rattle.std.specs.Prelude.{◌==◌, ◌&&◌, bytes_eq, nat_lt, nat_le}
 use Rattle.std.specs.Char.{digit_value, is_ascii_digit}
@@ -49,7 +49,7 @@ fits_64 ds few digits =
     let small : 10 ^ 19 ≤ 2 ^ 64 = lit≤ tt in
     omega (arith, low, bound, small)
 
--- a word without a plus is read as its digits
+-- an argument without a plus is read as its digits
 read_digits : {E : Type 0} (word : List ℕ) (r : Result ℕ E) → without_leading_plus word ≡ word → IsNumeral 10 word → digits_value 10 word < 2 ^ 64
     → ParsesUnsigned 64 10 word r → result_ok r ≡ Some (digits_value 10 word)
 read_digits word (Ok x) e numeral low p = ap Some (p.1 ∙ ap (digits_value 10) e)

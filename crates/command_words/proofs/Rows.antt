@@ -19,7 +19,7 @@ abbrev pub row_with : Text → List Text → Option Row
 row_with id [] = None
 row_with id (v ∷ values) = Some (record { id = id; values = v ∷ values; count = None; source = Some CommandLine; reading = AsWritten })
 
--- the rows with one more value of an id, by default or of the words
+-- the rows with one more value of an id, by default or from the arguments
 abbrev pub added : ValueSource → Text → Text → List Row → List Row
 added source id value rows = with_values id AsWritten source (value ∷ []) rows
 
@@ -80,7 +80,7 @@ first_added source id value (r ∷ rows) e = elim (cases_Bool (bytes_eq r.id id)
   | inr differs ↦ let rest : row_in id rows ≡ None = rw differs at e in rw (differs, differs) (first_added source id value rows rest)
 ]
 
--- where there is no row of the id, none is taken out
+-- where there is no row of the id, none is removed
 pub none_without : (id : Text) (rows : List Row) → row_in id rows ≡ None → without id rows ≡ rows
 none_without id [] e = refl
 none_without id (r ∷ rows) e = elim (cases_Bool (bytes_eq r.id id)) [
@@ -96,7 +96,7 @@ has_row_is id (r ∷ rows) = elim (cases_Bool (bytes_eq r.id id)) [
   | inr differs ↦ rw differs (has_row_is id rows)
 ]
 
--- what the rows say of the words so far
+-- the values in the rows for the arguments so far
 pub record Holds (s : Said) (rows : List Row) : Type 0 where
   pub plain : row_in (codes "plain") rows ≡ row_with (codes "plain") s.plain
   pub workers : row_in (codes "workers") rows ≡ row_with (codes "workers") s.workers

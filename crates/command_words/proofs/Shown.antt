@@ -21,7 +21,7 @@ each_text : {Z : Type 0} (words : List (String Z)) → Each IsUtf8 (map string_b
 each_text [] = tt
 each_text (word ∷ words) = (IsUtf8-string_bytes word, each_text words)
 
--- the words behind the first are text
+-- the arguments after the first are text
 pub texts_behind : {Z : Type 0} (words : List (String Z)) → Each IsUtf8 (drop 1 (map string_bytes words))
 texts_behind [] = tt
 texts_behind (word ∷ words) = each_text words

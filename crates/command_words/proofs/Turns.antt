@@ -1,4 +1,4 @@
--- What clap makes of one word.
+-- What clap makes of one argument.
 use Rattle.std.proofs.Common.{◌≡◌, ℕ, Bool, true, false, List, [], ◌∷◌, Option, Some, None, codes, refl}
 use Rattle.std.specs.Prelude.{◌&&◌, ◌||◌, bytes_eq, slice_get}
 use Rattle.std.specs.Str.{chars}
@@ -44,7 +44,7 @@ pub or_else_nil : (ks : Kinds) → or_else ks [] ≡ ks
 or_else_nil [] = refl
 or_else_nil (k ∷ ks) = refl
 
--- a word behind `--`
+-- an argument after `--`
 pub trailing_fault : (has : Bool) (name : Text) (rows : List Row) (p : Pending) (waiting : Waiting) (word : Text)
     → turn_fault (shape_for has name) [] (walk_at rows p waiting true) word ≡ settle_fault (rules_for has) false (held rows p)
 trailing_fault false name rows p waiting word = simp and_false
@@ -56,7 +56,7 @@ unfolding walked
 trailing_walk false rows p waiting word = simp and_false
 trailing_walk true rows p waiting word = simp and_false
 
--- a word that is no option, where no value is waited for
+-- an argument that is no option, where no value is expected
 pub plain_fault : (has : Bool) (name : Text) (rows : List Row) (p : Pending) (c : Bool) (word : Text)
     → bytes_eq word dashes ≡ false → long_of word ≡ None → short_of word ≡ None
     → turn_fault (shape_for has name) [] (walk_at rows p (calm c) false) word ≡ settle_fault (rules_for has) false (held rows p)

@@ -1,4 +1,4 @@
--- clap's walk over the words, beside what the words have said.
+-- clap's walk over the arguments, beside what the arguments have given.
 use Rattle.std.proofs.Common.{◌≡◌, ◌⊎◌, inl, inr, Bool, true, false, List, [], ◌∷◌, ◌++◌, Option, Some, None, is_some, codes, refl, sym, ap, subst, ◌∙◌, true≢false}
 use Rattle.std.specs.Prelude.{◌==◌, bytes_eq, drop, fold, option_and_then, unwrap_or, if◌then◌else◌}
 use Rattle.std.specs.List.{AllByRecursion as Each, before_first}
@@ -63,7 +63,7 @@ settles_to true nothing rows fits = refl
 settles_to true (plain v) rows fits = refl
 settles_to true (workers v) rows fits = refl
 
--- ---- what the rows say
+-- ---- the values in the rows
 
 holds_plain : (s : Said) (word : Text) (rows : List Row) → Holds s rows → Holds (record s { plain = s.plain ++ word ∷ [] }) (with_value (codes "plain") word rows)
 holds_plain s word rows h = record {
@@ -125,7 +125,7 @@ pub record Waits (has : Bool) (s : Said) (w : Walk) : Type 0 where
 abbrev pub Tells : Bool → Said → Walk → Type 0
 Tells has s w = Free has s w ⊎ Waits has s w
 
--- the faults of the rest of the words, and the rows at their end
+-- the faults of the rest of the arguments, and the rows at their end
 abbrev pub faults_at_end : Bool → Text → Held → Kinds
 faults_at_end has name h =
     or_else (settle_fault (rules_for has) false h)
@@ -140,18 +140,18 @@ whole has name w words = or_else (walk_fault (shape_for has name) [] w words) (f
 abbrev pub rows_at_end : Bool → Walk → List Text → List Row
 rows_at_end has w words = finished (rules_for has) (end_of has w words)
 
--- the rows say what was said
+-- the rows have the values that were given
 pub record Says (has : Bool) (s : Said) (rows : List Row) : Type 0 where
   pub plain : unwrap_or (all_of (codes "plain") rows) [] ≡ s.plain
   pub workers : unwrap_or (all_of (codes "workers") rows) [] ≡ s.workers
   pub count : has ≡ true → one_of (codes "count") rows ≡ Some (if s.count then codes "true" else codes "false")
 
--- there is no fault where the words are taken
+-- there is no fault if the arguments are valid
 abbrev pub Agrees : Bool → Option Said → Kinds → List Row → Type 0
 Agrees has None faults rows = faults ≡ [] → ⊥
 Agrees has (Some s) faults rows = (faults ≡ []) × Says has s rows
 
--- what one word has to keep
+-- what one argument has to keep
 abbrev Keeps : Bool → Text → Option Said → Walk → Text → Type 0
 Keeps has name None w word = (words : List Text) → whole has name w (word ∷ words) ≡ [] → ⊥
 Keeps has name (Some s) w word = (turn_fault (shape_for has name) [] w word ≡ []) × Tells has s (walked (rules_for has) [] w word)
@@ -168,13 +168,13 @@ whole_more has name w word words = or_else_assoc (turn_fault (shape_for has name
 some_fault : (k : ErrorKind) (ks : Kinds) → k ∷ ks ≡ [] → ⊥
 some_fault k ks e = cc
 
--- a fault at the word is one of the whole
+-- a fault at the argument is one of the whole
 turn_fails : (has : Bool) (name : Text) (w : Walk) (word : Text) (k : ErrorKind) (ks : Kinds) → turn_fault (shape_for has name) [] w word ≡ k ∷ ks → (words : List Text)
     → whole has name w (word ∷ words) ≡ [] → ⊥
 turn_fails has name w word k ks e words none =
     some_fault k ks (sym (ap (λ f. or_else f (whole has name (walked (rules_for has) [] w word) words)) e) ∙ sym (whole_more has name w word words) ∙ none)
 
--- ---- one word
+-- ---- one argument
 
 keeps_none : (has : Bool) (name : Text) (s : Said) (w : Walk) (word : Text) → with_word has s word ≡ None
     → ((words : List Text) → whole has name w (word ∷ words) ≡ [] → ⊥) → Keeps has name (with_word has s word) w word
@@ -187,7 +187,7 @@ keeps_some has name s next w word e fault tells = subst (λ o. Keeps has name o 
 free_plain : (s : Said) (word : Text) → s.waits ≡ false → with_plain s word ≡ record s { plain = s.plain ++ word ∷ [] }
 free_plain s word e = rw e refl
 
--- with a word that goes to the list of plain ones
+-- with an argument that goes to the list of plain ones
 after_plain : (has : Bool) (name : Text) (s : Said) (rows : List Row) (last : Use) (w : Walk) (word : Text) → Fits has last → s.waits ≡ false → Holds s (settled_by last rows)
     → with_word has s word ≡ Some (with_plain s word)
     → turn_fault (shape_for has name) [] w word ≡ settle_fault (rules_for has) false (held rows (pending_of last))
@@ -205,7 +205,7 @@ after_plain has name s rows last w word fits waits holds with-is fault is =
       is = is ∙ ap (λ r. walk_at r (Some (codes "plain", word ∷ [])) positional s.ended) (settles_to has last rows fits);
     }))
 
--- behind `--` each word is plain
+-- after `--` each argument is plain
 ended_word : (has : Bool) (name : Text) (s : Said) (rows : List Row) (last : Use) (waiting : Waiting) (word : Text) → Fits has last → s.waits ≡ false → Holds s (settled_by last rows) → s.ended ≡ true
     → Keeps has name (with_word has s word) (walk_at rows (pending_of last) waiting true) word
 ended_word has name s rows last waiting word fits waits holds ended =
@@ -213,7 +213,7 @@ ended_word has name s rows last waiting word fits waits holds ended =
     (turn.trailing_fault has name rows (pending_of last) waiting word)
     (turn.trailing_walk has rows (pending_of last) waiting word ∙ ap (walk_at (settled_rows (rules_for has) (pending_of last) rows) (Some (codes "plain", word ∷ [])) positional) (sym ended))
 
--- a word that is no option
+-- an argument that is no option
 plain_word : (has : Bool) (name : Text) (s : Said) (rows : List Row) (last : Use) (kind : Bool) (word : Text) → Fits has last → s.waits ≡ false → Holds s (settled_by last rows) → s.ended ≡ false
     → is_option word ≡ false → bytes_eq word (codes "--") ≡ false → long_of word ≡ None → short_of word ≡ None
     → Keeps has name (with_word has s word) (walk_at rows (pending_of last) (calm kind) false) word
@@ -322,7 +322,7 @@ long_word true name s rows last kind word n v fits waits holds ended d l with-is
   ]
 ]
 
--- a word, where nothing is waited for
+-- an argument, where no value is expected
 free_word : (has : Bool) (name : Text) (s : Said) (rows : List Row) (last : Use) (kind : Bool) (word : Text) → Fits has last → s.waits ≡ false → Holds s (settled_by last rows) → s.ended ≡ false
     → Look word → Keeps has name (with_word has s word) (walk_at rows (pending_of last) (calm kind) false) word
 free_word has name s rows last kind word fits waits holds ended (is_plain o d l h) = plain_word has name s rows last kind word fits waits holds ended o d l h
@@ -413,7 +413,7 @@ step : (has : Bool) (name : Text) (s : Said) (w : Walk) (word : Text) → Look w
 step has name s w word looks (inl f) = subst (λ v. Keeps has name (with_word has s word) v word) (sym f.is) (step_free has name s word f.rows f.last f.kind s.ended f.fits f.waits f.holds refl looks)
 step has name s w word looks (inr f) = subst (λ v. Keeps has name (with_word has s word) v word) (sym f.is) (step_waits has name s word f.rows f.options f.waits f.ended f.holds looks)
 
--- ---- the end of the words
+-- ---- the end of the arguments
 
 if_same : {X : Type 0} (b : Bool) (x : X) → (if b then x else x) ≡ x
 if_same true x = refl
@@ -522,7 +522,7 @@ rows_are has name words =
     ap (λ a. rows_after a.top.rules (names_of a) (argument_words (app_for has name) words)) (built_is has name)
     ∙ ap (rows_after (rules_for has) []) (words_behind has name words)
 
--- what clap finds in words is what they have said
+-- what clap finds in the arguments is what they have given
 pub words_agree : (has : Bool) (name : Text) (words : List Text) → Each IsUtf8 (drop 1 words)
     → Agrees has (said_after has nothing_said (drop 1 words)) (fault_of (app_for has name) words) (matches_of (app_for has name) words)
 words_agree has name words texts =

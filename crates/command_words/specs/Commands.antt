@@ -1,4 +1,4 @@
--- What clap is told of the words of each form, and what it finds. No public clause cites this module.
+-- The clap commands for the arguments of each subcommand, and their matches. No public clause cites this module.
 use Rattle.std.specs.Prelude.{◌≡◌, ℕ, Bool, true, false, List, [], Option, Some, None, option_map, unwrap_or, codes, if◌then◌else◌}
 use Rattle.clap.specs.declared.builder.action.ArgAction.TheVariants.{Append, SetTrue}
 use Rattle.clap.specs.declared.parser.matches.ArgMatches.{ArgMatches}
@@ -6,7 +6,7 @@ use Rattle.clap.specs.Words.{App, Rule, found_of, matched_of, new_app, new_rule,
 use Rattle.clap.specs.Simple.{on_top}
 use Rattle.command_words.specs.Words.{Said}
 
--- the words that are no options, and the two options
+-- the arguments that are not options, and the two options
 abbrev pub plain_rule : Rule
 plain_rule = record (new_rule (codes "plain")) { action = Some Append }
 
@@ -16,7 +16,7 @@ workers_rule = record (new_rule (codes "workers")) { long = Some (codes "workers
 abbrev pub count_rule : Rule
 count_rule = record (new_rule (codes "count")) { long = Some (codes "count"); action = Some SetTrue }
 
--- a command without options, and the one that has both
+-- a command without options, and one with both options
 abbrev pub plain_app : List ℕ → App
 plain_app name = with_rule (on_top (λ s. record s { disable_help_flag = true }) (new_app name)) plain_rule
 
@@ -31,13 +31,13 @@ app_for true name = route_app name
 abbrev pub values_in : ArgMatches → List ℕ → List (List ℕ)
 values_in m id = unwrap_or (option_map raw_values (matched_of (found_of m) id)) []
 
--- the matches say what the words have said
+-- the matches have the values of the arguments
 pub record Shows (has_options : Bool) (s : Said) (m : ArgMatches) : Type 0 where
   pub plain : values_in m (codes "plain") ≡ s.plain
   pub workers : values_in m (codes "workers") ≡ s.workers
   pub count : has_options ≡ true → one_text (found_of m) (codes "count") ≡ Some (if s.count then codes "true" else codes "false")
 
--- there are matches where the words are taken
+-- there are matches if the arguments are valid
 abbrev pub AreShown : Bool → Option Said → Option ArgMatches → Type 0
 AreShown has_options None None = Unit {0}
 AreShown has_options (Some s) (Some m) = Shows has_options s m

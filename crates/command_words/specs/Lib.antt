@@ -1,4 +1,4 @@
--- What the words of the command line ask for.
+-- What the arguments of the command line ask for.
 pub mod Words
 pub mod Commands
 pub mod Views

@@ -1,4 +1,4 @@
--- A form without where its words lie in memory.
+-- The model of a subcommand.
 use Rattle.command_words.specs.declared.form.Form.{Form as Read}
 use Rattle.command_words.specs.declared.form.Form.TheVariants as read
 use Rattle.command_words.specs.Words.{Form, check, route, make}

@@ -1,24 +1,24 @@
--- The forms of words.
+-- The subcommands, and the arguments that ask for them.
 use Rattle.std.specs.Prelude.{ℕ, ◌==◌, ◌&&◌, ◌||◌, Bool, true, false, not, nat_lt, nat_le, List, [], ◌∷◌, ◌++◌, length, Option, Some, None, is_some, option_map, option_and_then, codes, bytes_eq, if◌then◌else◌}
 use Rattle.std.specs.List.{list_any, list_all, before_first, after_first}
 use Rattle.std.specs.Char.{is_ascii_digit}
 use Rattle.std.specs.Str.Parse.{digits_value}
 
--- what words ask for
+-- what arguments ask for
 pub data Form : Type 0 where
   -- a check of the diagram with this name
   check : List ℕ → Form
   -- the diagram and the script with these names, the number of workers, and whether searches are counted
   route : List ℕ → List ℕ → ℕ → Bool → Form
-  -- what is made from this number
+  -- the replay that is generated from this seed
   make : ℕ → Form
 
--- a word names a file where it is not empty
+-- an argument names a file if it is not empty
 abbrev pub names_file : List ℕ → Bool
 names_file [] = false
 names_file (b ∷ word) = true
 
--- the number of workers that a word names, which is one from 1 to 4
+-- the number of workers that an argument gives, from 1 to 4
 abbrev pub workers_of : List ℕ → Option ℕ
 workers_of word =
     if bytes_eq word (codes "1") then Some 1
@@ -26,59 +26,59 @@ workers_of word =
     else (if bytes_eq word (codes "3") then Some 3
     else (if bytes_eq word (codes "4") then Some 4 else None)))
 
--- a word names a seed by 1 to 19 decimal digits
+-- an argument is a seed if it consists of 1 to 19 decimal digits
 abbrev pub is_seed : List ℕ → Bool
 is_seed word = nat_lt 0 (length word) && (nat_le (length word) 19 && list_all is_ascii_digit word)
 
--- the seed that a word names
+-- the seed that an argument gives
 abbrev pub seed_of : List ℕ → Option ℕ
 seed_of word = if is_seed word then Some (digits_value 10 word) else None
 
--- a word that begins with a minus (45) and is longer than one byte
+-- an argument that begins with a minus (45) and is longer than one byte
 abbrev pub is_option : List ℕ → Bool
 is_option [] = false
 is_option (b ∷ []) = false
 is_option (b ∷ c ∷ word) = b == 45
 
--- what the words behind the first have said
+-- what the arguments after the first have given so far
 pub record Said : Type 0 where
-  -- the words that are neither options nor values of them
+  -- the arguments that are neither options nor values of them
   pub plain : List (List ℕ)
   -- the values of `--workers`
   pub workers : List (List ℕ)
-  -- `--count` was said
+  -- `--count` was given
   pub count : Bool
-  -- `--workers` was said, and its value is the next word
+  -- `--workers` was given, and its value is the next argument
   pub waits : Bool
-  -- `--` was said, and no later word is an option
+  -- `--` was given, and no later argument is an option
   pub ended : Bool
 
 abbrev pub nothing_said : Said
 nothing_said = record { plain = []; workers = []; count = false; waits = false; ended = false }
 
--- with a word that is no option
+-- with an argument that is not an option
 abbrev pub with_plain : Said → List ℕ → Said
 with_plain s word =
     if s.waits then record s { workers = s.workers ++ word ∷ []; waits = false }
     else record s { plain = s.plain ++ word ∷ [] }
 
--- with `--workers`, and its value where it is in the same word
+-- with `--workers`, and its value if it is in the same argument
 abbrev pub with_workers : Said → Option (List ℕ) → Said
 with_workers s None = record s { waits = true }
 with_workers s (Some value) = record s { workers = s.workers ++ value ∷ [] }
 
--- with `--count`, which has no value and is said once
+-- with `--count`, which has no value and may be given once
 abbrev pub with_count : Said → Option (List ℕ) → Option Said
 with_count s value = if is_some value || s.count then None else Some (record s { count = true })
 
--- with the option of this name, of which `route` alone has two
+-- with the option of this name; only `route` has the two options
 abbrev pub with_named : Bool → Said → List ℕ → Option (List ℕ) → Option Said
 with_named false s name value = None
 with_named true s name value =
     if bytes_eq (codes "workers") name then Some (with_workers s value)
     else (if bytes_eq (codes "count") name then with_count s value else None)
 
--- an option's name is what stands behind its two minuses up to the first `=` (61), and its value what stands behind that
+-- an option's name is the text after its two minuses up to the first `=` (61), and its value is the text after that
 abbrev pub option_value : List ℕ → Option (List ℕ)
 option_value text = if list_any (λ b. b == 61) text then Some (after_first (λ b. b == 61) text) else None
 
@@ -87,7 +87,7 @@ with_option has_options s (b ∷ c ∷ text) =
     if c == 45 then with_named has_options s (before_first (λ b. b == 61) text) (option_value text) else None
 with_option has_options s word = None
 
--- with one more word, unless it is refused: an option is where a value is waited for, or where it is unknown
+-- with one more argument, unless it is refused: an option is refused where a value is expected, or if it is unknown
 abbrev pub with_word : Bool → Said → List ℕ → Option Said
 with_word has_options s word =
     if s.ended || not (is_option word) then Some (with_plain s word)
@@ -95,34 +95,34 @@ with_word has_options s word =
     else (if bytes_eq word (codes "--") then Some (record s { ended = true })
     else with_option has_options s word))
 
--- with all the words; at the end no value is waited for
+-- with all the arguments; at the end no value may be expected
 abbrev pub said_after : Bool → Said → List (List ℕ) → Option Said
 said_after has_options s [] = if s.waits then None else Some s
 said_after has_options s (word ∷ words) = option_and_then (λ next. said_after has_options next words) (with_word has_options s word)
 
--- the form of what was said behind `check`: one file
+-- the subcommand of the arguments after `check`: one file
 abbrev pub check_form : List (List ℕ) → Option Form
 check_form (diagram ∷ []) = if names_file diagram then Some (check diagram) else None
 check_form plain = None
 
--- how many workers were asked for, at most once; one, where none were
+-- the number of workers that was asked for, at most once; 1 if none was
 abbrev pub workers_said : List (List ℕ) → Option ℕ
 workers_said [] = Some 1
 workers_said (word ∷ []) = workers_of word
 workers_said words = None
 
--- the form of what was said behind `route`: two files
+-- the subcommand of the arguments after `route`: two files
 abbrev pub route_form : List (List ℕ) → Bool → ℕ → Option Form
 route_form (diagram ∷ script ∷ []) count workers =
     if names_file diagram && names_file script then Some (route diagram script workers count) else None
 route_form plain count workers = None
 
--- the form of what was said behind `make`: a seed
+-- the subcommand of the argument after `make`: a seed
 abbrev pub make_form : List (List ℕ) → Option Form
 make_form (word ∷ []) = option_map make (seed_of word)
 make_form plain = None
 
--- the form of the words behind the first, which is the command
+-- the subcommand with this name and the arguments after it
 abbrev pub form_after : List ℕ → List (List ℕ) → Option Form
 form_after command words =
     if bytes_eq command (codes "check") then option_and_then (λ s. check_form s.plain) (said_after false nothing_said words)
@@ -131,7 +131,7 @@ form_after command words =
     else (if bytes_eq command (codes "make") then option_and_then (λ s. make_form s.plain) (said_after false nothing_said words)
     else None))
 
--- the form of the words, if they are of one
+-- the subcommand that the arguments ask for, if they are valid
 abbrev pub form_of : List (List ℕ) → Option Form
 form_of [] = None
 form_of (command ∷ words) = form_after command words

@@ -1,20 +1,21 @@
-//! What words ask for.
+//! The subcommands that arguments ask for.
 
-/// What the words of the command line ask for. Its names are words of the command line.
+/// What the arguments of the command line ask for: a subcommand with its options.
 #[derive(Clone, Copy, Debug, PartialEq, Eq)]
 pub enum Form<'a> {
-    /// A check of the lines of a diagram.
+    /// Checks the lines of a diagram.
     Check {
         diagram: &'a str,
     },
-    /// A script replayed on a diagram, by so many workers, perhaps with the numbers of searches told.
+    /// Replays a script on a diagram, with at most `workers` searches side by side, and reports the
+    /// numbers of searches if `count`.
     Route {
         diagram: &'a str,
         script: &'a str,
         workers: u32,
         count: bool,
     },
-    /// A diagram and a script made from a number.
+    /// Generates a diagram and a script from a seed.
     Make {
         seed: u64,
     },

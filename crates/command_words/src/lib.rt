@@ -1,4 +1,4 @@
-//! The words of the command line, and what they ask for.
+//! The arguments of the command line, and what they ask for.
 #![tactic(auto)]
 
 mod form;

@@ -1,4 +1,4 @@
-//! What clap finds in the words. No public clause cites this module.
+//! What clap finds in the arguments. No public clause cites this module.
 ghost use Rattle.std.specs.Prelude.{◌≡◌, IfOk, drop, map, string_bytes};
 ghost use Rattle.clap.specs.Words.{app_of};
 ghost use Rattle.command_words.specs.Commands.{app_for, AreShown};
@@ -8,14 +8,15 @@ use clap::error::ErrorKind;
 use clap::{Arg, ArgAction, ArgMatches, Command};
 use std::alloc::{AllocError, Global};
 
-/// The id of the words that are no options.
+/// The id of the arguments that are not options.
 pub(crate) const PLAIN: &str = "plain";
-/// The option that says how many workers there are.
+/// The option for the number of workers.
 pub(crate) const WORKERS: &str = "workers";
-/// The option that asks for the numbers of searches.
+/// The option for reporting the numbers of searches.
 pub(crate) const COUNT: &str = "count";
 
-/// A command without help and version. It keeps each value of `--workers`: the form says how many there may be.
+/// A clap command without help and version. It keeps each value of `--workers`, since the
+/// subcommand decides how many are allowed.
 fn command<'a>(alloc: Global, name: &'a str, has_options: bool) -> Result<Command<'a>, AllocError>
     ensures { IfOk result (λ command. app_of command ≡ app_for has_options name.entry.now) }
 {
@@ -35,7 +36,7 @@ fn command<'a>(alloc: Global, name: &'a str, has_options: bool) -> Result<Comman
     bare.arg(workers)?.arg(count)
 }
 
-/// What clap finds in the words behind the first, unless it refuses them.
+/// What clap finds in the arguments after the first, or `None` if it refuses them.
 pub(crate) fn matches_of<'a>(
     alloc: Global,
     name: &'a str,

@@ -1,4 +1,4 @@
-//! The forms of words.
+//! The subcommands, read from the arguments.
 ghost use Rattle.std.specs.Prelude.{◌≡◌, ◌&&◌, IfOk, [], drop, map, option_and_then, option_map, string_bytes, true, false};
 ghost use Rattle.std.specs.Option.{option_map_or};
 ghost use Rattle.clap.specs.Walk.{texts};
@@ -10,7 +10,7 @@ use crate::matches::{COUNT, PLAIN, WORKERS, matches_of};
 use crate::values::{names_file, seed, worker_count};
 use std::alloc::{AllocError, Global};
 
-/// `check` and a file.
+/// The arguments of `check`: a file.
 fn check_words<'a>(alloc: Global, words: &'a [String]) -> Result<Option<Form<'a>>, AllocError>
     ensures { IfOk result (λ form. option_map view form ≡ option_and_then (λ said. check_form said.plain)
         (said_after false nothing_said (drop 1 (map string_bytes words.entry.now)))) }
@@ -35,14 +35,14 @@ fn workers(values: Option<&[&str]>) -> Option<u32>
     }
 }
 
-/// Whether the words name a diagram and a script.
+/// Whether the arguments name a diagram and a script.
 fn name_files(diagram: &str, script: &str) -> bool
     ensures { result ≡ (names_file diagram.now && names_file script.now) }
 {
     names_file(diagram) && names_file(script)
 }
 
-/// A route with these files, if they are two.
+/// A `route` of these files, if there are two.
 fn route<'a>(files: Option<&[&'a str]>, count: bool, workers: u32) -> Option<Form<'a>>
     ensures { option_map view result ≡ route_form (option_map_or (λ v. texts v.now) files.entry []) count workers }
 {
@@ -57,7 +57,7 @@ fn route<'a>(files: Option<&[&'a str]>, count: bool, workers: u32) -> Option<For
     }
 }
 
-/// `route` and two files, with options.
+/// The arguments of `route`: two files, with options.
 fn route_words<'a>(alloc: Global, words: &'a [String]) -> Result<Option<Form<'a>>, AllocError>
     ensures { IfOk result (λ form. option_map view form
         ≡ option_and_then (λ said. option_and_then (route_form said.plain said.count) (workers_said said.workers))
@@ -73,7 +73,7 @@ fn route_words<'a>(alloc: Global, words: &'a [String]) -> Result<Option<Form<'a>
     Ok(route(matches.get_raw(PLAIN), count, workers))
 }
 
-/// `make` and a seed.
+/// The argument of `make`: a seed.
 fn make_words<'a>(alloc: Global, words: &'a [String]) -> Result<Option<Form<'a>>, AllocError>
     ensures { IfOk result (λ form. option_map view form ≡ option_and_then (λ said. make_form said.plain)
         (said_after false nothing_said (drop 1 (map string_bytes words.entry.now)))) }
@@ -87,8 +87,9 @@ fn make_words<'a>(alloc: Global, words: &'a [String]) -> Result<Option<Form<'a>>
     }
 }
 
-/// What the words behind the program's name ask for, or `None` where they are of no form. The forms are `check FILE`,
-/// `route FILE FILE` with `--workers N` and `--count`, and `make SEED`. Its only error is want of memory.
+/// The subcommand that the arguments after the program's name ask for, or `None` if they are not
+/// valid. The subcommands are `check FILE`, `route FILE FILE` with `--workers N` and `--count`, and
+/// `make SEED`. The only error is out of memory.
 pub fn read_words<'a>(alloc: Global, words: &'a [String]) -> Result<Option<Form<'a>>, AllocError>
     ensures { IfOk result (λ form. option_map view form ≡ form_of (map string_bytes words.entry.now)) }
 {

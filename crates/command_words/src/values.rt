@@ -1,17 +1,17 @@
-//! What single words say. No public clause cites this module.
+//! The values of single arguments. No public clause cites this module.
 ghost use Rattle.std.specs.Prelude.{◌≡◌};
 ghost use Rattle.std.specs.Char.{is_ascii_digit};
 ghost use Rattle.std.specs.List.{list_all};
 ghost use Rattle.command_words.specs.Words.{is_seed, names_file, seed_of, workers_of};
 
-/// Whether the word names a file.
+/// Whether the argument names a file.
 pub(crate) fn names_file(word: &str) -> bool
     ensures { result ≡ names_file word.now }
 {
     !word.is_empty()
 }
 
-/// The number of workers that the word names.
+/// The number of workers that the argument gives.
 pub(crate) fn worker_count(word: &str) -> Option<u32>
     ensures { result ≡ workers_of word.now }
 {
@@ -24,21 +24,21 @@ pub(crate) fn worker_count(word: &str) -> Option<u32>
     }
 }
 
-/// Whether the word is decimal digits.
+/// Whether the argument consists of decimal digits.
 fn is_number(word: &str) -> bool
     ensures { result ≡ list_all is_ascii_digit word.now }
 {
     word.bytes().all(|byte| byte.is_ascii_digit())
 }
 
-/// Whether the word names a seed.
+/// Whether the argument is a seed.
 fn is_seed(word: &str) -> bool
     ensures { result ≡ is_seed word.now }
 {
     !word.is_empty() && word.len() <= 19 && is_number(word)
 }
 
-/// The seed that the word names.
+/// The seed that the argument gives.
 pub(crate) fn seed(word: &str) -> Option<u64>
     ensures { result ≡ seed_of word.now }
 {

@@ -60,7 +60,7 @@ weighs (Some (list inner)) = tt
 apart : (a b : ℤ) → int_eq a b ≡ false → a ≡ b → ⊥
 apart a b h same = false≢true (sym h ∙ (Decides-int_eq a b).1 same)
 
--- numbers that differ are told apart
+-- numbers that differ are distinguished
 pub other_ends : (a b : ℤ) → (a ≡ b → ⊥) → int_eq a b ≡ false
 other_ends a b differ = elim (told (int_eq a b)) as (λ _. int_eq a b ≡ false) [ yes h ↦ absurd (differ ((Decides-int_eq a b).0 h)) | no h ↦ h ]
 

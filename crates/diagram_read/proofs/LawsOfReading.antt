@@ -17,7 +17,7 @@ use Rattle.diagram_read.specs.Values.{value_at, values_at, is_no_number}
 use Rattle.diagram_read.specs.Nodes.{node_in, with_node_in}
 use Rattle.diagram_read.specs.Edges.{edge_in, with_edge_in}
 
--- the same behind a step
+-- the same after a step
 after_step : {S X : Type 0} (step : S → X → Result S DiagramFault) (r : Result S DiagramFault) (front more : List X) (f : DiagramFault)
     → ((t : S) → each step t front ≡ Err f → each step t (front ++ more) ≡ Err f) → r >>= (λ t. each step t front) ≡ Err f → r >>= (λ t. each step t (front ++ more)) ≡ Err f
 after_step step (Ok t) front more f rest bad = rest t bad

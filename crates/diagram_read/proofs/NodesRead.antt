@@ -19,7 +19,7 @@ use Rattle.diagram_read.specs.Nodes.{size_in, boxed, bare_node, with_pin, node_i
 use Rattle.diagram_read.proofs.Steps.{bound, kept, ok_told, not_refused, there}
 use Rattle.diagram_read.proofs.PinsRead.{pin_loadable, some_told}
 
--- the node may be loaded where the nodes before it have so many pins
+-- the node may be loaded, where the nodes before it have `before` pins
 pub record IsRoomy (before : ℕ) (n : Node) : Type 0 where
   pub loadable : IsLoadableNode n
   pub few : before + length n.pins ≤ 256
@@ -80,7 +80,7 @@ pub node_told : (s : Scene) (entry : ListEntry) (id : ℤ) (place before : ℕ) 
     → node_in s entry ≡ (bare_node place id entry >>= (λ n. each (with_pin place before) n (values_at (codes "pin") entry.1)))
 node_told s entry id place before here counted few known new = rw (here, counted, fits (length s.nodes) 256 few, known, new) refl
 
--- what is behind a reference is there where the reference is
+-- the value of a reference exists if the reference does
 pub copied : {A : Type 0} (o : Option (Bor A)) → is_some (option_copied o) ≡ is_some o
 copied None = refl
 copied (Some r) = refl

@@ -5,7 +5,7 @@ use Rattle.diagram_read.specs.declared.fault.DiagramFault.{DiagramFault}
 use Rattle.diagram_read.specs.declared.fault.DiagramFault.TheVariants.{NoGraph, BadId, SameId, NoPlace, BadNumber, BadEnd, OutOfRange, TooMany, BadPin, BadVia, BadWeight, Memory}
 use Rattle.diagram_read.specs.Faults.{◌>>=◌, need, refuse, each, IsFault, IsRead}
 
--- a fault of the one is that of the other, where each fault that the one tells is told by the other
+-- a fault of the first is that of the second, if each fault of the first is one of the second
 pub fault_moves : {A B : Type 0} (f : DiagramFault) (a : Result A DiagramFault) (b : Result B DiagramFault) → ((g : DiagramFault) → a ≡ Err g → b ≡ Err g) → IsFault a f → IsFault b f
 fault_moves NoGraph a b moves is = moves NoGraph is
 fault_moves (BadId place) a b moves is = moves (BadId place) is
@@ -59,7 +59,7 @@ pub there : {A : Type 0} (fault : DiagramFault) (o : Option A) (x : A) → need 
 there fault (Some y) x is = cc
 there fault None x is = cc
 
--- a fault that is told is one of what is told
+-- a fault of the reading is one of its faults
 pub fault_is : {A : Type 0} (f : DiagramFault) (told : Result A DiagramFault) → told ≡ Err f → IsFault told f
 fault_is NoGraph told is = is
 fault_is (BadId place) told is = is
@@ -74,7 +74,7 @@ fault_is (BadVia place) told is = is
 fault_is (BadWeight place) told is = is
 fault_is Memory told is = tt
 
--- an answer that hands a fault on
+-- a result that passes a fault
 pub handed_on : {A : Type 0} (told : Result A DiagramFault) (f : DiagramFault) (answer : Result A DiagramFault) → IsFault told f → IsErrAnd answer (λ e. e ≡ f) → IsRead told answer
 handed_on told f (Ok x) is handed = absurd handed
 handed_on told f (Err e) is handed = subst (IsFault told) (sym handed) is

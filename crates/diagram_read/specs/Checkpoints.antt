@@ -1,4 +1,4 @@
--- What a checkpoint's list tells.
+-- The list of a checkpoint.
 use Rattle.std.specs.Prelude.{pos, ◌||◌, codes, Option, Some, None, if◌then◌else◌}
 use Rattle.plane_geom.specs.declared.point.Point.{Point}
 use Rattle.gml_text.specs.Tree.{Content}
@@ -9,7 +9,7 @@ use Rattle.diagram_read.specs.Values.{◌>>=◌, as_list, exact_at}
 abbrev pub on_field : Point → Option Point
 on_field p = if is_off p.x (pos 0) || is_off p.y (pos 0) then None else Some p
 
--- the checkpoint that a value tells, if it is good
+-- the checkpoint that a value describes, if it is valid
 abbrev pub checkpoint_of : Content → Option Point
 checkpoint_of value = do
   pairs ← as_list value

@@ -22,7 +22,7 @@ end_node s value = option_and_then (node_with s) (option_and_then id_of value)
 abbrev pub own_class : Node → ℕ → Option ℕ
 own_class n class = if has_class n class then Some class else None
 
--- the class of the pins that an end at the node may use; 0 where nothing is said
+-- the class of the pins that an end at the node may use; 0 if none is given
 abbrev pub class_in : Node → Option Content → Option ℕ
 class_in n None = Some 0
 class_in n (Some value) = option_and_then (own_class n) (class_of value)
@@ -33,26 +33,26 @@ weight_of [] = None
 weight_of (b ∷ []) = if nat_le 49 b && nat_le b 52 then Some (b - 48) else None
 weight_of (b ∷ c ∷ more) = None
 
--- 1 where nothing is said
+-- the weight of a connector; 1 if none is given
 abbrev pub weight_in : Option Content → Option ℕ
 weight_in None = Some 1
 weight_in (Some (number bytes)) = weight_of bytes
 weight_in (Some (text bytes)) = None
 weight_in (Some (list inner)) = None
 
--- one more checkpoint of the edge, where the edges before it have so many
+-- one more checkpoint of the edge, where the edges before it have `before` checkpoints
 abbrev pub with_via : ℕ → ℕ → List Point → Content → Result (List Point) DiagramFault
 with_via place before points value = do
   few ← refuse (TooMany part.Via) (nat_le 4 (length points) || nat_le 256 (before + length points))
   point ← need (BadVia place) (checkpoint_of value)
   Ok (points ++ point ∷ [])
 
--- an edge from a node to itself, of which nothing else is read
+-- an edge from a node to itself; nothing else of it is read
 abbrev pub loop_at : ℕ → ℤ → ℕ → Edge
 loop_at place id origin =
     record { number = place; from = id; to = id; from_class = 0; to_class = 0; via = []; origin = Some origin; weight = 1 }
 
--- an edge between two nodes, where the edges before it have so many checkpoints
+-- an edge between two nodes, where the edges before it have `before` checkpoints
 abbrev pub connector_in : ℕ → ℕ → Node → Node → ListEntry → Result Edge DiagramFault
 connector_in place before from to entry = do
   from_class ← need (BadEnd place) (class_in from (value_at (codes "sourcePin") entry.1))
@@ -70,7 +70,7 @@ connector_in place before from to entry = do
     weight = weight;
   })
 
--- the edge of a list, behind the edges of the scene
+-- the edge of a list, after the edges of the scene
 abbrev pub edge_in : Scene → ListEntry → Result Edge DiagramFault
 edge_in s entry = do
   let place = suc (length s.edges)
@@ -79,7 +79,7 @@ edge_in s entry = do
   to ← need (BadEnd place) (end_node s (value_at (codes "target") entry.1))
   if int_eq from.id to.id then Ok (loop_at place from.id entry.0) else connector_in place (via_count s) from to entry
 
--- the scene with the edge of the list, and with those of all of them
+-- the scene with the edge of the list, and with the edges of all lists
 abbrev pub with_edge_in : Scene → ListEntry → Result Scene DiagramFault
 with_edge_in s entry = do
   e ← edge_in s entry

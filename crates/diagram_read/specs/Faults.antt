@@ -9,7 +9,7 @@ abbrev pub ◌>>=◌ : {A B : Type 0} → Result A DiagramFault → (A → Resul
 (Ok x) >>= next = next x
 (Err fault) >>= next = Err fault
 
--- what has to be there
+-- what has to be present
 abbrev pub need : {A : Type 0} → DiagramFault → Option A → Result A DiagramFault
 need fault (Some x) = Ok x
 need fault None = Err fault
@@ -24,17 +24,17 @@ abbrev pub each : {S X : Type 0} → (S → X → Result S DiagramFault) → S �
 each step s [] = Ok s
 each step s (x ∷ xs) = step s x >>= (λ next. each step next xs)
 
--- the fault of what is told, or want of memory, which nothing tells
+-- the fault of the reading, or out of memory, on which the reading has no influence
 abbrev pub IsFault : {A : Type 0} → Result A DiagramFault → DiagramFault → Type 0
 IsFault told Memory = Unit {0}
 IsFault told fault = told ≡ Err fault
 
--- the answer of a call that reads what is told
+-- the result of a call that computes the reading
 abbrev pub IsRead : {A : Type 0} → Result A DiagramFault → Result A DiagramFault → Type 0
 IsRead told (Ok x) = told ≡ Ok x
 IsRead told (Err fault) = IsFault told fault
 
--- the same of a call that leaves what it reads behind a reference
+-- the same for a call that leaves what it reads in a reference
 abbrev pub IsReadInto : {A : Type 0} → Result A DiagramFault → A → Result Unit DiagramFault → Type 0
 IsReadInto told x (Ok done) = told ≡ Ok x
 IsReadInto told x (Err fault) = IsFault told fault

@@ -14,7 +14,7 @@ use Rattle.diagram_read.specs.Faults.{◌>>=◌, need, refuse, each}
 abbrev pub on_sheet : ℤ → Option ℤ
 on_sheet value = if is_coordinate value then Some value else None
 
--- the point that a list of the line of the edge with this number tells
+-- the point that a list describes, in the line of the edge with this number
 abbrev pub point_in : ℕ → Pairs → Result Point DiagramFault
 point_in number pairs = do
   let x = number_in (value_at (codes "x") pairs)
@@ -24,7 +24,7 @@ point_in number pairs = do
   on_y ← need (OutOfRange part.Edge number) (option_and_then on_sheet (in_range y))
   Ok (record { x = on_x; y = on_y })
 
--- one more point behind the others
+-- one more point after the others
 abbrev pub with_point : ℕ → List Point → Pairs → Result (List Point) DiagramFault
 with_point number points pairs = do
   point ← point_in number pairs

@@ -14,12 +14,12 @@ use Rattle.diagram_read.specs.Values.{ListEntry, value_at, values_at, as_list, m
 use Rattle.diagram_read.specs.Faults.{◌>>=◌, need, refuse, each}
 use Rattle.diagram_read.specs.Pins.{pin_of}
 
--- a width or a height, which is 30 where it is missing
+-- a width or a height, which is 30 units if it is missing
 abbrev pub size_in : Option Content → Result ℤ MilliFault
 size_in None = Ok (pos 30000)
 size_in (Some value) = milli_of value
 
--- a group is marked by a number that is read as one unit
+-- the number marks a group: it is read as one unit
 abbrev pub is_group_mark : Result ℤ MilliFault → Bool
 is_group_mark (Ok value) = int_eq value (pos 1000)
 is_group_mark (Err fault) = false
@@ -53,14 +53,14 @@ bare_node place id entry = do
   y ← need (NoPlace place) (value_at (codes "y") graphics)
   boxed place id entry (milli_of x) (milli_of y) (size_in (value_at (codes "w") graphics)) (size_in (value_at (codes "h") graphics))
 
--- one more pin of the node, where the nodes before it have so many
+-- one more pin of the node, where the nodes before it have `before` pins
 abbrev pub with_pin : ℕ → ℕ → Node → Content → Result Node DiagramFault
 with_pin place before n value = do
   few ← refuse (TooMany part.Pin) (nat_le 256 (before + length n.pins))
   pin ← need (BadPin place) (pin_of n value)
   Ok (record n { pins = n.pins ++ pin ∷ [] })
 
--- the node of a list, behind the nodes of the scene
+-- the node of a list, after the nodes of the scene
 abbrev pub node_in : Scene → ListEntry → Result Node DiagramFault
 node_in s entry = do
   let place = suc (length s.nodes)
@@ -70,7 +70,7 @@ node_in s entry = do
   bare ← bare_node place id entry
   each (with_pin place (pin_count s)) bare (values_at (codes "pin") entry.1)
 
--- the scene with the node of the list, and with those of all of them
+-- the scene with the node of the list, and with the nodes of all lists
 abbrev pub with_node_in : Scene → ListEntry → Result Scene DiagramFault
 with_node_in s entry = do
   n ← node_in s entry

@@ -1,4 +1,4 @@
--- What a pin's list tells.
+-- The list of a pin.
 use Rattle.std.specs.Prelude.{ℕ, ◌==◌, ◌||◌, ◌^◌, ℤ, pos, int_lt, codes, Option, Some, None, option_and_then, if◌then◌else◌}
 use Rattle.gml_text.specs.Tree.{Content, number, text, list}
 use Rattle.scene_model.specs.declared.node.Node.{Node}
@@ -13,7 +13,7 @@ use Rattle.diagram_read.specs.Values.{◌>>=◌, value_at, as_list, in_range, ex
 abbrev pub added_class : ℕ → Option ℕ
 added_class class = if class == 0 then None else Some class
 
--- all four directions where nothing is said, else those that a string tells
+-- the directions that a string gives, or all four if nothing is given
 abbrev pub dirs_in : Option Content → Option Dirs
 dirs_in None = Some centre_pin.dirs
 dirs_in (Some (text letters)) = dirs_of letters
@@ -24,7 +24,7 @@ dirs_in (Some (list inner)) = None
 abbrev pub in_costs : ℤ → Option ℤ
 in_costs cost = if int_lt cost (pos 0) || int_lt (pos (10 ^ 9)) cost then None else Some cost
 
--- no cost where nothing is said
+-- the cost of a pin; 0 if none is given
 abbrev pub cost_in : Option Content → Option ℤ
 cost_in None = Some (pos 0)
 cost_in (Some value) = option_and_then in_costs (in_range (milli_of value))
@@ -33,7 +33,7 @@ cost_in (Some value) = option_and_then in_costs (in_range (milli_of value))
 abbrev pub within_box : Node → Pin → Option Pin
 within_box n p = if is_outside n.half_w n.half_h p then None else Some p
 
--- the pin that a value of the node tells, if it is good
+-- the pin of the node that a value describes, if it is valid
 abbrev pub pin_of : Node → Content → Option Pin
 pin_of n value = do
   pairs ← as_list value

@@ -14,18 +14,18 @@ use Rattle.diagram_read.specs.declared.fault.DiagramFault.TheVariants.{BadNumber
 use Rattle.diagram_read.specs.Values.{value_at, milli_of}
 use Rattle.diagram_read.specs.Faults.{◌>>=◌}
 
--- the scene with the setting that is told, if it is
+-- the scene with the setting changed, if a value is given
 abbrev pub with_setting_read : Setting → Scene → Option (Result ℤ MilliFault) → Result Scene DiagramFault
 with_setting_read what s None = Ok s
 with_setting_read what s (Some (Err milli.NotNumber)) = Err (BadNumber Router 0)
 with_setting_read what s (Some (Err milli.OutOfRange)) = Err (OutOfRange Router 0)
 with_setting_read what s (Some (Ok value)) = if out_of_limits what value then Err (OutOfRange Router 0) else Ok (changed (Set what value) s)
 
--- the same, as the list tells under the key
+-- the same for the value under the key of the list
 abbrev pub with_setting_at : Setting → List ℕ → Pairs → Scene → Result Scene DiagramFault
 with_setting_at what key router s = with_setting_read what s (option_map milli_of (value_at key router))
 
--- the scene with the settings that the `router` list tells, if there is one
+-- the scene with the settings in the `router` list, if there is one
 abbrev pub with_settings_in : Option Pairs → Scene → Result Scene DiagramFault
 with_settings_in None s = Ok s
 with_settings_in (Some router) s = do

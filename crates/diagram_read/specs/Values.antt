@@ -1,4 +1,4 @@
--- What stands under a key, and what a value is read as.
+-- Values under keys, and how values are read.
 use Rattle.std.specs.Prelude.{ℕ, suc, ◌||◌, ℤ, pos, int_lt, unsigned_abs, Bool, true, false, List, [], ◌∷◌, length, slice_get, bytes_eq, Option, Some, None, option_and_then, Result, Ok, Err, if◌then◌else◌}
 use Rattle.std.specs.List.{filter_map}
 use Rattle.fixed_milli.specs.declared.milli.MilliFault.{MilliFault}
@@ -7,7 +7,7 @@ use Rattle.fixed_milli.specs.Value.{read}
 use Rattle.fixed_milli.specs.Whole.{read_whole}
 use Rattle.gml_text.specs.Tree.{Content, number, text, list, Pairs, no_pairs, pair}
 
--- what follows a value that is there
+-- the next step with a value, if there is one
 infixl 10 ◌>>=◌
 abbrev pub ◌>>=◌ : {A B : Type 0} → Option A → (A → Option B) → Option B
 o >>= next = option_and_then next o
@@ -62,23 +62,23 @@ milli_of (number bytes) = read bytes
 milli_of (text bytes) = Err NotNumber
 milli_of (list inner) = Err NotNumber
 
--- the number that a value tells; none is told where the value is missing
+-- the number of a value; `NotNumber` if the value is missing
 abbrev pub number_in : Option Content → Result ℤ MilliFault
 number_in None = Err NotNumber
 number_in (Some value) = milli_of value
 
--- what tells no number at all
+-- the value is not a number, or is missing
 abbrev pub is_no_number : Result ℤ MilliFault → Bool
 is_no_number (Ok value) = false
 is_no_number (Err OutOfRange) = false
 is_no_number (Err NotNumber) = true
 
--- a number within the range of those that are read
+-- the number, if it is within the range of those that are read
 abbrev pub in_range : Result ℤ MilliFault → Option ℤ
 in_range (Ok value) = Some value
 in_range (Err fault) = None
 
--- the number under the key, where one is there and within the range
+-- the number under the key, if there is one and it is within the range
 abbrev pub exact_at : List ℕ → Pairs → Option ℤ
 exact_at key pairs = in_range (number_in (value_at key pairs))
 

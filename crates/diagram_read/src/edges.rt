@@ -21,14 +21,15 @@ const MOST_VIA_OF_EDGE: usize = 4;
 /// The most checkpoints of a diagram.
 const MOST_VIA: usize = 256;
 
-/// An edge's list: its place among the edges, from 1, and its place among the pairs of the graph, from 0.
+/// An edge's list: its place among the edges, from 1, and its place among the pairs of the graph,
+/// from 0.
 #[derive(Clone, Copy)]
 pub(crate) struct EdgeHead {
     pub(crate) place: u32,
     pub(crate) origin: u32,
 }
 
-/// An edge from a node to itself, of which nothing else is read.
+/// An edge from a node to itself; nothing else of it is read.
 pub(crate) fn loop_at(alloc: Global, head: EdgeHead, id: i64) -> Edge
     ensures { result ≡ loop_at head.place id head.origin }
 {
@@ -44,7 +45,7 @@ pub(crate) fn loop_at(alloc: Global, head: EdgeHead, id: i64) -> Edge
     }
 }
 
-/// An edge between two nodes, where the edges before it have so many checkpoints.
+/// An edge between two nodes, if the edges before it have `before` checkpoints.
 pub(crate) fn connector_in(
     alloc: Global,
     head: EdgeHead,
@@ -76,14 +77,14 @@ pub(crate) fn connector_in(
     })
 }
 
-/// The node that an end names, whose key this is.
+/// The node that the end with this key names.
 pub(crate) fn end_at<'a>(scene: &'a Scene, list: &[Pair], key: &[u8]) -> Option<&'a Node>
     ensures { option_copied result ≡ end_node scene.now (value_at key.now (pairs list.now)) }
 {
     scene.node(id_at(list, key)?)
 }
 
-/// The class of the pins that an end at the node may use; 0 where nothing is said.
+/// The class of the pins that an end at the node may use; 0 if none is given.
 fn class_in(node: &Node, value: Option<&Value>) -> Option<u32>
     ensures { result ≡ class_in node.now (option_map content (option_copied value.entry)) }
 {
@@ -98,7 +99,7 @@ fn class_in(node: &Node, value: Option<&Value>) -> Option<u32>
     }
 }
 
-/// The weight of a connector, from 1 to 4; 1 where nothing is said.
+/// The weight of a connector, from 1 to 4; 1 if none is given.
 fn weight_in(value: Option<&Value>) -> Option<u32>
     ensures { result ≡ weight_in (option_map content (option_copied value.entry)) }
 {
@@ -109,7 +110,7 @@ fn weight_in(value: Option<&Value>) -> Option<u32>
     }
 }
 
-/// One digit from 1 to 4.
+/// The weight that the bytes spell: one digit from 1 to 4.
 fn weight_of(bytes: &[u8]) -> Option<u32>
     ensures { result ≡ weight_of bytes.now }
 {
@@ -119,7 +120,8 @@ fn weight_of(bytes: &[u8]) -> Option<u32>
     }
 }
 
-/// The checkpoints of an edge's list; the place is that among the edges, and the edges before it have so many.
+/// The checkpoints of an edge's list. `place` is that of the edge, and the edges before it have
+/// `before` checkpoints.
 fn via_in(alloc: Global, place: u32, before: usize, list: &[Pair]) -> Result<Via, DiagramFault>
     requires { before ≤ 256 }
     ensures { IsRead (each (with_via place before) [] (values_at (codes "via") (pairs list.now))) result }
@@ -133,7 +135,7 @@ fn via_in(alloc: Global, place: u32, before: usize, list: &[Pair]) -> Result<Via
     Ok(via)
 }
 
-/// Puts the checkpoint that a value tells behind the others.
+/// Appends the checkpoint that a value describes.
 fn add_via(via: &mut Via, place: u32, before: usize, value: &Value) -> Result<(), DiagramFault>
     requires { before ≤ 256 }
     ensures { IsReadInto (with_via place before via.old (content value.now)) via.new result }
@@ -147,7 +149,7 @@ fn add_via(via: &mut Via, place: u32, before: usize, value: &Value) -> Result<()
     Ok(())
 }
 
-/// The checkpoint that a value tells, if it is good.
+/// The checkpoint that a value describes, if it is valid.
 fn checkpoint_of(value: &Value) -> Option<Point>
     ensures { result ≡ checkpoint_of (content value.now) }
 {

@@ -1,6 +1,6 @@
-//! A diagram as a scene: from the tree of a GML file exactly its scene, or exactly its first fault.
+//! Reading a diagram: the tree of a GML file as exactly its scene, or exactly its first fault.
 //!
-//! Lengths in a diagram are units, and become whole thousandths.
+//! Lengths in a diagram are in units, and become whole thousandths.
 #![tactic(auto)]
 
 mod edges;

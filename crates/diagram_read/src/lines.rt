@@ -15,12 +15,13 @@ use std::alloc::Global;
 
 /// The line of an edge of the document's scene, if the edge has one: the points in order.
 ///
-/// It has one where its first `graphics` that is a list has a `Line`, and the first `Line` is a list; the points are
-/// the lists `point` in it. An edge whose origin is no list of the document has none.
+/// It has one if its first `graphics` that is a list has a `Line`, and the first `Line` is a list;
+/// the points are the lists `point` in it. An edge whose origin is not a list of the document has
+/// none.
 ///
-/// `BadNumber` comes where an `x` or a `y` of a point is missing or no number, and `OutOfRange` where one is beyond
-/// 2 * 10^9 thousandths, both with the part `Edge` and the edge's number; the first point that has a fault decides.
-/// `Memory` comes where memory is wanting.
+/// The error is `BadNumber` if an `x` or a `y` of a point is missing or not a number, and
+/// `OutOfRange` if one is beyond 2 * 10^9 thousandths, both with the part `Edge` and the edge's
+/// number; the first point with a fault decides. The error is `Memory` when out of memory.
 pub fn line_of(alloc: Global, doc: &Doc, edge: &Edge) -> Result<Option<Points>, DiagramFault>
     ensures { IsRead (line_of (tree doc.now) edge.now) result }
 {
@@ -55,7 +56,7 @@ fn list_with(doc: &Doc, origin: u32) -> Option<&[Pair]>
     as_list(value_with(graph, origin as usize)?)
 }
 
-/// The point that a list of the line of the edge with this number tells.
+/// The point that a list describes, in the line of the edge with this number.
 fn point_in(number: u32, list: &[Pair]) -> Result<Point, DiagramFault>
     ensures { result ≡ point_in number (pairs list.now) }
 {

@@ -11,10 +11,11 @@ use gml_text::{Pair, Value};
 use scene_model::{Node, Pins, half, is_off};
 use std::alloc::Global;
 
-/// A width or a height that is missing.
+/// The width or height of a node that gives none.
 const DEFAULT_SIZE: i64 = 30_000;
 
-/// A node's list: its place among the nodes, from 1, its place among the pairs of the graph, from 0, and its id.
+/// A node's list: its place among the nodes, from 1, its place among the pairs of the graph, from
+/// 0, and its id.
 #[derive(Clone, Copy)]
 pub(crate) struct NodeHead {
     pub(crate) place: u32,
@@ -22,7 +23,7 @@ pub(crate) struct NodeHead {
     pub(crate) id: i64,
 }
 
-/// What the `graphics` of a node tell.
+/// The numbers in the `graphics` of a node.
 #[derive(Clone, Copy)]
 struct Numbers {
     x: Result<i64, MilliFault>,
@@ -92,7 +93,7 @@ fn boxed(
     })
 }
 
-/// A width or a height, which is 30 where it is missing.
+/// A width or a height, which is 30 units if it is missing.
 fn size_in(value: Option<&Value>) -> Result<i64, MilliFault>
     ensures { result ≡ size_in (option_map content (option_copied value.entry)) }
 {
@@ -102,7 +103,7 @@ fn size_in(value: Option<&Value>) -> Result<i64, MilliFault>
     }
 }
 
-/// A group is marked by a number that is read as one unit.
+/// Whether the number marks a group: it is read as one unit.
 fn is_mark(number: Result<i64, MilliFault>) -> bool
     ensures { result ≡ is_group_mark number }
 {

@@ -15,7 +15,8 @@ use scene_model::{Dirs, Node, Pin, is_outside};
 /// The most pins of a diagram.
 const MOST_PINS: usize = 256;
 
-/// The node with the pins of its list; the place is that among the nodes, and the nodes before it have so many pins.
+/// The node with the pins of its list. `place` is that of the node, and the nodes before it have
+/// `before` pins.
 pub(crate) fn with_pins(
     mut node: Node,
     place: u32,
@@ -33,7 +34,7 @@ pub(crate) fn with_pins(
     Ok(node)
 }
 
-/// Puts the pin that a value tells behind the others of the node.
+/// Appends the pin that a value describes to those of the node.
 fn add_pin(node: &mut Node, place: u32, before: usize, value: &Value) -> Result<(), DiagramFault>
     requires { before ≤ 256 }
     ensures { IsReadInto (with_pin place before node.old (content value.now)) node.new result }
@@ -46,7 +47,7 @@ fn add_pin(node: &mut Node, place: u32, before: usize, value: &Value) -> Result<
     Ok(())
 }
 
-/// The pin that a value of the node tells, if it is good.
+/// The pin of the node that a value describes, if it is valid.
 fn pin_of(node: &Node, value: &Value) -> Option<Pin>
     ensures { result ≡ pin_of node.now (content value.now) }
 {
@@ -69,7 +70,7 @@ fn pin_of(node: &Node, value: &Value) -> Option<Pin>
     }
 }
 
-/// All four directions where nothing is said, else those that a string tells.
+/// The directions that a string gives, or all four if nothing is given.
 fn dirs_in(value: Option<&Value>) -> Option<Dirs>
     ensures { result ≡ dirs_in (option_map content (option_copied value.entry)) }
 {
@@ -80,7 +81,7 @@ fn dirs_in(value: Option<&Value>) -> Option<Dirs>
     }
 }
 
-/// A cost from 0 to 10^9 thousandths; 0 where nothing is said.
+/// The cost, from 0 to 10^9 thousandths; 0 if none is given.
 fn cost_in(value: Option<&Value>) -> Option<i64>
     ensures { result ≡ cost_in (option_map content (option_copied value.entry)) }
 {

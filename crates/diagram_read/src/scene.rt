@@ -20,21 +20,23 @@ use scene_model::{Edge, Node};
 use scene_store::Scene;
 use std::alloc::Global;
 
-/// The most nodes, groups among them.
+/// The most nodes, including groups.
 const MOST_NODES: u32 = 256;
 
-/// The most edges, loops among them.
+/// The most edges, including loops.
 const MOST_EDGES: u32 = 512;
 
 /// The scene of a document, or its first fault.
 ///
-/// The graph is the first `graph` that is a list. Its settings come first, then its nodes, then its edges, each in
-/// the order of the document; the first fault that is met ends the reading, so no list grows beyond its limit.
-/// Places count from 1 among the `node` lists or the `edge` lists. Where a key stands twice in a list, the first
-/// counts, but for `node`, `edge`, `pin` and `via`; keys that have no meaning are passed over.
+/// The graph is the first `graph` that is a list. Its settings come first, then its nodes, then its
+/// edges, each in the order of the document; reading stops at the first fault, so no list grows
+/// beyond its limit. Places count from 1 among the `node` lists or the `edge` lists. If a key is in
+/// a list twice, the first counts, except for `node`, `edge`, `pin` and `via`; keys that have no
+/// meaning are ignored.
 ///
-/// `Memory` comes where memory is wanting, which may be before any fault is met; so it comes for a node or an edge
-/// at a place of the graph list that no `origin` can name, above 2^32 - 1.
+/// The error is `Memory` when out of memory, which may come before any fault is met; it is also the
+/// error for a node or an edge at a place of the graph list that no `origin` can name, above 2^32 -
+/// 1.
 pub fn scene_of(alloc: Global, doc: &Doc) -> Result<Scene, DiagramFault>
     ensures { IsRead (scene_of (tree doc.now)) result }
 {
@@ -54,7 +56,7 @@ pub fn scene_of(alloc: Global, doc: &Doc) -> Result<Scene, DiagramFault>
     Ok(reader.scene)
 }
 
-/// The scene so far, and how much it holds.
+/// The scene so far, and the counts of what it holds.
 #[derive(Drop)]
 struct Reader {
     alloc: Global,
@@ -72,7 +74,7 @@ struct Reader {
     ghost numbered: { scene.next_edge ≡ suc (length scene.edges) },
 }
 
-/// The place of a pair of the graph list, where an `origin` can name it.
+/// The place of a pair of the graph list as an `origin`, if it fits.
 fn origin_of(index: usize) -> Result<u32, DiagramFault>
     ensures ok { IfOk result (λ origin. origin ≡ index) }
     ensures err { IfErr result (λ fault. fault ≡ Memory) }
@@ -81,7 +83,7 @@ fn origin_of(index: usize) -> Result<u32, DiagramFault>
 }
 
 impl Reader {
-    /// Puts the nodes of the graph list into the scene.
+    /// Loads the nodes of the graph list into the scene.
     fn load_nodes(&mut self, graph: &[Pair]) -> Result<(), DiagramFault>
         ensures { IsReadInto (with_nodes_in self.old.scene (entries_from 0 (codes "node") (pairs graph.now))) self.new.scene result }
     {
@@ -95,7 +97,7 @@ impl Reader {
         Ok(())
     }
 
-    /// Puts the edges of the graph list into the scene.
+    /// Loads the edges of the graph list into the scene.
     fn load_edges(&mut self, graph: &[Pair]) -> Result<(), DiagramFault>
         ensures { IsReadInto (with_edges_in self.old.scene (entries_from 0 (codes "edge") (pairs graph.now))) self.new.scene result }
     {
@@ -109,7 +111,7 @@ impl Reader {
         Ok(())
     }
 
-    /// Puts the node of a list into the scene.
+    /// Loads the node of a list into the scene.
     fn load_node(&mut self, origin: u32, list: &[Pair]) -> Result<(), DiagramFault>
         ensures { IsReadInto (with_node_in self.old.scene (origin, pairs list.now)) self.new.scene result }
     {
@@ -125,7 +127,7 @@ impl Reader {
         }
     }
 
-    /// The node of a list, behind the nodes so far.
+    /// The node of a list, after the nodes so far.
     fn node_in(&self, origin: u32, list: &[Pair]) -> Result<Node, DiagramFault>
         ensures { IsRead (node_in self.now.scene (origin, pairs list.now)) result }
     {
@@ -142,7 +144,7 @@ impl Reader {
         with_pins(node, place, self.pins, list)
     }
 
-    /// Puts the edge of a list into the scene.
+    /// Loads the edge of a list into the scene.
     fn load_edge(&mut self, origin: u32, list: &[Pair]) -> Result<(), DiagramFault>
         ensures { IsReadInto (with_edge_in self.old.scene (origin, pairs list.now)) self.new.scene result }
     {
@@ -158,7 +160,7 @@ impl Reader {
         }
     }
 
-    /// The edge of a list, behind the edges so far.
+    /// The edge of a list, after the edges so far.
     fn edge_in(&self, origin: u32, list: &[Pair]) -> Result<Edge, DiagramFault>
         ensures { IsRead (edge_in self.now.scene (origin, pairs list.now)) result }
     {

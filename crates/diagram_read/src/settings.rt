@@ -17,7 +17,7 @@ const OUT_OF_RANGE: DiagramFault = DiagramFault::OutOfRange {
     place: 0,
 };
 
-/// Puts the settings that the first `router` list of the graph tells into the scene.
+/// Applies the settings in the first `router` list of the graph to the scene.
 pub(crate) fn load_settings(scene: &mut Scene, graph: &[Pair]) -> Result<(), DiagramFault>
     ensures { IsReadInto (with_settings_in (list_at (codes "router") (pairs graph.now)) scene.old) scene.new result }
 {
@@ -29,7 +29,7 @@ pub(crate) fn load_settings(scene: &mut Scene, graph: &[Pair]) -> Result<(), Dia
     load_setting(scene, Setting::Nudge, b"nudge", router)
 }
 
-/// Puts one setting into the scene, if the list tells it.
+/// Applies one setting to the scene, if the list has it.
 fn load_setting(
     scene: &mut Scene,
     what: Setting,
@@ -45,7 +45,7 @@ fn load_setting(
         Ok(value) => match scene.set(what, value) {
             Ok(()) => Ok(()),
             Err(SceneFault::OutOfRange { .. }) => Err(OUT_OF_RANGE),
-            // No other refusal comes.
+            // There is no other refusal.
             Err(_) => Err(DiagramFault::Memory),
         },
         Err(MilliFault::OutOfRange) => Err(OUT_OF_RANGE),

@@ -1,4 +1,4 @@
-//! What stands under a key, and what a value is read as.
+//! Values under keys, and how values are read.
 ghost use Rattle.std.specs.Prelude.{◌≡◌, bytes_eq, length, option_and_then, option_map, slice_get};
 ghost use Rattle.std.specs.Option.{option_copied};
 ghost use Rattle.diagram_read.specs.Classes.{capped};
@@ -13,14 +13,14 @@ use gml_text::{Pair, Value, find};
 /// The greatest class.
 const MOST_CLASS: u32 = 65_535;
 
-/// The pair has the key.
+/// Whether the pair has the key.
 pub(crate) fn has_key(pair: &Pair, key: &[u8]) -> bool
     ensures { result ≡ bytes_eq pair.now.key key.now }
 {
     pair.key.as_slice() == key
 }
 
-/// The pairs of a value that is a list.
+/// The pairs of the value, if it is a list.
 pub(crate) fn as_list(value: &Value) -> Option<&[Pair]>
     ensures { option_map (λ l. pairs l.now) result ≡ as_list (content value.now) }
 {
@@ -76,7 +76,7 @@ pub(crate) fn milli_of(value: &Value) -> Result<i64, MilliFault>
     }
 }
 
-/// The number under the key; none is told where the key is missing.
+/// The number under the key; the error is `NotNumber` if the key is missing.
 pub(crate) fn number_at(list: &[Pair], key: &[u8]) -> Result<i64, MilliFault>
     ensures { result ≡ number_in (value_at key.now (pairs list.now)) }
 {
@@ -86,14 +86,14 @@ pub(crate) fn number_at(list: &[Pair], key: &[u8]) -> Result<i64, MilliFault>
     }
 }
 
-/// No number is told at all.
+/// Whether the value is not a number, or is missing.
 pub(crate) fn is_no_number(number: Result<i64, MilliFault>) -> bool
     ensures { result ≡ is_no_number number }
 {
     matches!(number, Err(MilliFault::NotNumber))
 }
 
-/// A number within the range of those that are read.
+/// The number, if it is within the range of those that are read.
 pub(crate) fn in_range(number: Result<i64, MilliFault>) -> Option<i64>
     ensures { result ≡ in_range number }
 {
@@ -103,7 +103,7 @@ pub(crate) fn in_range(number: Result<i64, MilliFault>) -> Option<i64>
     }
 }
 
-/// The number under the key, where one is there and within the range.
+/// The number under the key, if there is one and it is within the range.
 pub(crate) fn exact_at(list: &[Pair], key: &[u8]) -> Option<i64>
     ensures { result ≡ exact_at key.now (pairs list.now) }
 {
@@ -120,7 +120,7 @@ fn id_of(value: &Value) -> Option<i64>
     }
 }
 
-/// The id that the value of the first pair with the key tells.
+/// The id in the value of the first pair with the key.
 pub(crate) fn id_at(list: &[Pair], key: &[u8]) -> Option<i64>
     ensures { result ≡ option_and_then id_of (value_at key.now (pairs list.now)) }
 {
@@ -149,7 +149,7 @@ fn class_in(bytes: &[u8]) -> Option<u32>
     Some(class)
 }
 
-/// Whether a minus stands first, and what follows the sign.
+/// Whether a minus comes first, and what follows the sign.
 fn split_sign(bytes: &[u8]) -> (bool, &[u8])
     ensures negative { result.0 ≡ (signed bytes.now).0 }
     ensures rest { result.1.now ≡ (signed bytes.now).1 }
@@ -161,7 +161,7 @@ fn split_sign(bytes: &[u8]) -> (bool, &[u8])
     }
 }
 
-/// The number that the digits spell, or one above the greatest class where it is greater.
+/// The number that the digits spell, or one more than the greatest class if it is greater.
 fn capped(digits: &[u8]) -> Option<u32>
     ensures { result ≡ capped digits.now }
 {

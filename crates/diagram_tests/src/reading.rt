@@ -1,4 +1,4 @@
-//! Diagrams that are read and refused, at their limits and beyond.
+//! Diagrams that are read or refused, at their limits and beyond.
 
 use diagram_read::{DiagramFault, Part, line_of, scene_of};
 use gml_text::{Doc, parse};
@@ -91,7 +91,7 @@ const DIAGRAMS: [Row; 17] = [
     ),
 ];
 
-/// Before a pin of the only node, of the default size.
+/// The text before a pin of the only node, which has the default size.
 const PIN_FRONT: &str = "graph [ node [ id 1 graphics [ x 0 y 0 ] ";
 
 const PIN_BACK: &str = " ] ]";
@@ -124,7 +124,7 @@ const PINS: [Row; 7] = [
     ),
 ];
 
-/// Before the edges of a graph of two nodes.
+/// The text before the edges of a graph of two nodes.
 const EDGE_FRONT: &str =
     "graph [ node [ id 1 graphics [ x 0 y 0 ] ] node [ id 2 graphics [ x 100 y 0 w 20 h 20 ] ] ";
 
@@ -166,21 +166,21 @@ const EDGES: [Row; 9] = [
     ),
 ];
 
-/// An edge with as many checkpoints as it may have.
+/// An edge with the greatest number of checkpoints.
 const FULL_EDGE: &str =
     "edge [ source 1 target 2 via [ x 1 y 1 ] via [ x 1 y 1 ] via [ x 1 y 1 ] via [ x 1 y 1 ] ] ";
 
-/// Before the `graphics` of the only edge.
+/// The text before the `graphics` of the only edge.
 const LINE_FRONT: &str = "graph [ node [ id 1 graphics [ x 0 y 0 ] ] \
 node [ id 2 graphics [ x 100 y 0 w 20 h 20 ] ] edge [ source 1 target 2 ";
 
 const LINE_BACK: &str = " ] ]";
 
-/// Before the points of the only edge's line.
+/// The text before the points of the only edge's line.
 const LONG_FRONT: &str = "graph [ node [ id 1 graphics [ x 0 y 0 ] ] \
 node [ id 2 graphics [ x 100 y 0 w 20 h 20 ] ] edge [ source 1 target 2 graphics [ Line [ ";
 
-/// What an edge's `graphics` are, and how many points its line has.
+/// The `graphics` of an edge, and the number of points of its line.
 const LINES: [(&str, Result<Option<usize>, DiagramFault>); 9] = [
     ("", Ok(None)),
     ("graphics 1", Ok(None)),
@@ -217,7 +217,7 @@ const LINES: [(&str, Result<Option<usize>, DiagramFault>); 9] = [
     ),
 ];
 
-/// A diagram in which much is passed over.
+/// A diagram in which much is ignored.
 const SCENE: &str =
     "graph [ label 1 router 2 router [ buffer 2 nudge 0 penalty 1E0 penalty 3 ] node \"x\" \
 node [ id -0 isGroup 0.9996 graphics [ x 0.0005 y -0.0005 w 20.0005 h -0.0004 ] pin [ class 7 x 0 y 0 ] ] \
@@ -243,7 +243,7 @@ const POINTS: [Point; 2] = [
     },
 ];
 
-/// The part so many times between two texts.
+/// The part repeated between two texts.
 fn repeated(
     alloc: Global,
     front: &str,
@@ -276,7 +276,7 @@ fn fault_in(alloc: Global, text: &str) -> Option<DiagramFault> {
     }
 }
 
-/// The fault of a diagram of the part so many times between two texts.
+/// The fault of a diagram of the part repeated between two texts.
 fn fault_of(
     alloc: Global,
     front: &str,
@@ -314,7 +314,7 @@ fn refuses_pins_and_edges(rt: HostRuntime) {
     );
 }
 
-/// A graph of so many nodes.
+/// A graph of `count` nodes.
 fn many_nodes(alloc: Global, count: usize) -> Result<String, AllocError> {
     let mut text = String::new(alloc);
     text.push_str("graph [ ")?;
@@ -326,7 +326,7 @@ fn many_nodes(alloc: Global, count: usize) -> Result<String, AllocError> {
     Ok(text)
 }
 
-/// The fault of a graph of so many nodes.
+/// The fault of a graph of `count` nodes.
 fn fault_of_nodes(alloc: Global, count: usize) -> Option<DiagramFault> {
     match many_nodes(alloc, count) {
         Ok(text) => fault_in(alloc, &text),
@@ -343,13 +343,13 @@ fn stops_at_nodes(rt: HostRuntime) {
     );
 }
 
-/// The fault of a node of so many pins, and one more that is none.
+/// The fault of a node with `count` pins, and one more that is invalid.
 fn fault_of_pins(alloc: Global, count: usize) -> Option<DiagramFault> {
     let back = "pin 5 ] ]";
     fault_of(alloc, PIN_FRONT, "pin [ class 1 x 0 y 0 ] ", count, back)
 }
 
-/// The fault of so many edges, and one more that is none.
+/// The fault of `count` edges, and one more that is invalid.
 fn fault_of_edges(alloc: Global, count: usize) -> Option<DiagramFault> {
     let back = "edge [ ] ]";
     fault_of(
@@ -361,12 +361,13 @@ fn fault_of_edges(alloc: Global, count: usize) -> Option<DiagramFault> {
     )
 }
 
-/// The fault of an edge of so many checkpoints.
+/// The fault of an edge with `count` checkpoints.
 fn fault_of_checkpoints(alloc: Global, count: usize) -> Option<DiagramFault> {
     fault_of(alloc, LINE_FRONT, "via [ x 1 y 1 ] ", count, LINE_BACK)
 }
 
-/// The fault of so many edges that are full of checkpoints, and one more checkpoint that is none.
+/// The fault of `count` edges that are full of checkpoints, and one more checkpoint that is
+/// invalid.
 fn fault_of_full_edges(alloc: Global, count: usize) -> Option<DiagramFault> {
     let back = "edge [ source 1 target 2 via 1 ] ]";
     fault_of(alloc, EDGE_FRONT, FULL_EDGE, count, back)
@@ -387,7 +388,7 @@ fn stops_at_parts(rt: HostRuntime) {
     assert_eq!(rt; fault_of_full_edges(rt.alloc(), 64), via);
 }
 
-/// The center of a node of the scene, and the halves of its size.
+/// The centre of a node of the scene, and the halves of its size.
 fn box_of(scene: &Scene, id: i64) -> Option<(i64, i64, i64, i64)> {
     let node = scene.node(id)?;
     Some((node.x, node.y, node.half_w, node.half_h))
@@ -445,7 +446,7 @@ fn settings_of(scene: &Scene) -> (i64, i64, i64, u32) {
     (settings.penalty, settings.buffer, settings.nudge, next)
 }
 
-/// The nodes of the scene are read right.
+/// Whether the nodes of the scene are read correctly.
 fn has_its_nodes(scene: &Scene) -> bool {
     box_of(scene, 0) == Some((1, -1, 10_001, 0))
         && box_of(scene, 2) == Some((100_000, 0, 15_000, 15_000))
@@ -454,7 +455,7 @@ fn has_its_nodes(scene: &Scene) -> bool {
         && has_pins(scene, 0, &[PIN])
 }
 
-/// The edges of the scene are read right.
+/// Whether the edges of the scene are read correctly.
 fn has_its_edges(scene: &Scene) -> bool {
     ends_of(scene, 1) == Some((0, 2, 7, 0))
         && ends_of(scene, 2) == Some((2, 2, 0, 0))
@@ -463,7 +464,7 @@ fn has_its_edges(scene: &Scene) -> bool {
         && has_via(scene, 1, &[Point { x: 1_000, y: 2_000 }])
 }
 
-/// The document's scene is read right.
+/// Whether the document's scene is read correctly.
 fn is_right(alloc: Global, doc: &Doc, scene: &Scene) -> bool {
     settings_of(scene) == (1_000, 2_000, 0, 3)
         && has_its_nodes(scene)
@@ -471,7 +472,7 @@ fn is_right(alloc: Global, doc: &Doc, scene: &Scene) -> bool {
         && has_line(alloc, doc, scene, &POINTS)
 }
 
-/// The document is read right.
+/// Whether the document is read correctly.
 fn is_read_right(alloc: Global, doc: &Doc) -> bool {
     match scene_of(alloc, doc) {
         Ok(scene) => is_right(alloc, doc, &scene),
@@ -486,7 +487,7 @@ fn reads_a_scene(rt: HostRuntime) {
     assert!(rt; is_read_right(rt.alloc(), &doc));
 }
 
-/// How many points the line of the only edge has, if it has one.
+/// The number of points of the line of the only edge, if it has one.
 fn length_of(alloc: Global, doc: &Doc, scene: &Scene) -> Result<Option<usize>, DiagramFault> {
     let Some(edge) = scene.edge(1) else {
         return Err(DiagramFault::Memory);
@@ -514,7 +515,7 @@ fn length_of_parsed(alloc: Global, text: &str) -> Result<Option<usize>, DiagramF
     }
 }
 
-/// How many points the line has of an edge with these texts as its `graphics`.
+/// The number of points of the line of an edge with these texts as its `graphics`.
 fn length_in(
     alloc: Global,
     front: &str,

@@ -144,7 +144,7 @@ const DIAGRAMS: [Row; 7] = [
     ),
 ];
 
-/// Before and behind the edges of two nodes.
+/// The texts before and after the edges of two nodes.
 const FRONT: &str =
     "graph [ node [ id 1 graphics [ x 0 y 0 ] pin [ class 3 x 1 y 1 ] ] node [ id 2 graphics [ x 90 y 0 ] ] ";
 
@@ -232,7 +232,7 @@ const ROUTES: [(&str, &str); 3] = [
     ),
 ];
 
-/// Why a diagram is not written back.
+/// The reason why a diagram is not written back.
 #[derive(Debug, Drop)]
 enum Unwritten {
     Unread,
@@ -240,7 +240,7 @@ enum Unwritten {
     Memory,
 }
 
-/// The text, unless memory is wanting.
+/// The text, unless out of memory.
 fn told(text: Result<Vec<u8>, AllocError>) -> Result<Vec<u8>, Unwritten> {
     match text {
         Ok(text) => Ok(text),
@@ -265,7 +265,7 @@ fn written(
     print(alloc, &out)
 }
 
-/// The scene's first edge is a connector.
+/// Whether the scene's first edge is a connector.
 fn has_connector(scene: &Scene) -> bool
     ensures { IsTrue result → IsSomeAnd (edge_with scene.now 1) (λ e. e.from ≢ e.to) }
 {
@@ -319,7 +319,7 @@ fn routed(alloc: Global, text: &str, points: Vec<Point>) -> Result<Vec<u8>, Unwr
     }
 }
 
-/// The edit adds no pin.
+/// Whether the edit adds no pin.
 fn is_directed(edit: &Edit) -> bool
     ensures { IsTrue result → IsDirected edit.now }
 {
@@ -371,7 +371,7 @@ fn laid_out(alloc: Global, text: &str) -> Result<Vec<u8>, Unwritten> {
     }
 }
 
-/// What was found is the wanted text in its printed form.
+/// Whether the result is the expected text in its printed form.
 fn is_text(alloc: Global, found: &[u8], want: &str) -> bool {
     match laid_out(alloc, want) {
         Ok(want) => found == want.as_slice(),
@@ -379,7 +379,7 @@ fn is_text(alloc: Global, found: &[u8], want: &str) -> bool {
     }
 }
 
-/// The same, of a text between the two others, where something was found.
+/// The same for a text between the two others, if there is a result.
 fn is_between(
     alloc: Global,
     found: Result<Vec<u8>, Unwritten>,
@@ -407,13 +407,13 @@ fn edited_between(
     }
 }
 
-/// The row's text, between the two others, is as it is wanted after the edit.
+/// Whether the row's text, between the two others, is as expected after the edit.
 fn is_right(alloc: Global, front: &str, row: &Row, back: &str) -> bool {
     let found = edited_between(alloc, front, row.0, back, &row.1);
     is_between(alloc, found, front, row.2, back)
 }
 
-/// The first row whose text is another after the edit.
+/// The first row whose text is different after the edit.
 fn first_wrong(alloc: Global, front: &str, rows: &[Row], back: &str) -> Option<&'static str> {
     for row in rows {
         if !is_right(alloc, front, row, back) {
@@ -440,12 +440,12 @@ fn routed_between(alloc: Global, text: &str) -> Result<Vec<u8>, Unwritten> {
     }
 }
 
-/// The text, between the two others, is as it is wanted with a route of one point.
+/// Whether the text, between the two others, is as expected with a route of one point.
 fn is_routed(alloc: Global, text: &str, want: &str) -> bool {
     is_between(alloc, routed_between(alloc, text), FRONT, want, BACK)
 }
 
-/// The first row whose text is another with its route.
+/// The first row whose text is different with its route.
 fn first_unrouted(alloc: Global) -> Option<&'static str> {
     for (text, want) in ROUTES {
         if !is_routed(alloc, text, want) {
@@ -460,7 +460,7 @@ fn writes_routes(rt: HostRuntime) {
     assert_eq!(rt; first_unrouted(rt.alloc()), None);
 }
 
-/// So many points on a straight line.
+/// A number of points on a straight line.
 fn many_points(alloc: Global, count: i64) -> Result<Vec<Point>, AllocError> {
     let mut points = Vec::new(alloc);
     for x in 0..count {

@@ -1,4 +1,4 @@
--- A turn and the end of a loop over a chain, where what it yielded tells which chain it is.
+-- A turn and the end of a loop over a chain, where the element that it yielded determines the chain.
 use Rattle.std.proofs.Common.{◌≡◌, ◌<◌, List, length, map, get_or, Option, Some, None}
 use Rattle.std.specs.Iterator.{Yields}
 use Rattle.std.proofs.lemmas.Iterator.{YieldsList}

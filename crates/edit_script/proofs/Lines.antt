@@ -6,7 +6,7 @@ use Rattle.std.proofs.lemmas.List.FromFn.{get_or-enumerate_from, length-enumerat
 use Rattle.scene_model.specs.declared.edit.Command.{Command}
 use Rattle.edit_script.specs.Script.{words, command_of, numbered, commands_from, commands, lines}
 
--- the commands so far, and those of the lines behind the first k
+-- the commands so far, and those of the lines after the first k
 abbrev pub AreCommands : List ℕ → List (ℕ × Command) → ℕ → Type 0
 AreCommands bytes list k = list ++ commands_from (suc k) (drop k (lines bytes)) ≡ commands bytes
 

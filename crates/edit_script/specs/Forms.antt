@@ -1,4 +1,4 @@
--- The forms of a script's lines, each by its name and the words behind it.
+-- The forms of a script's lines, each by its name and the words after it.
 use Rattle.std.specs.Prelude.{ℕ, List, [], ◌∷◌, codes, bytes_eq, Option, Some, None, option_and_then, option_map, if◌then◌else◌}
 use Rattle.scene_model.specs.declared.edit.Edit.{Edit as SceneEdit}
 use Rattle.scene_model.specs.declared.edit.Edit.TheVariants.{AddNode, MoveNode, SizeNode, DropNode, AddPin, DropPin, AddEdge, CutEdge, SetClasses, AddVia, DropVia, Set}
@@ -118,7 +118,7 @@ set_form (a ∷ b ∷ []) = do
   Some (Set what value)
 set_form _ = None
 
--- the edit of a name and the words behind it
+-- the edit with this name and the words after it
 abbrev pub edit_form : List ℕ → List (List ℕ) → Option SceneEdit
 edit_form name args =
     if bytes_eq name (codes "node") then node_form args
@@ -134,7 +134,7 @@ edit_form name args =
     else if bytes_eq name (codes "unvia") then unvia_form args
     else if bytes_eq name (codes "set") then set_form args else None
 
--- the command of a name with no word behind it
+-- the command with this name and no word after it
 abbrev pub bare_form : List ℕ → Option Command
 bare_form name =
     if bytes_eq name (codes "begin") then Some Begin
@@ -143,7 +143,7 @@ bare_form name =
     else if bytes_eq name (codes "undo") then Some Undo
     else if bytes_eq name (codes "redo") then Some Redo else None
 
--- the command of a name and the words behind it, if they have a form
+-- the command with this name and the words after it, if they have a valid form
 abbrev pub command_form : List ℕ → List (List ℕ) → Option Command
 command_form name [] = bare_form name
 command_form name (arg ∷ args) = option_map Edit (edit_form name (arg ∷ args))

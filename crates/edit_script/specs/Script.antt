@@ -11,7 +11,7 @@ use Rattle.edit_script.specs.Forms.{command_form}
 abbrev pub is_blank : ℕ → Bool
 is_blank b = b == 32 || b == 9
 
--- the words of a line, of which one carriage return at the end is dropped
+-- the words of a line, without a carriage return at its end
 abbrev pub words : List ℕ → List (List ℕ)
 words line = filter (λ w. not (length w == 0)) (slice_split is_blank (strip_carriage_return line))
 
@@ -20,7 +20,7 @@ abbrev pub is_comment : List ℕ → Bool
 is_comment [] = false
 is_comment (b ∷ bs) = b == 35
 
--- the command of the words of a line: no words and a comment are none, and what has no form is bad
+-- the command of the words of a line: none for no words and for a comment, and `Bad` for what is not valid
 abbrev pub command_of : List (List ℕ) → Option Command
 command_of [] = None
 command_of (name ∷ args) = if is_comment name then None else Some (unwrap_or (command_form name args) Bad)
@@ -47,11 +47,11 @@ commands bytes = commands_from 1 (lines bytes)
 abbrev pub HaveDirections : Type 0
 HaveDirections = (bytes : List ℕ) → AllByRecursion (λ c. IsDirectedCommand c.1) (commands bytes)
 
--- the numbers begin with this one or later, and each is above the one before
+-- the numbers begin with this one or later, and each is greater than the one before
 abbrev pub RiseFrom : ℕ → List (ℕ × Command) → Type 0
 RiseFrom number [] = Unit {0}
 RiseFrom number (c ∷ cs) = (number ≤ c.0) × RiseFrom (suc c.0) cs
 
--- the law: each line has one command at most, and they stand in the order of the lines
+-- the law: each line has at most one command, and they are in the order of the lines
 abbrev pub NumbersRise : Type 0
 NumbersRise = (bytes : List ℕ) → RiseFrom 1 (commands bytes)

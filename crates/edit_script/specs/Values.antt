@@ -1,4 +1,4 @@
--- What a word of a script stands for.
+-- The values of the words of a script.
 use Rattle.std.specs.Prelude.{ℕ, ◌+◌, ◌^◌, ℤ, List, codes, bytes_eq, Option, Some, None, Result, Ok, Err, if◌then◌else◌}
 use Rattle.std.specs.Str.Parse.{digits_value}
 use Rattle.fixed_milli.specs.declared.milli.MilliFault.{MilliFault}
@@ -13,7 +13,7 @@ use Rattle.scene_model.specs.declared.settings.Setting.TheVariants.{Penalty, Buf
 abbrev pub beyond : ℕ
 beyond = 10 ^ 15 + 1
 
--- the value of a word that is read so, where one beyond the range is taken as one thousandth beyond it
+-- the value of a word with this reading, where one beyond the range is taken as one thousandth beyond it
 abbrev pub within : List ℕ → Result ℤ MilliFault → Option ℤ
 within word (Ok value) = Some value
 within word (Err OutOfRange) = Some (with_sign (signed word).0 beyond)

@@ -1,4 +1,4 @@
-//! The forms of a script's lines, each by its name and the words behind it.
+//! The forms of a script's lines, each by its name and the words after it.
 ghost use Rattle.std.specs.Prelude.{◌≡◌, map};
 ghost use Rattle.edit_script.specs.Forms.{
   bare_form,
@@ -21,7 +21,7 @@ ghost use Rattle.edit_script.specs.Forms.{
 use crate::values::{count_of, id_of, number_of, setting_of};
 use scene_model::{Command, Dirs, Edit};
 
-/// The command of a name and the words behind it, if they have a form.
+/// The command with this name and the words after it, if they have a valid form.
 pub(crate) fn form_of(name: &[u8], args: &[&[u8]]) -> Option<Command>
     ensures { result ≡ command_form name.now (map (λ w. w.now) args.now) }
 {

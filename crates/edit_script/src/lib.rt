@@ -1,4 +1,4 @@
-//! Scripts: their bytes as the commands of a session.
+//! Scripts: bytes read as the commands of a session.
 //!
 //! A script is read line by line. Numbers are in units, and become whole thousandths.
 #![tactic(auto)]

@@ -7,14 +7,15 @@ use crate::forms::form_of;
 use scene_model::Command;
 use std::alloc::{AllocError, Global};
 
-/// One word more than the longest form has.
+/// One more than the number of words in the longest form.
 const MOST_WORDS: usize = 7;
 
 /// The commands of a script, each with the number of its line, counted from 1.
 ///
-/// Lines end at a line feed or with the script, and one carriage return at a line's end is dropped. A line
-/// without words, or whose first word begins with `#`, has no command, and one that has no form has `Bad`. The
-/// work is linear in the number of bytes. The only error is want of memory.
+/// A line ends at a line feed or at the end of the script, and one carriage return at its end is
+/// dropped. A line without words, or whose first word begins with `#`, has no command; any other
+/// line that is no valid command has `Bad`. The work is linear in the number of bytes. The only
+/// error is out of memory.
 pub fn commands(alloc: Global, bytes: &[u8]) -> Result<Vec<(usize, Command)>, AllocError>
     ensures { IfOk result (λ list. list.items ≡ commands bytes.now) }
 {

@@ -1,4 +1,4 @@
-//! What a word of a script stands for.
+//! The values of the words of a script.
 ghost use Rattle.std.specs.Prelude.{◌≡◌};
 ghost use Rattle.edit_script.specs.Values.{beyond, count_of, id_of_word, number_of, setting_of};
 ghost use Rattle.fixed_milli.specs.Milli.{with_sign};
@@ -10,7 +10,8 @@ use scene_model::Setting;
 /// One thousandth beyond the numbers that are read.
 const BEYOND: i64 = 1_000_000_000_000_001;
 
-/// A number in thousandths. One out of range is taken as one thousandth beyond the range, with its sign.
+/// A number in thousandths. A number out of range is read as one thousandth beyond the range, with
+/// its sign.
 pub(crate) fn number_of(word: &[u8]) -> Option<i64>
     ensures { result ≡ number_of word.now }
 {

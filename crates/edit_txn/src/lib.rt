@@ -1,4 +1,4 @@
-//! Transactions: edits of a working scene, with what takes them back.
+//! Transactions: edits of a working scene, with their inverses.
 #![tactic(auto)]
 
 mod laws;

@@ -1,4 +1,4 @@
-//! A transaction, and what it leaves.
+//! A transaction, and its result.
 ghost use Rattle.std.specs.Prelude.{◌≡◌, IfOk, OnOk, OnErr};
 ghost use Rattle.scene_model.specs.Edits.{IsDirected, IsEdited};
 ghost use Rattle.scene_model.specs.declared.fault.SceneFault.{SceneFault};
@@ -8,7 +8,8 @@ use scene_store::Scene;
 use std::alloc::{AllocError, Global};
 use std::marker::Model;
 
-/// A working scene with the edits that led to it and their inverses, both in the order of the edits.
+/// A working scene with the edits that led to it and their inverses, both in the order of the
+/// edits.
 #[derive(Drop)]
 pub struct Txn {
     working: Scene,
@@ -16,11 +17,11 @@ pub struct Txn {
     forth: Vec<Edit>,
 }
 
-/// What a transaction leaves: its working scene, and both lists in the order of the edits.
+/// The result of a transaction: its working scene, and both lists in the order of the edits.
 #[derive(Drop)]
 pub struct TxnParts {
     pub scene: Scene,
-    /// What takes the edits back.
+    /// The inverses of the edits.
     pub back: Inverses,
     /// The edits.
     pub forth: Edits,
@@ -37,7 +38,7 @@ impl Model for Txn {
 impl Txn {
     ghost use Rattle.edit_txn.specs.Txn.{applied, begun};
 
-    /// A transaction without edits on a copy of the scene. Its only error is want of memory.
+    /// A transaction without edits on a copy of the scene. The only error is out of memory.
     pub fn begin(alloc: Global, scene: &Scene) -> Result<Txn, AllocError>
         ensures { IfOk result (λ t. t ≡ begun scene.now) }
     {
@@ -48,9 +49,11 @@ impl Txn {
         })
     }
 
-    /// Does an edit on the working scene, and keeps it and its inverse. A pin that it adds has a direction.
+    /// Applies an edit to the working scene, and keeps it and its inverse. A pin that it adds has a
+    /// direction.
     ///
-    /// A refusal comes before any memory is taken. A refusal or want of memory leaves all as it was.
+    /// A refusal comes before any memory is taken. A refusal or out of memory leaves everything as
+    /// it was.
     pub fn apply(&mut self, edit: &Edit) -> Result<(), SceneFault>
         requires { IsDirected edit.now }
         ensures edited { IsEdited edit.now self.old.working self.new.working result }
@@ -77,7 +80,7 @@ impl Txn {
         &self.working
     }
 
-    /// What the transaction leaves. It takes no memory.
+    /// The result of the transaction. Takes no memory.
     pub fn into_parts(self) -> TxnParts
         ensures scene { result.scene ≡ self.working }
         ensures back { result.back ≡ self.back }

@@ -70,11 +70,11 @@ abbrev IsFoundExponent : List ℕ → Option (Bool × List ℕ) → Type 0
 IsFoundExponent bytes None = (negative : Bool) (digits : List ℕ) → IsExponent bytes negative digits → ⊥
 IsFoundExponent bytes (Some e) = IsExponent bytes e.0 e.1
 
--- no digits, or something behind them
+-- no digits, or something after them
 no_numeral : (m n : ℕ) → ((m == 0) || nat_lt 0 n) ≡ true → (m ≡ 0) ⊎ (0 < n)
 no_numeral m n h = elim (or_cases (m == 0) (nat_lt 0 n) h) as (λ _. (m ≡ 0) ⊎ (0 < n)) [ inl none ↦ inl (eqb-true m 0 none) | inr more ↦ inr (ltb-true 0 n more) ]
 
--- behind a mark an exponent is a sign and digits
+-- after a mark an exponent is a sign and digits
 marked_exponent : (b : ℕ) (bs : List ℕ) → (b ≡ 101) ⊎ (b ≡ 69) → IsFoundExponent (b ∷ bs) (signed_digits (signed bs))
 marked_exponent b bs mark =
     let unsigned : List ℕ = (signed bs).1 in

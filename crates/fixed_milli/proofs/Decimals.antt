@@ -1,4 +1,4 @@
--- Digits that are counted up to a limit, and zeros behind them.
+-- Digits that are counted up to a limit, and zeros after them.
 use Rattle.std.proofs.Common.{pow-add, ◌≡◌, ℕ, ◌+◌, ◌-◌, ◌*◌, ◌^◌, ◌<◌, ◌≤◌, min, List, [], ◌∷◌, ◌++◌, length, take, get_or, refl, sym, ap, ◌∙◌, arith, inl, inr}
 use Rattle.std.specs.Char.{digit_value}
 use Rattle.std.specs.Str.Parse.{digits_value, digits_value_after}
@@ -7,7 +7,7 @@ use Rattle.std.proofs.lemmas.Bool.{cases_lt}
 use Rattle.std.proofs.Math.Nat.{pow-suc, one-le-pow, mul-le-mul_left, mul-le-mul_right}
 use Rattle.fixed_milli.specs.declared.digits.TheConstants.{LIMIT}
 
--- digits behind digits
+-- digits after digits
 pub after-append : (v : ℕ) (xs ys : List ℕ) → digits_value_after 10 v (xs ++ ys) ≡ digits_value_after 10 (digits_value_after 10 v xs) ys
 after-append v [] ys = refl
 after-append v (x ∷ xs) ys = after-append (v * 10 + digit_value x) xs ys
@@ -39,14 +39,14 @@ pub counted_more : (v most : ℕ) (ds : List ℕ) (i value digit tens sum next :
     tens ≡ min (value * 10) (2 ^ 64 - 1) → sum ≡ min (tens + digit) (2 ^ 64 - 1) → next ≡ min sum most → next ≡ min (digits_value_after 10 v (take (i + 1) ds)) most
 counted_more v most ds i value digit tens sum next fits h d so by_ten added capped = omega (arith, after_more v ds i h)
 
--- zeros behind a number count up to the limit as without it
+-- zeros after a number count up to the limit as without it
 pub capped_mul : (x k limit : ℕ) → 0 < k → min (min x limit * k) limit ≡ min (x * k) limit
 capped_mul x k limit some = elim (cases_lt x limit) as (λ _. min (min x limit * k) limit ≡ min (x * k) limit) [
   | inl l ↦ (let e : min x limit ≡ x = omega arith in rw e)
   | inr l ↦ (let e : min x limit ≡ limit = omega arith in rw e (omega (arith, mul-le-mul_right k l, mul-le-mul_left limit some)))
 ]
 
--- a zero more behind a number
+-- one more zero after a number
 pub zeros_more : (v i value : ℕ) → value ≡ min (v * 10 ^ i) LIMIT → min (value * 10) LIMIT ≡ min (v * 10 ^ (i + 1)) LIMIT
 zeros_more v i value so = let places : v * 10 ^ (i + 1) ≡ v * (10 ^ i * 10) = ap (λ p. v * p) (pow-add 10 i 1) in omega (arith, places)
 

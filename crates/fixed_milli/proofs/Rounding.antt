@@ -49,7 +49,7 @@ rounded-scaled a b c some =
 pub rounded_whole : (a b : ℕ) → 0 < b → rounded (a * b) b ≡ a
 rounded_whole a b some = rounded_is (a * b) b a (omega arith) (omega arith)
 
--- what the digits behind a number amount to
+-- the share that the digits after a number add to it
 carry_cases : (ds : List ℕ) → AllDigits 10 ds → ((carry ds ≡ 0) × (2 * digits_value 10 ds < 10 ^ length ds)) ⊎ ((carry ds ≡ 1) × (10 ^ length ds ≤ 2 * digits_value 10 ds))
 carry_cases [] all = inl (refl, omega arith)
 carry_cases (d ∷ ds) all =
@@ -65,7 +65,7 @@ carry_cases (d ∷ ds) all =
           inr (grind (arith, nat_tests), omega (arith, e, small, power, least)))
     ]
 
--- the first digit behind a number decides how it is rounded
+-- the first digit after a number decides how it is rounded
 pub rounded_carry : (v : ℕ) (ds : List ℕ) → AllDigits 10 ds → rounded (digits_value_after 10 v ds) (10 ^ length ds) ≡ v + carry ds
 rounded_carry v ds all =
     let p = 10 ^ length ds in
@@ -88,12 +88,12 @@ all_digits-take zero ds all = tt
 all_digits-take (suc i) [] all = all
 all_digits-take (suc i) (d ∷ ds) all = (all.0, all_digits-take i ds all.1)
 
--- digits behind digits are digits
+-- digits after digits are digits
 pub all_digits-append : (xs ys : List ℕ) → AllDigits 10 xs → AllDigits 10 ys → AllDigits 10 (xs ++ ys)
 all_digits-append [] ys allx ally = ally
 all_digits-append (x ∷ xs) ys allx ally = (allx.0, all_digits-append xs ys allx.1 ally)
 
--- the point moved to the right: the digits before it count, and the first one behind it rounds
+-- the point moved to the right: the digits before it count, and the first one after it rounds
 point_right : (w : ℕ) (fraction : List ℕ) (places taken : ℕ) → AllDigits 10 fraction → taken ≡ min (length fraction) places →
     digits_value_after 10 w (take taken fraction) * 10 ^ (places - taken) + carry (drop taken fraction) ≡ rounded (digits_value_after 10 w fraction * 10 ^ places) (10 ^ length fraction)
 point_right w fraction places taken all t = elim (cases_lt places (length fraction)) as (λ _. digits_value_after 10 w (take taken fraction) * 10 ^ (places - taken) + carry (drop taken fraction) ≡ rounded (digits_value_after 10 w fraction * 10 ^ places) (10 ^ length fraction)) [
@@ -133,7 +133,7 @@ moved_right whole fraction places taken first kept value result all t f k v r =
     point_right w fraction places taken all t ∙ ap (λ m. rounded (m * 10 ^ places) (10 ^ length fraction)) (sym (after-append 0 whole fraction)) in
     omega (arith, r, zeros, near)
 
--- what stands behind the first digit changes nothing
+-- what follows the first digit changes nothing
 carry-append : (xs ys : List ℕ) → 0 < length xs → carry (xs ++ ys) ≡ carry xs
 carry-append [] ys some = absurd (omega arith)
 carry-append (x ∷ xs) ys some = refl

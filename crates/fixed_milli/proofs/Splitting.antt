@@ -65,7 +65,7 @@ pub unsigned_digits : (ds : List ℕ) → AllDigits 10 ds → BeginsUnsigned ds
 unsigned_digits [] all = tt
 unsigned_digits (d ∷ ds) all = let code = digit_from_value d all.0 in (λ e. absurd (omega (arith, code.0)), λ e. absurd (omega (arith, code.0)))
 
--- the splits of a number's parts, of which each comes in one way
+-- the splits of a number's parts, each of which is unique
 pub record Parts (bytes : List ℕ) (negative : Bool) (whole fraction ending : List ℕ) : Type 0 where
   pub unsigned : List ℕ
   pub behind : List ℕ
@@ -127,7 +127,7 @@ parts_same bytes m n a b c d x y p q =
     let rest = fraction_same p.behind c x d y p.rest (subst (λ u. SplitsFraction u d y) (sym digits.1) q.rest) in
     record { negative = sign.0; whole = digits.0; fraction = rest.0; ending = rest.1 }
 
--- behind the mark of an exponent stand a sign and digits
+-- after the mark of an exponent come a sign and digits
 pub exponent_splits : (mark : ℕ) (rest : List ℕ) (negative : Bool) (digits : List ℕ) → IsExponent (mark ∷ rest) negative digits → SplitsSign rest negative digits × IsNumeral 10 digits
 exponent_splits mark rest negative digits (inr h) = let e = h.0 in cc
 exponent_splits mark rest negative digits (inl w) =
@@ -212,7 +212,7 @@ exponent_of first rest unsigned digits [] negative is_mark sign split some none 
     })
 exponent_of first rest unsigned digits (x ∷ end) negative is_mark sign split some none = absurd (omega arith)
 
--- where the digits behind a mark are none, or do not go to the end, there is no exponent
+-- where there are no digits after a mark, or they do not extend to the end, there is no exponent
 pub no_power : (first : ℕ) (rest unsigned digits end : List ℕ) (negative : Bool) → SplitsSign rest negative unsigned → SplitsDigits unsigned digits end → (length digits ≡ 0) ⊎ (0 < length end) → (shrinks : Bool) (power : List ℕ) → IsExponent (first ∷ rest) shrinks power → ⊥
 no_power first rest unsigned digits end negative sign split not shrinks power is =
     let parts = exponent_splits first rest shrinks power is in

@@ -1,4 +1,4 @@
--- The bytes that numbers are spelled with, but for the digits.
+-- The bytes with which numbers are spelled, except the digits.
 use Rattle.std.specs.Prelude.{ℕ, Bool, ◌==◌, ◌||◌}
 
 abbrev pub plus : ℕ
@@ -10,6 +10,6 @@ minus = 45
 abbrev pub point : ℕ
 point = 46
 
--- what begins an exponent: `e` or `E`
+-- the bytes that begin an exponent: `e` or `E`
 abbrev pub is_mark : ℕ → Bool
 is_mark b = b == 101 || b == 69

@@ -5,11 +5,11 @@ use Rattle.fixed_milli.specs.declared.milli.MilliFault.{MilliFault}
 use Rattle.fixed_milli.specs.declared.milli.MilliFault.TheVariants.{NotNumber, OutOfRange}
 use Rattle.fixed_milli.specs.Number.{Number, Spells, SpellsNothing, numerator, denominator}
 
--- the whole number nearest to a / b, and the greater one where two are as near, as `rounded_is_nearest` says
+-- the whole number nearest to a / b, and the greater one of two that are equally near, as `rounded_is_nearest` says
 unfoldable pub rounded : ℕ → ℕ → ℕ
 rounded a b = (2 * a + b) / (2 * b)
 
--- how far two numbers are apart
+-- the distance of two numbers
 abbrev pub absolute_difference : ℕ → ℕ → ℕ
 absolute_difference m n = (m - n) + (n - m)
 
@@ -17,7 +17,7 @@ absolute_difference m n = (m - n) + (n - m)
 abbrev pub magnitude : Number → ℕ
 magnitude n = rounded (numerator n) (denominator n)
 
--- the number of this size with a minus or without one
+-- the number with this absolute value, negative or not
 abbrev pub with_sign : Bool → ℕ → ℤ
 with_sign negative size = if negative then neg_ℤ (pos size) else pos size
 
@@ -35,15 +35,15 @@ Reads bytes (Ok value) = (n : Number) × Spells n bytes × (magnitude n ≤ most
 Reads bytes (Err OutOfRange) = (n : Number) × Spells n bytes × (most_thousandths < magnitude n)
 Reads bytes (Err NotNumber) = SpellsNothing bytes
 
--- the digits of a number below a thousand, of which there are three
+-- the three digits of a number below a thousand
 abbrev pub three_digits : ℕ → List ℕ
 three_digits n = (48 + n / 100) ∷ (48 + n / 10 % 10) ∷ (48 + n % 10) ∷ []
 
--- how a number of thousandths that is not negative is written: the whole units, a point and three digits
+-- how a nonnegative number of thousandths is written: the whole units, a point and three digits
 abbrev pub size_text : ℕ → List ℕ
 size_text size = decimal (size / 1000) ++ codes "." ++ three_digits (size % 1000)
 
--- and any number of thousandths, with a minus exactly where it is negative
+-- how any number of thousandths is written, with a minus exactly if it is negative
 abbrev pub milli_text : ℤ → List ℕ
 milli_text (pos n) = size_text n
 milli_text (negsuc n) = codes "-" ++ size_text (suc n)

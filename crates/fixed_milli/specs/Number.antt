@@ -2,7 +2,7 @@
 use Rattle.std.specs.Prelude.{◌≡◌, ℕ, ◌+◌, ◌*◌, ◌^◌, ◌<◌, ◌⊎◌, Bool, true, false, List, [], ◌++◌, length, codes, if◌then◌else◌}
 use Rattle.std.specs.Str.Parse.{AllDigits, IsNumeral, digits_value}
 
--- the parts of a number: the digits in front of the point and behind it, and those of the exponent, which may be negative
+-- the parts of a number: the digits before the point and after it, and those of the exponent, which may be negative
 pub record Number : Type 0 where
   pub negative : Bool
   pub whole : List ℕ
@@ -15,7 +15,7 @@ abbrev pub IsSign : List ℕ → Bool → Type 0
 IsSign sign true = sign ≡ codes "-"
 IsSign sign false = (sign ≡ codes "+") ⊎ (sign ≡ [])
 
--- a point, which may be left out where no digit stands behind it
+-- a point, which may be left out if no digit follows it
 abbrev pub IsPoint : List ℕ → List ℕ → Type 0
 IsPoint point fraction = (point ≡ codes ".") ⊎ ((point ≡ []) × (fraction ≡ []))
 
@@ -45,7 +45,7 @@ pub record Spells (n : Number) (bytes : List ℕ) : Type 0 where
   pub is_exponent : IsExponent ending n.shrinks n.exponent
   pub spelled : bytes ≡ sign ++ (n.whole ++ (point ++ (n.fraction ++ ending)))
 
--- each part of the number is digits
+-- each part of the number consists of digits
 pub record AreDigits (n : Number) : Type 0 where
   pub whole : AllDigits 10 n.whole
   pub fraction : AllDigits 10 n.fraction
@@ -63,11 +63,11 @@ SpellsNothing bytes = (n : Number) → Spells n bytes → ⊥
 abbrev pub mantissa : Number → ℕ
 mantissa n = digits_value 10 (n.whole ++ n.fraction)
 
--- by which power of ten an exponent that is not negative multiplies
+-- the power of ten by which a nonnegative exponent multiplies
 abbrev pub raised_by : Number → ℕ
 raised_by n = if n.shrinks then 0 else digits_value 10 n.exponent
 
--- and by which a negative one divides
+-- the power of ten by which a negative exponent divides
 abbrev pub lowered_by : Number → ℕ
 lowered_by n = if n.shrinks then digits_value 10 n.exponent else 0
 
@@ -75,6 +75,6 @@ lowered_by n = if n.shrinks then digits_value 10 n.exponent else 0
 unfoldable pub numerator : Number → ℕ
 numerator n = mantissa n * 10 ^ (3 + raised_by n)
 
--- each digit behind the point divides by ten, and so does a negative exponent
+-- each digit after the point divides by ten, and so does a negative exponent
 unfoldable pub denominator : Number → ℕ
 denominator n = 10 ^ (length n.fraction + lowered_by n)

@@ -8,13 +8,13 @@ ghost use Rattle.fixed_milli.specs.Milli.{with_sign};
 /// The greatest absolute value that is read, in thousandths.
 pub(crate) const MOST: u64 = 1_000_000_000_000_000;
 
-/// Where counting ends: a greater number is out of range as this one is.
+/// The number at which counting ends: any greater number is out of range as well.
 pub(crate) const LIMIT: u64 = MOST + 1;
 
-/// With so many digits behind its first one a number is beyond `LIMIT`.
+/// A number with this many digits after its first one is beyond `LIMIT`.
 const DIGITS: usize = 16;
 
-/// The number that the digits spell when they follow those of `value`, and `most` where that is less.
+/// The number that the digits spell after those of `value`, or `most` if that is less.
 pub(crate) fn with_digits(mut value: u64, digits: &[u8], most: u64) -> u64
     requires small { value ≤ most }
     requires digits { AllDigits 10 digits.now }
@@ -27,7 +27,7 @@ pub(crate) fn with_digits(mut value: u64, digits: &[u8], most: u64) -> u64
     value
 }
 
-/// The number of this size, with a minus where it is `negative`.
+/// The number with the absolute value `size`, negative if `negative`.
 pub(crate) fn with_sign(negative: bool, size: u64) -> i64
     requires { size < 2 ^ 63 }
     ensures { result ≡ with_sign negative size }
@@ -36,7 +36,7 @@ pub(crate) fn with_sign(negative: bool, size: u64) -> i64
     if negative { -size } else { size }
 }
 
-/// The number with so many zeros behind it, and `LIMIT` where that is less.
+/// The number with `zeros` zeros after it, or `LIMIT` if that is less.
 pub(crate) fn with_zeros(mut value: u64, zeros: usize) -> u64
     requires { value ≤ LIMIT }
     ensures { result ≡ min (value * 10 ^ zeros) LIMIT }
@@ -47,7 +47,8 @@ pub(crate) fn with_zeros(mut value: u64, zeros: usize) -> u64
     value
 }
 
-/// The number rounded by the digits behind it, halves up, and `LIMIT` where that is less.
+/// The number rounded by the digits `behind`, which follow it, halves up; or `LIMIT` if that is
+/// less.
 pub(crate) fn rounded(value: u64, behind: &[u8]) -> u64
     requires { value ≤ LIMIT }
     ensures { result ≡ min (value + carry behind.now) LIMIT }

@@ -1,7 +1,8 @@
 //! Exact thousandths: decimal numbers as they are spelled, read and written in whole thousandths.
 //!
-//! `read_milli` reads a number with a point and an exponent, `read_whole` a sign and digits alone, as
-//! ids have. `write_milli` and `push_milli` write thousandths with three digits behind the point.
+//! `read_milli` reads a number with a point and an exponent, `read_whole` only a sign and digits,
+//! as in ids. `write_milli` and `push_milli` write thousandths with three digits after the decimal
+//! point.
 #![tactic(auto)]
 
 mod digits;

@@ -9,10 +9,10 @@ use crate::numeral::Numeral;
 use std::alloc::{AllocError, Global};
 use thiserror::Error;
 
-/// Why bytes were not read as thousandths.
+/// The reason why bytes were not read as thousandths.
 #[derive(Clone, Copy, Debug, PartialEq, Eq, Error)]
 pub enum MilliFault {
-    /// The bytes spell no number.
+    /// The bytes do not spell a number.
     #[error("this is no number")]
     NotNumber,
     /// The number, rounded to the nearest thousandth, is beyond 10^15 thousandths.
@@ -20,19 +20,20 @@ pub enum MilliFault {
     OutOfRange,
 }
 
-/// Reads a number as whole thousandths of its unit, rounded to the nearest with halves away from zero.
+/// Reads a number as whole thousandths of its unit, rounded to the nearest with halves away from
+/// zero.
 ///
-/// A number is an optional sign `+` or `-`, digits with at most one point in front of, among or
-/// behind them and at least one digit in all, and optionally an exponent: `E` or `e`, an optional
-/// sign and at least one digit. Mantissa and exponent may have any number of digits.
+/// A number is an optional sign `+` or `-`, digits with at most one point before, among or after
+/// them and at least one digit in all, and optionally an exponent: `E` or `e`, an optional sign and
+/// at least one digit. Mantissa and exponent may have any number of digits.
 ///
-/// The call takes no memory, and its work grows with the number of bytes alone. It answers
-/// `NotNumber` exactly where the bytes are no number, and `OutOfRange` exactly where the rounded
-/// value is beyond 10^15 thousandths on either side.
+/// Takes no memory, and its work grows only with the number of bytes. The error is `NotNumber`
+/// exactly if the bytes are no number, and `OutOfRange` exactly if the rounded value is beyond
+/// 10^15 thousandths on either side.
 pub fn read_milli(lexeme: &[u8]) -> Result<i64, MilliFault>
     ensures reads { Reads lexeme.now result }
 
-    // The same answer, by a function that computes.
+    // The same result, by a function that computes.
     ensures computed { result ≡ read lexeme.now }
 {
     let Some(number) = Numeral::split(lexeme) else {
@@ -45,17 +46,17 @@ pub fn read_milli(lexeme: &[u8]) -> Result<i64, MilliFault>
     Ok(with_sign(number.negative, size))
 }
 
-/// Appends so many thousandths as a number of units: the whole units without leading zeros, a point
-/// and three digits. It takes any number of 64 bits, more than a coordinate can be.
+/// Appends `size` thousandths as a number of units: the whole units without leading zeros, a point
+/// and three digits. Accepts any number of 64 bits, more than a coordinate can be.
 ///
-/// Where memory is wanting, nothing is promised of the text.
+/// When out of memory, the contents of `text` are unspecified.
 pub fn push_milli(text: &mut String, size: u64) -> Result<(), AllocError>
     ensures { OnOk result (string_bytes text.new ≡ string_bytes text.old ++ size_text size) }
 {
     write!(text, "{}.{:03}", size / 1000, size % 1000)
 }
 
-/// Writes thousandths as a number of units: `-` exactly where the value is negative, and then what
+/// Writes thousandths as a number of units: `-` exactly if the value is negative, and then what
 /// `push_milli` appends for its absolute value.
 pub fn write_milli(alloc: Global, value: i64) -> Result<String, AllocError>
     ensures { IfOk result (λ text. string_bytes text ≡ milli_text value) }

@@ -3,8 +3,8 @@
 use crate::digits::{LIMIT, rounded, with_digits, with_zeros};
 use crate::split::{split_digits, split_exponent, split_fraction, split_sign};
 
-/// The parts of a number as it is spelled: the digits in front of the point and behind it, and those
-/// of the exponent, which is negative where the number `shrinks`.
+/// The parts of a number as it is spelled: the digits before the point and after it, and those of
+/// the exponent, which is negative if the number `shrinks`.
 #[derive(Clone, Copy)]
 pub(crate) struct Numeral<'a> {
     pub(crate) negative: bool,
@@ -41,10 +41,10 @@ impl<'a> Numeral<'a> {
         })
     }
 
-    /// The absolute value in thousandths, rounded, and `LIMIT` where that is less.
+    /// The absolute value in thousandths, rounded, or `LIMIT` if that is less.
     ///
     /// The exponent is counted up to the greatest number of 64 bits. No slice has nearly as many
-    /// bytes, so from there on a greater exponent leaves 0, or a number beyond `LIMIT`, as it is.
+    /// bytes, so from there on a greater exponent still gives 0, or a number beyond `LIMIT`.
     pub(crate) fn thousandths(&self) -> u64
         requires { AreDigits (number_of self.now) }
         ensures { result ≡ min (magnitude (number_of self.now)) LIMIT }
@@ -59,7 +59,8 @@ impl<'a> Numeral<'a> {
         }
     }
 
-    /// The digits as a number with the point moved to the right, rounded, and `LIMIT` where that is less.
+    /// The digits as a number with the point moved to the right, rounded, or `LIMIT` if that is
+    /// less.
     fn moved_right(&self, places: u64) -> u64
         requires { AreDigits (number_of self.now) }
         ensures { result ≡ min (rounded (mantissa (number_of self.now) * 10 ^ places)
@@ -72,7 +73,8 @@ impl<'a> Numeral<'a> {
         rounded(with_zeros(value, places - taken), behind)
     }
 
-    /// The digits as a number with the point moved to the left, rounded, and `LIMIT` where that is less.
+    /// The digits as a number with the point moved to the left, rounded, or `LIMIT` if that is
+    /// less.
     fn moved_left(&self, places: u64) -> u64
         requires digits { AreDigits (number_of self.now) }
         requires moved { 0 < places }

@@ -4,7 +4,7 @@ ghost use Rattle.std.specs.Prelude.{MatchOption, Bool, List, ℕ};
 ghost use Rattle.fixed_milli.specs.Number.{IsExponent};
 ghost use Rattle.fixed_milli.specs.Split.{SplitsSign, SplitsDigits, SplitsFraction};
 
-/// Whether a minus stands first, and what follows the sign.
+/// Whether a minus comes first, and what follows the sign.
 pub(crate) fn split_sign(bytes: &[u8]) -> (bool, &[u8])
     ensures { SplitsSign bytes.now result.0 result.1.now }
 {
@@ -15,7 +15,7 @@ pub(crate) fn split_sign(bytes: &[u8]) -> (bool, &[u8])
     }
 }
 
-/// The digits that stand first, and what follows them.
+/// The leading digits, and what follows them.
 pub(crate) fn split_digits(bytes: &[u8]) -> (&[u8], &[u8])
     ensures { SplitsDigits bytes.now result.0.now result.1.now }
 {
@@ -29,7 +29,7 @@ pub(crate) fn split_digits(bytes: &[u8]) -> (&[u8], &[u8])
     bytes.split_at(count)
 }
 
-/// The digits behind a point, if one stands first, and what follows them.
+/// The digits after a leading point, if there is one, and what follows them.
 pub(crate) fn split_fraction(bytes: &[u8]) -> (&[u8], &[u8])
     ensures { SplitsFraction bytes.now result.0.now result.1.now }
 {
@@ -39,8 +39,8 @@ pub(crate) fn split_fraction(bytes: &[u8]) -> (&[u8], &[u8])
     }
 }
 
-/// Whether the exponent is negative, and its digits. Where there are no bytes it is left out, and has
-/// no digits; other bytes that are no exponent give none.
+/// Whether the exponent is negative, and its digits. No bytes stand for an omitted exponent, with
+/// no digits; bytes that are no exponent give `None`.
 pub(crate) fn split_exponent(bytes: &[u8]) -> Option<(bool, &[u8])>
     ensures { MatchOption result ((negative : Bool) (digits : List ℕ) → IsExponent bytes.now negative digits → ⊥)
         (λ e. IsExponent bytes.now e.0 e.1.now) }

@@ -8,9 +8,9 @@ use crate::split::{split_digits, split_sign};
 
 /// Reads a whole number: an optional sign `+` or `-`, and 1 to `most` digits.
 ///
-/// It is the number that the digits spell, with leading zeros allowed, and none exactly where the
-/// bytes are not of this form. `most` is at most 18, so that each such number fits. The call takes
-/// no memory.
+/// The result is the number that the digits spell, with leading zeros allowed, and `None` exactly
+/// if the bytes are not of this form. `most` is at most 18, so that each such number fits. Takes no
+/// memory.
 pub fn read_whole(lexeme: &[u8], most: usize) -> Option<i64>
     requires { most ≤ 18 }
     ensures { result ≡ read_whole most lexeme.now }

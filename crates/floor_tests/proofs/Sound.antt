@@ -1,4 +1,4 @@
--- The floor of a few rectangles and anchors is one that a call may be handed.
+-- Calls accept the floor of a few rectangles and anchors.
 use Rattle.std.proofs.Common.{◌≡◌, ◌≤◌, ◌<◌, ◌+◌, pos, ℕ, zero, suc, ℤ, Bool, true, false, ◌&&◌, cond, List, [], ◌∷◌, ◌++◌, Option, Some, None, map, length, get_or, take, refl, arith, All, Contains}
 use Rattle.std.specs.Prelude.{filter_map, int_lt, ◌<ℤ◌}
 use Rattle.std.specs.Int.{int_max}

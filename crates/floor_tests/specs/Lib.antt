@@ -1,3 +1,3 @@
--- Floors made of plain numbers, and how lines of an arena may stand to one another.
+-- Floors made of plain numbers, and relations between lines of an arena.
 pub mod Small
 pub mod Lines

@@ -1,4 +1,4 @@
--- What the tests of arenas look at before they put in lines and crossings.
+-- The conditions that the tests of arenas check before they add lines and crossings.
 use Rattle.std.specs.Prelude.{◌≡◌, ◌≤ℤ◌}
 use Rattle.plane_geom.specs.declared.point.Way.TheVariants.{Vertical, Horizontal}
 use Rattle.plane_geom.specs.declared.point.Point.{Point}
@@ -11,7 +11,7 @@ pub record Overlap (l m : Line) : Type 0 where
   pub from : l.lo ≤ℤ m.hi
   pub to : m.lo ≤ℤ l.hi
 
--- a vertical and a horizontal line that have a point in common
+-- a vertical and a horizontal line that share a point
 pub record Cross (down across : Line) : Type 0 where
   pub down_runs : down.way ≡ Vertical
   pub across_runs : across.way ≡ Horizontal
@@ -20,6 +20,6 @@ pub record Cross (down across : Line) : Type 0 where
   pub across_from : across.lo ≤ℤ down.at
   pub across_to : down.at ≤ℤ across.hi
 
--- where the whole lines meet
+-- the point where the whole lines meet
 abbrev pub point_of : Line → Line → Point
 point_of down across = record { x = down.at; y = across.at }

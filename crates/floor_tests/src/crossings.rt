@@ -21,14 +21,14 @@ fn is_elsewhere(first: &Line, second: &Line) -> bool
     first.at != second.at
 }
 
-/// Whether the first line begins where the second one has ended.
+/// Whether the first line begins after the end of the second.
 fn is_past(first: &Line, second: &Line) -> bool
     ensures { IsTrue result → second.now.hi <ℤ first.now.lo }
 {
     second.hi < first.lo
 }
 
-/// Whether the two are no pieces of one whole line that share a point.
+/// Whether the two are not pieces of one whole line that share a point.
 fn is_apart_from(first: &Line, second: &Line) -> bool
     ensures { IsTrue result → Overlap first.now second.now → ⊥ }
 {
@@ -51,14 +51,14 @@ fn are_clear(entries: &[(Line, LineId)], line: &Line) -> bool
     entries.iter().all(|entry| is_apart_from(&entry.0, line))
 }
 
-/// Whether the line shares no point with a line of its way that is there.
+/// Whether the line shares no point with another line of its way in the arena.
 fn is_apart(arena: &LineArena, line: Line) -> bool
     ensures { IsTrue result → IsApart arena.now line }
 {
     are_clear(arena.lines_in_order(), &line)
 }
 
-/// Puts in the line, where it is apart from those that are there.
+/// Adds the line, if it is apart from those in the arena.
 fn put(arena: &mut LineArena, line: Line) -> Option<LineId>
     requires { 0 < arena.old.spare_lines }
     ensures lines { arena.old.spare_lines ≤ arena.new.spare_lines + 1 }
@@ -73,7 +73,7 @@ fn put(arena: &mut LineArena, line: Line) -> Option<LineId>
     Some(arena.put_line(line))
 }
 
-/// Whether these are a vertical and a horizontal line that have a point in common.
+/// Whether these are a vertical and a horizontal line that share a point.
 fn do_cross(down: &Line, across: &Line) -> bool
     ensures down_runs { IsTrue result → down.now.way ≡ Vertical }
     ensures across_runs { IsTrue result → across.now.way ≡ Horizontal }
@@ -100,7 +100,7 @@ fn point_of(down: &Line, across: &Line) -> Point
     }
 }
 
-/// Puts in the crossing of the two lines, where they are there and it is not.
+/// Adds the crossing of the two lines, if they are in the arena and it is not.
 fn cross(arena: &mut LineArena, down: Line, across: Line) -> Option<CrossId>
     requires { 0 < arena.old.spare_crossings }
     ensures { arena.new.spare_lines ≡ arena.old.spare_lines }
@@ -120,7 +120,7 @@ fn cross(arena: &mut LineArena, down: Line, across: Line) -> Option<CrossId>
     Some(arena.put_crossing(vertical, horizontal))
 }
 
-/// Takes out the crossing at the point, and says whether there was one.
+/// Removes the crossing at the point, and returns whether there was one.
 fn take_crossing(arena: &mut LineArena, at: Point) -> bool
     ensures { arena.new.spare_lines ≡ arena.old.spare_lines }
 {
@@ -131,7 +131,7 @@ fn take_crossing(arena: &mut LineArena, at: Point) -> bool
     true
 }
 
-/// Takes out the line, and says whether it was there without crossings.
+/// Removes the line, and returns whether it was there without crossings.
 fn take_line(arena: &mut LineArena, line: Line) -> bool {
     let Some(id) = arena.line_at(line) else {
         return false;
@@ -162,7 +162,7 @@ fn grid_point(column: u8, row: u8) -> Point {
     }
 }
 
-/// Puts in the lines of the grid.
+/// Adds the lines of the grid.
 fn put_grid(arena: &mut LineArena) -> Result<(), AllocError> {
     for at in 0..SIDE {
         arena.reserve(1, 0)?;
@@ -173,7 +173,7 @@ fn put_grid(arena: &mut LineArena) -> Result<(), AllocError> {
     Ok(())
 }
 
-/// Puts in the crossing of the grid if it is not there, and takes it out if it is.
+/// Adds the crossing of the grid if it is not there, and removes it if it is.
 fn toggle(arena: &mut LineArena, column: u8, row: u8) -> Result<(), AllocError> {
     if take_crossing(arena, grid_point(column, row)) {
         return Ok(());
@@ -187,7 +187,7 @@ fn toggle(arena: &mut LineArena, column: u8, row: u8) -> Result<(), AllocError> 
     Ok(())
 }
 
-/// Whether a walk in the direction from the first of the points comes to just these.
+/// Whether a walk in the direction from the first of the points passes exactly these.
 fn walks(arena: &LineArena, points: &[Point], dir: Dir) -> bool {
     let Some(first) = points.first() else {
         return false;
@@ -226,13 +226,14 @@ fn expected(alloc: Global, at: u8, dir: Dir, half: bool) -> Result<Vec<Point>, A
     Ok(points)
 }
 
-/// Where the first crossing of the line stands.
+/// The point of the first crossing of the line.
 fn first_of(arena: &LineArena, line: Line) -> Option<Point> {
     let first = arena.first_on_line(arena.line_at(line)?)?;
     Some(arena.point(first))
 }
 
-/// Whether the line of the grid is walked along as expected, and begins there where one walks to the east or south.
+/// Whether the line of the grid is walked along as expected, and begins at the start of a walk to
+/// the east or south.
 fn walks_line(
     alloc: Global,
     arena: &LineArena,
@@ -248,7 +249,7 @@ fn walks_line(
     Ok(walks(arena, want.as_slice(), dir) && first == want.first().copied())
 }
 
-/// Whether every line of the grid is walked along as expected, both ways.
+/// Whether every line of the grid is walked along as expected, in both directions.
 fn stands(alloc: Global, arena: &LineArena, half: bool) -> Result<bool, AllocError> {
     for at in 0..SIDE {
         for dir in [Dir::East, Dir::South, Dir::West, Dir::North] {
@@ -264,7 +265,8 @@ fn found(arena: &LineArena, column: u8, row: u8) -> Option<CrossId> {
     arena.crossing_at(grid_point(column, row))
 }
 
-/// Whether a crossing is found at just the points at which one stands, at all of the grid or at every other one.
+/// Whether a crossing is found exactly at the points that have one: all of the grid, or every other
+/// one.
 fn finds_just_these(arena: &LineArena, half: bool) -> bool {
     for column in 0..=SIDE {
         for row in 0..=SIDE {
@@ -277,8 +279,8 @@ fn finds_just_these(arena: &LineArena, half: bool) -> bool {
     true
 }
 
-/// Turns each crossing of the grid once, in an order that the step makes: all of them until all are there, and then
-/// every other one.
+/// Toggles each crossing of the grid once, in an order that the step determines: all of them until
+/// all are there, and then every other one.
 fn toggle_all(arena: &mut LineArena, step: u16) -> Result<(), AllocError> {
     let all = u16::from(SIDE) * u16::from(SIDE);
     for turn in 0..all {
@@ -291,7 +293,7 @@ fn toggle_all(arena: &mut LineArena, step: u16) -> Result<(), AllocError> {
     Ok(())
 }
 
-/// Whether the grid stands as expected each time, filled, halved and filled again.
+/// Whether the grid is as expected each time: filled, halved and filled again.
 fn stands_each_time(alloc: Global, arena: &mut LineArena, step: u16) -> Result<bool, AllocError> {
     put_grid(arena)?;
     for half in [false, true, false] {
@@ -303,7 +305,7 @@ fn stands_each_time(alloc: Global, arena: &mut LineArena, step: u16) -> Result<b
     Ok(true)
 }
 
-/// How much was written, where the grid stands as expected each time.
+/// The value of `written`, if the grid is as expected each time.
 fn written(alloc: Global, step: u16) -> Result<Option<u64>, AllocError> {
     let mut arena = LineArena::new(alloc);
     let stands = stands_each_time(alloc, &mut arena, step);
@@ -322,7 +324,7 @@ fn walks_along_every_line(rt: HostRuntime) -> Result<(), Fail> {
     Ok(())
 }
 
-/// Puts in the lines of the grid and one crossing.
+/// Adds the lines of the grid and one crossing.
 fn put_one(arena: &mut LineArena) -> Result<(), AllocError> {
     put_grid(arena)?;
     toggle(arena, 5, 10)
@@ -339,7 +341,7 @@ fn has_one(arena: &LineArena) -> bool {
         && found(arena, 10, 5).is_none()
 }
 
-/// Whether one crossing is put in, found and taken out.
+/// Whether one crossing is added, found and removed.
 fn answers(arena: &mut LineArena) -> Result<bool, AllocError> {
     put_one(arena)?;
     let column = grid_line(Way::Vertical, 5);
@@ -357,7 +359,7 @@ fn answers_each_call(rt: HostRuntime) {
     assert!(rt; matches!(answered, Ok(true)));
 }
 
-/// Puts in the crossings of the grid at these columns and rows, one after another.
+/// Adds the crossings of the grid at these columns and rows, one after another.
 fn put_all(arena: &mut LineArena, places: &[(u8, u8)]) -> Result<(), AllocError> {
     for (column, row) in places {
         toggle(arena, *column % SIDE, *row % SIDE)?;
@@ -374,7 +376,8 @@ fn points_at(alloc: Global, places: &[(u8, u8)]) -> Result<Vec<Point>, AllocErro
     Ok(points)
 }
 
-/// Whether a walk in the direction from the first of these columns and rows comes to just these, and the walk back too.
+/// Whether a walk in the direction from the first of these columns and rows passes exactly these,
+/// and so does the walk back.
 fn joins(
     alloc: Global,
     arena: &LineArena,
@@ -387,8 +390,9 @@ fn joins(
     Ok(there && walks(arena, points.as_slice(), dir.opposite()))
 }
 
-/// The one to the north of (5, 12) has one to the west of it, which leads south to this row. That of (11, 12) leads to
-/// another row. (15, 12) has none to the north, and those of (16, 12) and (17, 12) lead nowhere.
+/// The crossing to the north of (5, 12) has one to its west, which leads south to this row. That of
+/// (11, 12) leads to another row. (15, 12) has none to the north, and those of (16, 12) and (17,
+/// 12) lead nowhere.
 const ROW: [(u8, u8); 7] = [
     (2, 12),
     (5, 12),
@@ -399,7 +403,7 @@ const ROW: [(u8, u8); 7] = [
     (20, 12),
 ];
 
-/// In the order in which they are put in.
+/// In the order in which they are added.
 const AROUND_ROW: [(u8, u8); 15] = [
     (2, 12),
     (20, 12),
@@ -423,7 +427,7 @@ fn joins_between(alloc: Global, arena: &mut LineArena) -> Result<bool, AllocErro
     put_grid(arena)?;
     put_all(arena, &AROUND_ROW)?;
     let row = joins(alloc, arena, &ROW, Dir::East)?;
-    // The one to the west of (5, 15) has one to the north of it, which leads east to this column.
+    // The crossing to the west of (5, 15) has one to its north, which leads east to this column.
     put_all(arena, &[(5, 20), (2, 15), (5, 15)])?;
     let column = [(5, 10), (5, 12), (5, 15), (5, 20)];
     Ok(row && joins(alloc, arena, &column, Dir::South)?)
@@ -459,14 +463,14 @@ const UNDER: Line = Line {
     hi: 9,
 };
 
-/// Puts in the lines and the crossing, for which room is taken just once.
+/// Adds the lines and the crossing, for which room is made only once.
 fn fill(arena: &mut LineArena) -> Result<bool, AllocError> {
     arena.reserve(3, 1)?;
     let lines = put(arena, LEVEL).is_some() && put(arena, DOT).is_some();
     Ok(lines && cross(arena, DOT, LEVEL).is_some() && put(arena, UNDER).is_some())
 }
 
-/// Whether the one crossing of the arena stands on the dot, and has none to the south.
+/// Whether the one crossing of the arena is on the dot, and has none to the south.
 fn has_dot(arena: &LineArena) -> bool {
     let Some(crossing) = arena.crossing_at(grid_point(5, 7)) else {
         return false;
@@ -481,7 +485,7 @@ fn has_none(arena: &LineArena, places: &[(u8, u8)]) -> bool {
         .all(|(column, row)| found(arena, *column, *row).is_none())
 }
 
-/// Whether the row alone is found, at the second place, wherever one looks first.
+/// Whether only the row is found, at the second place, whichever place is tried first.
 fn finds_row(arena: &LineArena) -> bool {
     let row = arena.line_at(LEVEL);
     [0, 1, 2].iter().all(|place| {
@@ -493,11 +497,11 @@ fn finds_row(arena: &LineArena) -> bool {
     })
 }
 
-/// Whether the crossing on the dot, and then the dot, are taken out, and the row stays.
+/// Whether the crossing on the dot, and then the dot, are removed, and the row stays.
 fn empties(arena: &mut LineArena) -> bool {
     let crossing = take_crossing(arena, grid_point(5, 7)) && has_none(arena, &[(5, 7)]);
     let line = take_line(arena, DOT) && has_none(arena, &[(5, 7)]);
-    // The row stands behind the line under the point that went.
+    // The row comes after the line under the removed point.
     crossing && line && arena.line_at(LEVEL).is_some() && finds_row(arena)
 }
 

@@ -10,7 +10,7 @@ fn graph(alloc: Global, rects: &[Sides], anchors: &[(i64, i64)]) -> Result<Graph
     Graph::build(alloc, &floor)
 }
 
-/// How many lines and crossings the graph has.
+/// The number of lines and crossings of the graph.
 fn size(alloc: Global, rects: &[Sides], anchors: &[(i64, i64)]) -> Result<u64, AllocError> {
     let graph = graph(alloc, rects, anchors)?;
     Ok(graph.arena().written())
@@ -78,7 +78,7 @@ fn has_line(graph: &Graph, way: Way, at: i64, lo: i64, hi: i64) -> bool {
     graph.arena().line_at(Line { way, at, lo, hi }).is_some()
 }
 
-/// At the end of the one line at x = 10 stands the top of the lower solid.
+/// The one line at x = 10 ends at the top of the lower solid.
 const OVER: [Sides; 2] = [SQUARE, (0, 20, 20, 30)];
 
 fn ends_at_the_solid(graph: &Graph) -> bool {

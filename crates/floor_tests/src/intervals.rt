@@ -4,7 +4,7 @@ use plane_geom::{SHEET_END, SHEET_START};
 use std::alloc::{AllocError, Global};
 use std::test::Fail;
 
-/// Puts the span in place of one under its key.
+/// Replaces the span under its key.
 fn put(index: &mut IntervalIndex, key: u32, lo: i16, hi: i16) -> Result<(), AllocError> {
     index.remove(key);
     if lo < hi {
@@ -31,7 +31,7 @@ fn touches(index: &IntervalIndex, lo: i64, hi: i64, want: &[u32]) -> Result<bool
     Ok(keys.as_slice() == want)
 }
 
-/// Whether what is free round each place is as it is given.
+/// Whether the free interval around each place is the expected one.
 fn is_free(index: &IntervalIndex, rows: &[(i16, Option<(i64, i64)>)]) -> bool {
     rows.iter()
         .all(|(at, want)| free_around(index, *at) == *want)
@@ -75,7 +75,7 @@ fn lists_touching_spans(rt: HostRuntime) {
     assert_eq!(rt; found.ok(), Some(true));
 }
 
-/// Puts in a thousand spans, in an order that the step makes.
+/// Adds a thousand spans, in an order that the step determines.
 fn fill_thousand(index: &mut IntervalIndex, step: u16) -> Result<(), AllocError> {
     for turn in 0..1000 {
         let key = turn * u32::from(step) % 1000;

@@ -1,4 +1,5 @@
-//! The worked rows of kept lines, one whole line and parts of the sheet against all, and a floor of many solids.
+//! The worked rows of kept lines, one whole line and parts of the sheet against all, and a floor of
+//! many solids.
 ghost use Rattle.plane_geom.specs.Floor.{IsFloor};
 
 use crate::small::{Sides, small_floor, tile, tiles_behind};
@@ -192,7 +193,8 @@ fn is_between_sides(line: &Line, near: &Rect) -> bool {
     first <= line.at && line.at <= last
 }
 
-/// Whether the lines found near the rectangle are those of all whose coordinate lies between its sides.
+/// Whether the lines found near the rectangle are those of all whose coordinate lies between its
+/// sides.
 fn is_among_all(alloc: Global, floor: &Floor, all: &[Line], near: &Rect) -> Result<bool, AllocError>
     requires { IsFloor floor.now }
 {
@@ -201,7 +203,8 @@ fn is_among_all(alloc: Global, floor: &Floor, all: &[Line], near: &Rect) -> Resu
     Ok(between.eq(found.iter()))
 }
 
-/// The whole sheet and past it, a point, sides of solids, the midst of one, beyond all, and none.
+/// The whole sheet and beyond it, a point, sides of solids, the middle of one, a place beyond all,
+/// and none.
 const PLACES: [Sides; 10] = [
     (SHEET_START, SHEET_START, SHEET_END, SHEET_END),
     (
@@ -220,7 +223,7 @@ const PLACES: [Sides; 10] = [
     (10, 20, 0, 0),
 ];
 
-/// Whether near each of the places the lines are those among all.
+/// Whether the lines near each of the places are those among all.
 fn are_among_all(alloc: Global, floor: &Floor, all: &[Line]) -> Result<bool, AllocError>
     requires { IsFloor floor.now }
 {

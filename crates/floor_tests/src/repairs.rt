@@ -1,4 +1,5 @@
-//! The worked row both ways, repairs that change little, nothing or all, the hulls of what changes, and a large floor.
+//! The worked row in both directions, repairs that change little, nothing or everything, the hulls
+//! of changes, and a large floor.
 ghost use Rattle.std.specs.Prelude.{◌≡◌, IfOk, false};
 ghost use Rattle.graph_repair.specs.Change.{LeadsFrom};
 ghost use Rattle.plane_geom.specs.Floor.{IsFloor};
@@ -64,7 +65,7 @@ const NONE: Plain<'static> = (&[], &[]);
 
 const ONE: Plain<'static> = (&[SQUARE], &[]);
 
-/// Two floors, and what is written by the turns between them.
+/// Two floors, and the numbers of writes for the changes between them.
 type Turned = (Plain<'static>, Plain<'static>, [u64; 5]);
 
 const TURNED: [Turned; 6] = [
@@ -143,7 +144,7 @@ fn finds_lines_from(
     finds_lines_of(alloc, graph, &mut repair, old, new)
 }
 
-/// Whether a repair from the one floor to the other and back finds the kept lines of both.
+/// Whether a repair from one floor to the other and back finds the kept lines of both.
 fn finds_lines(alloc: Global, old: &Floor, new: &Floor) -> Result<bool, AllocError>
     requires old { IsFloor old.now }
     requires new { IsFloor new.now }
@@ -152,13 +153,14 @@ fn finds_lines(alloc: Global, old: &Floor, new: &Floor) -> Result<bool, AllocErr
     finds_lines_from(alloc, &mut graph, old, new)
 }
 
-/// The hull of what differs, as left, top, right and bottom.
+/// The hull of the differences, as left, top, right and bottom.
 fn hull(old: &Floor, new: &Floor) -> Sides {
     let hull = hull_of_difference(old, new);
     (hull.left, hull.top, hull.right, hull.bottom)
 }
 
-/// The hull of what differs, where it is the same either way, and so are the kept lines that repairs find.
+/// The hull of the differences, if it is the same in both directions, and so are the kept lines
+/// that repairs find.
 fn hull_between(alloc: Global, old: &Floor, new: &Floor) -> Result<Option<Sides>, AllocError>
     requires old { IsFloor old.now }
     requires new { IsFloor new.now }
@@ -212,7 +214,7 @@ fn hull_to(alloc: Global, old: &Floor, shifts: [Shift; 5]) -> Result<Option<Side
     hull_between(alloc, old, &new)
 }
 
-/// The hull of what differs from five nodes at their places.
+/// The hull of the differences from five nodes at their places.
 fn hull_of_nodes(alloc: Global, shifts: [Shift; 5]) -> Result<Option<Sides>, AllocError> {
     let all = nodes(alloc, FIVE)?;
     hull_to(alloc, &all, shifts)

@@ -17,12 +17,12 @@ const AROUND: [(Dir, Point); 4] = [
     (Dir::North, Point { x: -3, y: -5 }),
 ];
 
-/// Whether both ways of going from the one to the other have these headings.
+/// Whether both ways from one point to the other have these headings.
 fn leads(dir: Dir, to: Point) -> bool {
     FROM.heading(to) == dir && to.heading(FROM) == dir.opposite()
 }
 
-/// Whether the two points are on one line of the way in which the direction runs, in two places.
+/// Whether the two points are different and on one line of the way of the direction.
 fn are_along(way: Way, to: Point) -> bool {
     FROM.across(way) == to.across(way) && FROM.along(way) != to.along(way)
 }
@@ -182,7 +182,7 @@ fn orders_lines(rt: HostRuntime) {
     }
 }
 
-/// A floor of 256 solids alike and 4,000 anchors alike.
+/// A floor of 256 equal solids and 4,000 equal anchors.
 fn large_floor(alloc: Global) -> Result<Floor, AllocError> {
     let rect = Rect {
         left: 0,
@@ -198,7 +198,7 @@ fn large_floor(alloc: Global) -> Result<Floor, AllocError> {
     })
 }
 
-/// How many solids and anchors a copy of the floor has, where it has those of the floor.
+/// The numbers of solids and anchors of a copy of the floor, if it has those of the floor.
 fn copied(alloc: Global, floor: &Floor) -> Result<Option<[usize; 2]>, AllocError> {
     let copy = floor.copy(alloc)?;
     let (solids, anchors) = (copy.solids.as_slice(), copy.anchors.as_slice());
@@ -257,7 +257,7 @@ fn reads_what_has_an_inside(rt: HostRuntime) -> Result<(), Fail> {
     Ok(())
 }
 
-/// How many solids and anchors the floor has.
+/// The numbers of solids and anchors of the floor.
 fn sizes(alloc: Global, rects: &[Sides], anchors: &[(i64, i64)]) -> Result<[usize; 2], AllocError> {
     let floor = small_floor(alloc, rects, anchors)?;
     Ok([

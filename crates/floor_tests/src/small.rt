@@ -9,13 +9,15 @@ use std::alloc::{AllocError, Global};
 /// Left, top, right and bottom, in thousandths.
 pub(crate) type Sides = (i64, i64, i64, i64);
 
-// At most so many rectangles, and so many anchors, are read.
+// The greatest number of rectangles, and of anchors, that are read.
 const MOST: usize = 256;
 
-/// The floor of the rectangles that have an inside, in their order, and of the anchors, each by its x and y.
+/// The floor of the rectangles that have an inside, in their order, and of the anchors, each by its
+/// x and y.
 ///
-/// Of each the first 256 are read. A number beyond the sheet stands for the end of the sheet that is nearest to it,
-/// and what has no inside on the sheet is left out. Each solid is of node 0. The only error is want of memory.
+/// Only the first 256 of each are read. A number beyond the sheet stands for the nearest end of the
+/// sheet, and a rectangle without an inside on the sheet is left out. Each solid is of node 0. The
+/// only error is out of memory.
 pub(crate) fn small_floor(
     alloc: Global,
     rects: &[Sides],
@@ -34,7 +36,8 @@ pub(crate) fn small_floor(
 
 /// One of many rectangles that do not touch, in rows of sixteen and of different sizes.
 ///
-/// Its left is 40 times its place in the row, its top 30 times its row; it is 20 to 26 wide and 15 to 19 high.
+/// Its left is 40 times its place in the row, its top 30 times its row; it is 20 to 26 wide and 15
+/// to 19 high.
 pub(crate) fn tile(number: u8) -> Sides
     ensures { result ≡ tile number }
 {
@@ -43,7 +46,7 @@ pub(crate) fn tile(number: u8) -> Sides
     (left, top, left + width, top + height)
 }
 
-/// The first 256, or all where there are fewer.
+/// The first 256, or all if there are fewer.
 fn first<T>(all: &[T]) -> &[T]
     ensures { result.now ≡ take 256 all.now }
 {
@@ -63,7 +66,7 @@ fn solids_of(alloc: Global, rects: &[Sides]) -> Result<Vec<Solid>, AllocError>
     Ok(solids)
 }
 
-/// The solid, where it has an inside.
+/// The solid, if it has an inside.
 fn solid(sides: Sides) -> Option<Solid>
     ensures { result ≡ solid_of_sides sides }
 {
@@ -97,14 +100,14 @@ fn point(place: (i64, i64)) -> Point
     }
 }
 
-/// The number, or the end of the sheet that is nearest to it.
+/// The number, or the nearest end of the sheet.
 fn clamped(z: i64) -> i64
     ensures { result ≡ clamped z }
 {
     z.max(SHEET_START).min(SHEET_END)
 }
 
-/// The first of 256 rectangles in rows of sixteen as it is given, and the tiles behind it.
+/// 256 rectangles in rows of sixteen: the given one first, followed by tiles.
 pub(crate) fn tiles_behind(alloc: Global, first: Sides) -> Result<Vec<Sides>, AllocError> {
     let mut rects = Vec::new(alloc);
     rects.push(first)?;

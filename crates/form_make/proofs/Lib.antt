@@ -1,4 +1,4 @@
--- The lemmas on made scenes, callees first.
+-- The lemmas on generated scenes, callees first.
 pub mod Bends
 pub mod Summing
 pub mod Script

@@ -24,7 +24,7 @@ use Rattle.generated_input.specs.declared.summary.Summary.{Summary}
 use Rattle.form_make.specs.Sums.{SumsUp, cost_of_route}
 use Rattle.form_make.proofs.Bends.{bends_in, few_bends, have_bends}
 
--- the sums over the answers so far, with what they come to at most
+-- the sums over the answers so far, with their upper bounds
 pub record SumsSoFar (answers : List Answer) (searches i : ℕ) (s : Summary) : Type 0 where
   pub routed : s.routed ≡ length (filter (λ a. is_some a.route) (take i answers))
   pub unrouted : s.unrouted ≡ length (filter (λ a. is_none a.route) (take i answers))
@@ -36,7 +36,7 @@ pub record SumsSoFar (answers : List Answer) (searches i : ℕ) (s : Summary) : 
   pub low_cost : s.cost ≤ 3 * 10 ^ 17 * i
   pub few_bends : s.bends ≤ 80000000 * i
 
--- the route is a line that a call may be handed, and costs little
+-- the route is a line that calls accept, and costs little
 pub record IsSmall (r : Route) : Type 0 where
   pub line : IsOrthogonal r.points
   pub cost : r.cost < 3 * 10 ^ 17

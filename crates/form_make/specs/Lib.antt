@@ -1,3 +1,3 @@
--- What comes of the commands that are made from a number.
+-- The result of the commands that are generated from a seed.
 pub mod Sums
 pub mod Makes

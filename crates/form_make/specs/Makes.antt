@@ -1,4 +1,4 @@
--- What comes of a number: the commands made from it are replayed on the scene made from it, and the routes are summed up.
+-- The result for a seed: the commands generated from it are replayed on the scene generated from it, and the routes are summed up.
 use Rattle.std.specs.Prelude.{◌≡◌, ℕ, suc, ◌+◌, List, [], ◌∷◌, length}
 use Rattle.walk_model.specs.declared.route.Answer.{Answer}
 use Rattle.scene_model.specs.declared.edit.Command.{Command}
@@ -12,16 +12,16 @@ use Rattle.generated_input.specs.Summary.{summary_text}
 use Rattle.script_replay.specs.Replies.{AreReplies, searched_in, world_after}
 use Rattle.form_make.specs.Sums.{SumsUp}
 
--- the commands with numbers from this one on, as the lines of a script have them
+-- the commands numbered from this number on, as the lines of a script are
 abbrev pub numbered_from : ℕ → List Command → List (ℕ × Command)
 numbered_from number [] = []
 numbered_from number (c ∷ commands) = (number, c) ∷ numbered_from (suc number) commands
 
--- the commands that are made from the seed, numbered from 1
+-- the commands that are generated from the seed, numbered from 1
 abbrev pub made_script : ℕ → List (ℕ × Command)
 made_script seed = numbered_from 1 (made_commands seed)
 
--- the output, and the number of searches, that come of the seed
+-- the output and the number of searches for the seed
 pub record Makes (seed : ℕ) (output : List ℕ) (searches : ℕ) : Type 0 where
   pub replies : List LineReply
   pub answers : List Answer
@@ -32,7 +32,7 @@ pub record Makes (seed : ℕ) (output : List ℕ) (searches : ℕ) : Type 0 wher
   pub sums_up : SumsUp answers searches summary
   pub text : output ≡ summary_text summary
 
--- the law: a seed has one output and one number of searches at most
+-- the law: a seed has at most one output and one number of searches
 abbrev pub SeedsComeToOne : Type 0
 SeedsComeToOne = (seed : ℕ) (text other_text : List ℕ) (searched other_searched : ℕ) →
     Makes seed text searched → Makes seed other_text other_searched → (text ≡ other_text) × (searched ≡ other_searched)

@@ -1,4 +1,4 @@
--- What the answers of a scene come to together.
+-- The sums over the answers of a scene.
 use Rattle.std.specs.Prelude.{◌≡◌, ℕ, List, length, filter, Option, None, Some, is_some, is_none}
 use Rattle.std.specs.List.{sum_by, AllZip}
 use Rattle.walk_model.specs.declared.route.Answer.{Answer}
@@ -8,12 +8,12 @@ use Rattle.walk_model.specs.Cost.{bends}
 use Rattle.walk_model.specs.Line.{Draws}
 use Rattle.generated_input.specs.declared.summary.Summary.{Summary}
 
--- what a route costs; nothing where there is none
+-- the cost of a route; 0 if there is none
 abbrev pub cost_of_route : Option Route → ℕ
 cost_of_route None = 0
 cost_of_route (Some route) = route.cost
 
--- a route has so many bends; none where there is no route
+-- a route has this number of bends; 0 if there is no route
 abbrev pub HasBends : Option Route → ℕ → Type 0
 HasBends None count = count ≡ 0
 HasBends (Some route) count = (w : Walk) × Draws route.points w × (count ≡ bends w.steps)

@@ -1,9 +1,9 @@
-//! The law of what comes of a number, as the contract of a function that only cites another law.
+//! The law of generated replays, as the contract of a function that only cites another law.
 ghost use Rattle.form_make.specs.Makes.{SeedsComeToOne};
 
 use script_replay::one_list_of_replies;
 
-/// A seed has one output and one number of searches.
+/// A seed has exactly one output and one number of searches.
 pub fn seeds_come_to_one()
     ensures { SeedsComeToOne }
 {

@@ -1,4 +1,4 @@
-//! What comes of a number: a scene and commands are made from it, routed, and summed up.
+//! A scene and commands, generated from a seed, routed, and summed up.
 #![tactic(auto)]
 
 mod laws;

@@ -1,4 +1,4 @@
-//! The replay of what is made from a number.
+//! The replay of what is generated from a seed.
 ghost use Rattle.std.specs.Prelude.{◌≡◌, IfOk, string_bytes};
 ghost use Rattle.form_make.specs.Makes.{Makes, made_script, numbered_from};
 
@@ -11,16 +11,16 @@ use script_replay::replay;
 use std::alloc::{AllocError, Global};
 use std::thread::Threads;
 
-/// What came of a number.
+/// The result of the replay for a seed.
 #[derive(Drop)]
 pub struct Made {
     /// The seven lines of the summary.
     pub text: String,
-    /// The searches that were made.
+    /// The counter of the searches.
     pub tally: Tally,
 }
 
-/// The commands with numbers from 1 on. Its only error is want of memory.
+/// The commands, numbered from 1. The only error is out of memory.
 fn numbered(alloc: Global, commands: &[Command]) -> Result<Vec<(usize, Command)>, AllocError>
     ensures { IfOk result (λ r. r.items ≡ numbered_from 1 commands.now) }
 {
@@ -31,7 +31,7 @@ fn numbered(alloc: Global, commands: &[Command]) -> Result<Vec<(usize, Command)>
     Ok(numbered)
 }
 
-/// The commands that are made from the seed, with numbers from 1 on. Its only error is want of memory.
+/// The commands that are generated from the seed, numbered from 1. The only error is out of memory.
 fn script(alloc: Global, seed: u64) -> Result<Vec<(usize, Command)>, AllocError>
     ensures { IfOk result (λ r. r.items ≡ made_script seed) }
 {
@@ -39,8 +39,8 @@ fn script(alloc: Global, seed: u64) -> Result<Vec<(usize, Command)>, AllocError>
     numbered(alloc, &commands)
 }
 
-/// Makes a scene and commands from the seed, replays the commands on the scene by one worker, and sums up the routes
-/// at the end. The only error is want of memory.
+/// Generates a scene and commands from the seed, replays the commands on the scene with one worker,
+/// and sums up the routes at the end. The only error is out of memory.
 pub fn make<R: Threads + Sync, G: Gate>(
     rt: &R,
     alloc: Global,

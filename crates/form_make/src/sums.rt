@@ -1,4 +1,4 @@
-//! What the answers of a scene come to together.
+//! The sums over the answers of a scene.
 ghost use Rattle.std.specs.Prelude.{◌≡◌};
 ghost use Rattle.walk_model.specs.Cost.{bends};
 ghost use Rattle.walk_model.specs.Line.{IsOrthogonal, steps_of};
@@ -10,7 +10,7 @@ use plane_geom::Point;
 use scene_store::Scene;
 use walk_model::{Answer, cost_of};
 
-/// The bends of a line: what it costs more where each of them costs 1.
+/// The number of bends of a line: the difference of its costs with bends at 1 and at 0.
 fn bends_of(points: &[Point]) -> u64
     requires { IsOrthogonal points.now }
     ensures { result ≡ bends (steps_of points.now) }
@@ -18,7 +18,7 @@ fn bends_of(points: &[Point]) -> u64
     cost_of(points, 1) - cost_of(points, 0)
 }
 
-/// The summary of the right answers of the scene, for which so many searches were made.
+/// The summary of the right answers of the scene, after `searched` searches.
 pub(crate) fn summed(scene: &Scene, answers: &[Answer], searched: u64) -> Summary
     requires { AreAnswers scene.now answers.now }
     ensures { SumsUp answers.now searched result }

@@ -14,15 +14,15 @@ use Rattle.form_route.specs.Diagram.{IsDiagram, IsOutput}
 use Rattle.form_route.specs.Report.{has_refusal, report}
 use Rattle.form_route.specs.Routes.{AreLines, Routes}
 
--- what is so of the value that a result has
+-- what holds of the value of a result
 pub of_ok : {T E : Type 0} (P : T → Type 0) (r : Result T E) (x : T) → r ≡ Ok x → IfOk r P → P x
 of_ok P r x is holds = subst (λ r. IfOk r P) is holds
 
--- what is so of the scene that was read and the present one of a world
+-- what holds of the scene that was read and of the present one of a world
 pub so_of : {E : Type 0} (P : Scene → Scene → Type 0) (r : Result Scene E) (s : Scene) (v w : World) → r ≡ Ok s → v ≡ w → P s w.present → IfOk r (λ was. P was v.present)
 so_of P r s v w is same holds = subst (λ r. IfOk r (λ was. P was v.present)) (sym is) (subst (λ (u : World). P s u.present) (sym same) holds)
 
--- the report with the diagram behind it is the output
+-- the report followed by the diagram is the output
 pub with_diagram : {E : Type 0} (tree : Pairs) (count : Bool) (opening : ℕ) (replies : List LineReply) (w : World) (answers : List Answer) (front diagram text : List ℕ) (r : Result Scene E) → front ≡ report count opening replies w answers
     → IfOk r (λ was. IsDiagram tree was w.present answers diagram) → text ≡ front ++ diagram → IfOk r (λ was. IsOutput tree was count opening replies w answers text)
 with_diagram tree count opening replies w answers front diagram text (Ok was) is_front is_diagram is_text = record {

@@ -1,4 +1,4 @@
--- What is written of a replay.
+-- The output of a replay.
 pub mod Report
 pub mod Routes
 pub mod Diagram

@@ -16,7 +16,7 @@ use Rattle.report_text.specs.declared.routed.EdgeRouted.{EdgeRouted}
 use Rattle.report_text.specs.Replies.{open_line, reply_lines, end_line}
 use Rattle.report_text.specs.Routed.{routed_lines}
 
--- how a connector is routed that has this route, if it has one
+-- how a connector with this route, if it has one, is routed
 abbrev pub told_route : Option Route → Routed
 told_route None = NoRoute
 told_route (Some route) = Cost route.cost
@@ -29,7 +29,7 @@ routed_by answers e = if is_loop e then Loop else told_route (option_and_then (�
 abbrev pub edges_routed : Scene → List Answer → List EdgeRouted
 edges_routed s answers = map (λ e. record { edge = e.number; routed = routed_by answers e }) s.edges
 
--- the lines on the opening with so many searches, on the commands, on the end of the script, and on the edges
+-- the lines for the opening with this number of searches, for the commands, for the end of the script, and for the edges
 abbrev pub report : Bool → ℕ → List LineReply → World → List Answer → List ℕ
 report count opening replies end answers =
     open_line count opening ++ reply_lines count replies

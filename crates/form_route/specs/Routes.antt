@@ -1,4 +1,4 @@
--- What comes of a script on a diagram: the report, and the diagram of the scene at the end with its nudged lines.
+-- The result of a script on a diagram: the report, and the diagram of the scene at the end with its nudged lines.
 use Rattle.std.specs.Prelude.{◌≡◌, ℕ, ◌+◌, Bool, List, ◌++◌, length}
 use Rattle.separation_model.specs.declared.bundle.Solution.{Solution}
 use Rattle.gml_text.specs.Tree.{Pairs}
@@ -34,7 +34,7 @@ pub record Routes (tree : Pairs) (s : Scene) (commands : List (ℕ × Command)) 
   pub is_refused : refused ≡ has_refusal replies (world_after s commands)
   pub is_searched : searched ≡ length (connectors s) + searched_in replies
 
--- the law: a script on a diagram has one output, one verdict and one number of searches at most
+-- the law: a script on a diagram has at most one output, one verdict and one number of searches
 pub record IsSameRoutes (text other_text : List ℕ) (refused other_refused : Bool) (searched other_searched : ℕ) : Type 0 where
   pub same_text : text ≡ other_text
   pub same_verdict : refused ≡ other_refused

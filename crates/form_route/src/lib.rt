@@ -1,4 +1,4 @@
-//! Scripts on diagrams: what is written of a replay.
+//! Scripts on diagrams: the output of a replay.
 #![tactic(auto)]
 
 mod laws;

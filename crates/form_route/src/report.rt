@@ -15,7 +15,7 @@ use scene_model::Edge;
 use scene_store::Scene;
 use std::alloc::{AllocError, Global};
 
-/// How many connectors the scene has, as many as its opening searches.
+/// The number of connectors of the scene, which its opening searches.
 pub(crate) fn connector_count(scene: &Scene) -> u64
     ensures count { result ≡ length (connectors scene.now) }
     ensures valid { IsValid scene.now }
@@ -32,7 +32,7 @@ pub(crate) fn connector_count(scene: &Scene) -> u64
     count
 }
 
-/// How the edge is routed, by the answers of the book.
+/// The route of the edge, by the answers of the book.
 fn routed_by(book: &Book, edge: &Edge) -> Routed
     ensures { result ≡ routed_by book.now edge.now }
 {
@@ -48,7 +48,7 @@ fn routed_by(book: &Book, edge: &Edge) -> Routed
     }
 }
 
-/// How each edge of the scene is routed, by the answers of the book.
+/// The routes of all edges of the scene, by the answers of the book.
 fn edges_routed(alloc: Global, scene: &Scene, book: &Book) -> Result<Vec<EdgeRouted>, AllocError>
     ensures { IfOk result (λ edges. edges.items ≡ edges_routed scene.now book.now) }
 {
@@ -62,7 +62,8 @@ fn edges_routed(alloc: Global, scene: &Scene, book: &Book) -> Result<Vec<EdgeRou
     Ok(edges)
 }
 
-/// The report on a script whose opening searched so many connectors, with these replies, which left the session.
+/// The report on a script whose opening searched `opening` connectors, with these replies, and with
+/// this session at the end.
 pub(crate) fn report(
     alloc: Global,
     count: bool,
@@ -81,21 +82,21 @@ pub(crate) fn report(
     Ok(text)
 }
 
-/// Whether a command was refused.
+/// Whether the reply is a refusal.
 fn is_refused(reply: &Reply) -> bool
     ensures { result ≡ is_refused reply.now }
 {
     matches!(reply, Reply::Refused(_))
 }
 
-/// Whether some command was refused.
+/// Whether any command was refused.
 fn any_is_refused(replies: &[LineReply]) -> bool
     ensures { result ≡ list_any (λ r. is_refused r.reply) replies.now }
 {
     replies.iter().any(|line| is_refused(&line.reply))
 }
 
-/// Whether a command was refused, or the end of the script in an open transaction.
+/// Whether a command was refused, or the script ended in an open transaction, which is refused too.
 pub(crate) fn has_refusal(replies: &[LineReply], session: &Session) -> bool
     ensures { result ≡ has_refusal replies.now session.now.world }
 {

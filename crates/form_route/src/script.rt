@@ -1,4 +1,4 @@
-//! A script on a diagram, from its commands to the bytes that are written.
+//! A script on a diagram, from its commands to the bytes of the output.
 ghost use Rattle.std.specs.Prelude.{◌≡◌, ◌<◌, ◌≤◌, ◌^◌, IfOk, IsOk, Ok, length};
 ghost use Rattle.gml_text.specs.Printed.{IsPrintable};
 ghost use Rattle.gml_text.specs.View.{tree};
@@ -22,30 +22,31 @@ use std::alloc::{AllocError, Global};
 use std::thread::Threads;
 use walk_model::WrittenRoute;
 
-/// How a script is replayed, and what its report tells.
+/// How a script is replayed, and what its report contains.
 #[derive(Clone, Copy, Debug, PartialEq, Eq)]
 pub struct Options {
-    /// How many searches are made side by side at most: 1 to 4.
+    /// The greatest number of searches side by side, from 1 to 4.
     pub workers: u32,
-    /// Whether the report tells how many connectors were searched.
+    /// Whether the report gives the numbers of connectors that were searched.
     pub count: bool,
 }
 
-/// What came of a script on a diagram.
+/// The result of a script on a diagram.
 #[derive(Drop)]
 pub struct Routing {
-    /// The report, and the printed diagram behind it.
+    /// The report, followed by the printed diagram.
     pub text: Vec<u8>,
-    /// Whether a command, or the end of the script in an open transaction, was refused.
+    /// Whether a command was refused, or the script ended in an open transaction, which is refused
+    /// too.
     pub is_refused: bool,
-    /// The searches that were made.
+    /// The counter of the searches.
     pub tally: Tally,
 }
 
-/// Replays the commands, each with the number of its line, on the scene of the document. Then it writes the report and
-/// the document of the scene at the end, with its nudged lines.
+/// Replays the commands, each with the number of its line, on the scene of the document. Then it
+/// writes the report and the document of the scene at the end, with its nudged lines.
 ///
-/// The only error is want of memory.
+/// The only error is out of memory.
 pub fn route<R: Threads + Sync, G: Gate>(
     rt: &R,
     alloc: Global,
@@ -84,8 +85,8 @@ pub fn route<R: Threads + Sync, G: Gate>(
     })
 }
 
-/// The report on a script whose opening searched so many connectors, with these replies, which left the session; and
-/// behind it the printed document of the session's present scene.
+/// The report on a script whose opening searched `opening` connectors, with these replies, and with
+/// this session at the end; followed by the printed document of the session's present scene.
 fn output(
     alloc: Global,
     doc: &Doc,

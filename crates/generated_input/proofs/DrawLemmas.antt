@@ -10,7 +10,7 @@ pub state_after-more : (seed count : ℕ) → state_after seed (count + 1) ≡ n
 unfolding state_after
 state_after-more seed count = rw add-one refl
 
--- draws behind draws are later draws
+-- draws after draws are later draws
 pub state_after-behind : (seed before count : ℕ) → state_after (state_after seed before) count ≡ state_after seed (before + count)
 unfolding state_after
 state_after-behind seed before zero = let e : before ≡ before + 0 = omega arith in ap (state_after seed) e
@@ -18,7 +18,7 @@ state_after-behind seed before (suc count) =
     let e : suc (before + count) ≡ before + suc count = omega arith in
     ap next_state (state_after-behind seed before count) ∙ ap (state_after seed) e
 
--- the state behind one more draw
+-- the state after one more draw
 pub next_is : (seed place next s t : ℕ) → next ≡ place + 1 → s ≡ state_after seed place → t ≡ next_state s → t ≡ state_after seed next
 next_is seed place next s t e was is = is ∙ ap next_state was ∙ sym (state_after-more seed place) ∙ ap (state_after seed) (sym e)
 

@@ -1,4 +1,4 @@
--- Lemmas on what is made from a number.
+-- Lemmas on what is generated from a seed.
 pub mod DrawLemmas
 pub mod Nodes
 pub mod Unrefused

@@ -1,4 +1,4 @@
--- The nodes that are made have the ids from 1 on.
+-- The generated nodes have the ids from 1 on.
 use Rattle.std.proofs.Common.{◌≡◌, ◌≢◌, inl, inr, ℕ, zero, suc, ◌+◌, ◌<◌, ◌≤◌, Bool, true, false, cond, [], ◌∷◌, ◌++◌, Option, Some, None, refl, ap, ◌∙◌, arith}
 use Rattle.std.specs.Prelude.{pos, find}
 use Rattle.std.specs.Ordering.{int_eq}

@@ -25,7 +25,7 @@ done_after : (why : Option SceneFault) (after old new : Scene) (answer : Result 
 done_after why after old new (Ok done) ok h = h.1
 done_after why after old new (Err fault) ok h = absurd (true≢false (sym ok))
 
--- an edit that is not refused fails for want of memory alone
+-- an edit that is not refused fails only when out of memory
 pub only_memory : (e : Edit) (old new : Scene) (answer : Result Unit SceneFault) → refusal e old ≡ None → IsEdited e old new answer → IfErr answer (λ fault. fault ≡ Memory)
 only_memory e old new answer = done_memory (refusal e old) (changed e old) old new answer
 
@@ -112,7 +112,7 @@ draw_behind start before place later most s s-is later-is =
     let e : before + (place + 1) ≡ later + 1 = omega arith in
     ap (λ t. drawn (state_after t (place + 1)) most) s-is ∙ ap (λ t. drawn t most) (state_after-behind start before (place + 1) ∙ ap (state_after start) e)
 
--- the move that is drawn behind earlier ones
+-- the move that is drawn after earlier ones
 pub move_at : (start place s : ℕ) → s ≡ state_after start (3 * place) → made_move s 0 ≡ made_move start place
 move_at start place s s-is =
     let a = draw_behind start (3 * place) 0 (3 * place) 36 s s-is (omega arith) in
@@ -125,7 +125,7 @@ three_draws start place s after s-is after-is =
     let e : 3 * place + 3 ≡ 3 * (place + 1) = omega arith in
     after-is ∙ ap (λ t. state_after t 3) s-is ∙ state_after-behind start (3 * place) 3 ∙ ap (state_after start) e
 
--- whether an undo stands behind the transaction
+-- whether an undo follows the transaction
 pub undo_one : (place : ℕ) → place % 3 ≡ 2 → made_undo place ≡ command.Undo ∷ []
 undo_one place e = rw e refl
 

@@ -1,4 +1,4 @@
--- What is made from a number.
+-- What is generated from a seed.
 pub mod Draws
 pub mod Made
 pub mod Summary

@@ -1,4 +1,4 @@
--- The scene and the commands that are made from a number.
+-- The scene and the commands that are generated from a seed.
 use Rattle.std.specs.Prelude.{ℕ, ◌+◌, ◌*◌, ◌/◌, ◌%◌, ◌==◌, ℤ, pos, ◌-ℤ◌, nat_lt, if◌then◌else◌, List, [], ◌∷◌, flat_map}
 use Rattle.scene_model.specs.declared.node.Node.{Node}
 use Rattle.scene_model.specs.declared.edge.Edge.{Edge}
@@ -10,7 +10,7 @@ use Rattle.scene_model.specs.Scene.{Scene, default_settings}
 use Rattle.scene_model.specs.Edits.{half, new_node, new_edge}
 use Rattle.generated_input.specs.Draws.{draw, first, state_after}
 
--- where a node stands on an axis: at most 30 units off its column or row, which are 200 units apart
+-- the coordinate of a node on an axis: at most 30 units off its column or row, which are 200 units apart
 abbrev pub made_coordinate : ℕ → ℕ → ℤ
 made_coordinate line drawn = pos (1000 * (200 * line + drawn)) -ℤ pos 30000
 
@@ -26,18 +26,18 @@ made_node seed place = new_node (pos (place + 1))
     (half (made_size (draw seed (4 * place + 2) 61)))
     (half (made_size (draw seed (4 * place + 3) 61)))
 
--- the place that a draw counts of all places but this one
+-- the place with the number of the draw among all places except this one
 abbrev pub other_place : ℕ → ℕ → ℕ
 other_place place drawn = if nat_lt drawn place then drawn else drawn + 1
 
--- the edge at the place, which takes two draws; `start` is the state behind the draws of the nodes
+-- the edge at the place, which takes two draws; `start` is the state after the draws of the nodes
 abbrev pub made_edge : ℕ → ℕ → Edge
 made_edge start place =
     let from = draw start (2 * place) 36 in
     let to = other_place from (draw start (2 * place + 1) 35) in
     new_edge (place + 1) (pos (from + 1)) (pos (to + 1)) 0 0
 
--- 36 nodes by 144 draws, and 48 edges by 96 more
+-- 36 nodes from 144 draws, and 48 edges from 96 more
 abbrev pub made_scene : ℕ → Scene
 made_scene seed = record {
   nodes = first 36 (made_node seed);
@@ -46,13 +46,13 @@ made_scene seed = record {
   next_edge = 49;
 }
 
--- the move of the transaction at the place, which takes three draws; `start` is the state behind the draws of the scene
+-- the move of the transaction at the place, which takes three draws; `start` is the state after the draws of the scene
 abbrev pub made_move : ℕ → ℕ → Edit
 made_move start place = MoveNode (pos (draw start (3 * place) 36 + 1))
     (pos (1000 * draw start (3 * place + 1) 1200))
     (pos (1000 * draw start (3 * place + 2) 1200))
 
--- an undo stands behind each third transaction
+-- an undo follows each third transaction
 abbrev pub made_undo : ℕ → List Command
 made_undo place = if place % 3 == 2 then command.Undo ∷ [] else []
 
@@ -60,6 +60,6 @@ abbrev pub made_transaction : ℕ → ℕ → List Command
 made_transaction start place =
     command.Begin ∷ command.Edit (made_move start place) ∷ command.Commit ∷ made_undo place
 
--- 12 transactions, by the draws behind the 240 of the scene
+-- 12 transactions, from the draws after the 240 of the scene
 abbrev pub made_commands : ℕ → List Command
 made_commands seed = flat_map (λ commands. commands) (first 12 (made_transaction (state_after seed 240)))

@@ -1,4 +1,4 @@
--- The summary of what was played on a scene that is made from a number.
+-- The summary of a replay on a generated scene.
 use Rattle.std.specs.Prelude.{ℕ, List, [], ◌∷◌, ◌++◌, codes, decimal}
 use Rattle.fixed_milli.specs.Milli.{size_text}
 use Rattle.generated_input.specs.declared.summary.Summary.{Summary}

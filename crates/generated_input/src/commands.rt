@@ -1,4 +1,4 @@
-//! The commands that are made from a number.
+//! The commands that are generated from a seed.
 ghost use Rattle.std.specs.Prelude.{◌≡◌, IfOk, OnOk, [], ◌∷◌, ◌++◌};
 ghost use Rattle.generated_input.specs.Draws.{state_after};
 ghost use Rattle.generated_input.specs.Made.{made_commands, made_move};
@@ -8,7 +8,7 @@ use crate::scene::{node_id, units};
 use scene_model::{Command, Edit};
 use std::alloc::{AllocError, Global};
 
-/// A move of some node to some place.
+/// A random move: some node to some place.
 fn drawn_move(draws: &mut Draws) -> Edit
     ensures edit { result ≡ made_move draws.old.state 0 }
     ensures draws { draws.new.state ≡ state_after draws.old.state 3 }
@@ -19,7 +19,7 @@ fn drawn_move(draws: &mut Draws) -> Edit
     Edit::MoveNode { id, x, y }
 }
 
-/// Adds a transaction of one edit. Its only error is want of memory.
+/// Appends a transaction of one edit. The only error is out of memory.
 fn push_transaction(commands: &mut Vec<Command>, edit: Edit) -> Result<(), AllocError>
     ensures { OnOk result (commands.new.items
         ≡ commands.old.items ++ Command.Begin ∷ Command.Edit edit ∷ Command.Commit ∷ []) }
@@ -30,8 +30,8 @@ fn push_transaction(commands: &mut Vec<Command>, edit: Edit) -> Result<(), Alloc
     Ok(())
 }
 
-/// The commands that are made from the seed, to be played on its scene: 12 transactions of one move each, and an undo
-/// behind each third one. Its only error is want of memory.
+/// The commands that are generated from the seed, to be replayed on its scene: 12 transactions of
+/// one move each, and an undo after each third one. The only error is out of memory.
 pub fn made_commands(alloc: Global, seed: u64) -> Result<Vec<Command>, AllocError>
     ensures { IfOk result (λ commands. commands.items ≡ made_commands seed) }
 {

@@ -1,22 +1,23 @@
-//! Numbers that are drawn one after another from a seed. No public clause cites this module.
+//! Pseudo-random numbers that are drawn one after another from a seed. No public clause cites this
+//! module.
 ghost use Rattle.std.specs.Prelude.{◌≡◌, ◌<◌};
 ghost use Rattle.generated_input.specs.Draws.{drawn, next_state, state_after};
 
-/// Draws, of which each changes the state that the next one comes from.
+/// A generator of numbers; each draw changes the state from which the next one comes.
 #[derive(Drop)]
 pub(crate) struct Draws {
     pub(crate) state: u64,
 }
 
 impl Draws {
-    /// No draw was made yet.
+    /// The generator before any draw.
     pub(crate) fn from_seed(seed: u64) -> Draws
         ensures { result.state ≡ seed }
     {
         Draws { state: seed }
     }
 
-    /// The next draw, below `most`.
+    /// The next draw, less than `most`.
     pub(crate) fn below(&mut self, most: u32) -> u32
         requires { 0 < most }
         ensures state { self.new.state ≡ next_state self.old.state }
@@ -30,7 +31,7 @@ impl Draws {
         (self.state >> 33) as u32 % most
     }
 
-    /// Makes so many draws, and forgets them.
+    /// Makes `count` draws, and ignores them.
     pub(crate) fn skip(&mut self, count: u32)
         ensures { self.new.state ≡ state_after self.old.state count }
     {

@@ -2,7 +2,7 @@
 ghost use Rattle.std.specs.Prelude.{◌≡◌, ◌/◌, ◌^◌};
 ghost use Rattle.generated_input.specs.Draws.{draw, state_after};
 
-/// The first state and the first draw of seed 1, as they are known from outside.
+/// The first state and the first draw of seed 1, as known independently of the definitions.
 pub fn first_draw_of_one()
     ensures state { state_after 1 1 ≡ 7806831264735756412 }
     ensures quotient { state_after 1 1 / 2 ^ 33 ≡ 908834774 }

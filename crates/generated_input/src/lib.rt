@@ -1,4 +1,4 @@
-//! The scene, and the commands on it, that are made from a number.
+//! A scene, and commands on it, generated from a seed.
 //!
 //! Coordinates and sizes are whole thousandths of a GML unit.
 #![tactic(auto)]

@@ -1,4 +1,4 @@
-//! The scene that is made from a number.
+//! The scene that is generated from a seed.
 ghost use Rattle.std.specs.Prelude.{◌≡◌, ◌≢◌, ◌<◌, ◌+◌, ◌*◌, pos, IfErr, IfOk, IsOk, OnOk, ℕ};
 ghost use Rattle.generated_input.specs.Draws.{first, state_after};
 ghost use Rattle.generated_input.specs.Made.{made_coordinate, made_edge, made_node, made_scene, made_size, other_place};
@@ -11,7 +11,7 @@ use std::alloc::{AllocError, Global};
 /// A unit in thousandths.
 const UNIT: i64 = 1000;
 
-/// So many units in thousandths.
+/// The number of units, in thousandths.
 pub(crate) fn units(count: u32) -> i64
     requires { count < 1200 }
     ensures { result ≡ pos (1000 * count) }
@@ -27,7 +27,7 @@ pub(crate) fn node_id(place: u32) -> i64
     i64::from(place) + 1
 }
 
-/// Where a node stands on an axis.
+/// The coordinate of a node on an axis.
 fn coordinate(line: u32, drawn: u32) -> i64
     requires line { line < 6 }
     requires drawn { drawn < 61 }
@@ -44,7 +44,7 @@ fn size(drawn: u32) -> i64
     UNIT * (20 + i64::from(drawn))
 }
 
-/// What an edit that is not refused came to.
+/// The result of an edit that is not refused.
 fn done(edited: Result<(), SceneFault>) -> Result<(), AllocError>
     requires { IfErr edited (λ fault. fault ≡ SceneFault.Memory) }
     ensures { OnOk result (IsOk edited) }
@@ -58,7 +58,7 @@ fn done(edited: Result<(), SceneFault>) -> Result<(), AllocError>
     }
 }
 
-/// Adds the nodes, row after row. Its only error is want of memory.
+/// Adds the nodes, row after row. The only error is out of memory.
 fn add_nodes(scene: &mut Scene, draws: &mut Draws) -> Result<(), AllocError>
     requires { scene.old ≡ empty_scene }
     ensures scene { OnOk result (scene.new ≡ record empty_scene { nodes = first 36 (made_node draws.old.state) }) }
@@ -74,7 +74,7 @@ fn add_nodes(scene: &mut Scene, draws: &mut Draws) -> Result<(), AllocError>
     Ok(())
 }
 
-/// The place that `drawn` counts of all places but this one.
+/// The place with the number `drawn` among all places except this one.
 fn other_place(place: u32, drawn: u32) -> u32
     requires { drawn < 35 }
     ensures place { result ≡ other_place place drawn }
@@ -84,7 +84,7 @@ fn other_place(place: u32, drawn: u32) -> u32
     if drawn < place { drawn } else { drawn + 1 }
 }
 
-/// Adds the edges, each between two different nodes. Its only error is want of memory.
+/// Adds the edges, each between two different nodes. The only error is out of memory.
 fn add_edges(scene: &mut Scene, draws: &mut Draws) -> Result<(), AllocError>
     requires { (seed : ℕ) × (scene.old ≡ record empty_scene { nodes = first 36 (made_node seed) }) }
     ensures { OnOk result (scene.new ≡ record scene.old {
@@ -100,8 +100,8 @@ fn add_edges(scene: &mut Scene, draws: &mut Draws) -> Result<(), AllocError>
     Ok(())
 }
 
-/// The scene that is made from the seed: 36 nodes in six rows, and 48 edges, with the default settings. Its only
-/// error is want of memory.
+/// The scene that is generated from the seed: 36 nodes in six rows, and 48 edges, with the default
+/// settings. The only error is out of memory.
 pub fn made_scene(alloc: Global, seed: u64) -> Result<Scene, AllocError>
     ensures { IfOk result (λ scene. scene ≡ made_scene seed) }
 {

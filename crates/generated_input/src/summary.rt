@@ -1,11 +1,11 @@
-//! The summary of what was played on a scene that is made from a number.
+//! The summary of a replay on a generated scene.
 ghost use Rattle.std.specs.Prelude.{◌≡◌, ◌++◌, IfOk, OnOk, codes, decimal, string_bytes};
 ghost use Rattle.fixed_milli.specs.Milli.{size_text};
 ghost use Rattle.generated_input.specs.Summary.{summary_line, summary_text};
 
 use std::alloc::{AllocError, Global};
 
-/// What was played on a made scene came to.
+/// The result of a replay on a generated scene.
 #[derive(Clone, Copy, Debug, PartialEq, Eq)]
 pub struct Summary {
     /// The connectors that have a route.
@@ -16,7 +16,7 @@ pub struct Summary {
     pub cost: u128,
     /// The sum of their bends.
     pub bends: u64,
-    /// How many searches were made.
+    /// The number of searches.
     pub searched: u64,
 }
 
@@ -35,7 +35,7 @@ fn push_cost(text: &mut String, cost: u128) -> Result<(), AllocError>
 }
 
 impl Summary {
-    /// The seven lines of the summary. Its only error is want of memory.
+    /// The seven lines of the summary. The only error is out of memory.
     pub fn text(&self, alloc: Global) -> Result<String, AllocError>
         ensures { IfOk result (λ text. string_bytes text ≡ summary_text self.now) }
     {

@@ -8,7 +8,7 @@ use Rattle.gml_text.specs.Tree.{Content, number, text, list, Pairs, no_pairs, pa
 use Rattle.gml_text.specs.Printed.{IsGrammatical, IsGrammaticalValue}
 use Rattle.gml_scene.specs.Changes.{one, all_of, put, without, put_only, is_list, change_inside, change_list}
 
--- the pairs are of the grammar, and at most so many lists are open in them
+-- the pairs follow the grammar, and at most d lists are open in them
 pub record Fits (d : ℕ) (ps : Pairs) : Type 0 where
   pub grammatical : IsGrammatical ps
   pub within : depth ps ≤ d

@@ -19,7 +19,7 @@ module _ {X : Type 0} (test : X → Bool) where
   pub found_none : (xs : List X) (i : ℕ) → find test xs ≡ find test (drop i xs) → slice_get xs i ≡ None → None ≡ find test xs
   found_none xs i so is = sym (so ∙ ap (find test) (left_past xs i is))
 
--- a place of an element is one of so many
+-- the place of an element is below the greatest length
 pub place_fits : {X : Type 0} (xs : List X) (i : ℕ) (x : X) (most : ℕ) → slice_get xs i ≡ Some x → length xs ≤ most → i + 1 ≤ most
 place_fits xs i x most is few = let within = slice_get_within xs i x is in omega (arith, within, few)
 

@@ -53,7 +53,7 @@ numeral : (n : ℕ) → IsNumeral 10 (decimal n)
 unfolding digits
 numeral n = (onto_some 63 n, onto_digits 64 n [] tt)
 
--- digits behind a sign are a number
+-- digits after a sign are a number
 signed_number : (sign : List ℕ) (negative : Bool) (ds : List ℕ) → IsSign sign negative → IsNumeral 10 ds → IsNumber (sign ++ ds)
 signed_number sign negative ds is_sign numeral = (
   record { negative = negative; whole = ds; fraction = []; shrinks = false; exponent = [] },

@@ -22,11 +22,11 @@ use Rattle.gml_scene.specs.Changes.{one, put, without, put_only, is_list, change
 pub entry_value : (p : Pair) → (entry p).1 ≡ content p.value
 entry_value p = search (rules, the_lemmas)
 
--- a pair is seen as its key and what its value is seen as
+-- the model of a pair is its key and the model of its value
 pub shown : (p : Pair) (ps : List Pair) → pairs (p ∷ ps) ≡ pair p.key (content p.value) (pairs ps)
 shown p ps = ap (λ k. pair k (entry p).1 (pairs ps)) (entry_key p) ∙ ap (λ v. pair p.key v (pairs ps)) (entry_value p)
 
--- pairs behind others
+-- pairs after others
 pub pairs-append : (ps qs : List Pair) → pairs (ps ++ qs) ≡ pairs ps then pairs qs
 pairs-append [] qs = refl
 pairs-append (p ∷ ps) qs = ap (pair (entry p).0 (entry p).1) (pairs-append ps qs)
@@ -106,7 +106,7 @@ put_only_missing [] key value none = refl
 put_only_missing (p ∷ ps) key value none =
     rw (differ (entry p).0 key (λ e. none 0 (ap Some e))) (ap (pair (entry p).0 (entry p).1) (put_only_missing ps key value (λ k. none (suc k))))
 
--- a place past the first is one behind that in the rest
+-- a place past the first is one more than that in the rest
 abbrev IsBehind : Option ℕ → ℕ → Type 0
 IsBehind o i = (j : ℕ) × (o ≡ Some j) × (i ≡ suc j)
 
@@ -118,7 +118,7 @@ behind (Some j) i is = (j, refl, sym (same_Some (suc j) i is))
 abbrev has_list : List ℕ → Pair → Bool
 has_list key p = bytes_eq (entry p).0 key && is_list (entry p).1
 
--- the place is that of the first pair, or one behind that in the rest
+-- the place is that of the first pair, or one more than that in the rest
 placed : (b : Bool) (o : Option ℕ) (i : ℕ) → (if b then Some 0 else option_map suc o) ≡ Some i → ((b ≡ true) × (i ≡ 0)) ⊎ ((b ≡ false) × IsBehind o i)
 placed true o i is = inl (refl, sym (same_Some 0 i is))
 placed false o i is = inr (refl, behind o i is)

@@ -158,7 +158,7 @@ kept_edge_fits d key inner routes (Some was) (Some e) is_key fits = inner_fits (
 kept_edge_fits d key inner routes None now is_key fits = none_fit (suc (suc (suc (suc d))))
 kept_edge_fits d key inner routes (Some was) None is_key fits = none_fit (suc (suc (suc (suc d))))
 
--- a graph has at least so many lists open as a whole edge in it
+-- a graph has at least as many open lists as a whole edge in it
 abbrev deep : ℕ → ℕ
 deep d = suc (suc (suc (suc d)))
 

@@ -58,15 +58,15 @@ pub on_ok : {A E P Q : Type 0} (r : Result A E) → (P → Q) → OnOk r P → O
 on_ok (Ok x) leads holds = leads holds
 on_ok (Err e) leads holds = tt
 
--- a pair behind others, whose value is known
+-- a pair after others, whose value is known
 pub one_behind : (new old front : Pairs) (key : List ℕ) (v w : Content) → new ≡ old then one key v → v ≡ w → old ≡ front → new ≡ front then one key w
 one_behind new old front key v w is value begun = is ∙ ap (λ x. old then one key x) value ∙ ap (λ ps. ps then one key w) begun
 
--- pairs behind others
+-- pairs after others
 pub more_behind : (new old front more : Pairs) → new ≡ old then more → old ≡ front → new ≡ front then more
 more_behind new old front more is begun = is ∙ ap (λ ps. ps then more) begun
 
--- nothing is put behind
+-- nothing is appended
 pub nothing_behind : (ps more : Pairs) → more ≡ no_pairs → ps ≡ ps then more
 nothing_behind ps more none = sym (ap (λ qs. ps then qs) none ∙ then-none ps)
 
@@ -80,7 +80,7 @@ written_more f xs i d out done new here within so one same =
     ∙ then_assoc out (all_of f (take i xs)) (f (get_or xs i d))
     ∙ ap (λ ps. out then ps) (sym (all_more f xs i d within))
 
--- pairs behind pairs behind pairs
+-- pairs after pairs after pairs
 pub put_together : (a b c d r n e : Pairs) → b ≡ a then r → c ≡ b then n → d ≡ c then e → d ≡ a then (r then (n then e))
 put_together a b c d r n e first second third =
     third
@@ -93,7 +93,7 @@ filtered_by : {X : Type 0} (f : X → Pairs) (b : Bool) (x : X) (xs : List X) �
 filtered_by f true x xs = ap (λ ps. ps then all_of f xs) (sym (then-none (f x)))
 filtered_by f false x xs = refl
 
--- a loop over those that pass a test has written the element too, and what is left goes behind
+-- a loop over those that pass a test has written the element too, and what is left follows
 pub passed_more : {X : Type 0} (f : X → Pairs) (test : X → Bool) (xs : List X) (i : ℕ) (x : X) (start out new : Pairs)
     → start ≡ out then all_of f (filter test (drop i xs)) → slice_get xs i ≡ Some x → new ≡ out then all_of f (filter test (x ∷ []))
     → start ≡ new then all_of f (filter test (drop (i + 1) xs))

@@ -11,7 +11,7 @@ abbrev pub all_of : {X : Type 0} → (X → Pairs) → List X → Pairs
 all_of f [] = no_pairs
 all_of f (x ∷ xs) = f x then all_of f xs
 
--- the first pair of the key has this value; where there is none, one goes last
+-- the first pair of the key has this value; if there is none, one is appended
 abbrev pub put : List ℕ → Content → Pairs → Pairs
 put key value no_pairs = one key value
 put key value (pair k v rest) = if bytes_eq k key then pair k value rest else pair k v (put key value rest)
@@ -21,7 +21,7 @@ abbrev pub without : List ℕ → Pairs → Pairs
 without key no_pairs = no_pairs
 without key (pair k v rest) = if bytes_eq k key then without key rest else pair k v (without key rest)
 
--- the first pair of the key has this value, and no further one is left; where there is none, one goes last
+-- the first pair of the key has this value, and no further one is left; if there is none, one is appended
 abbrev pub put_only : List ℕ → Content → Pairs → Pairs
 put_only key value no_pairs = one key value
 put_only key value (pair k v rest) = if bytes_eq k key then pair k value (without key rest) else pair k v (put_only key value rest)

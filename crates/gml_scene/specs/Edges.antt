@@ -1,4 +1,4 @@
--- The list of an edge that the diagram has: it is changed only where the edge is not as it was read, and in its line.
+-- The list of an edge that is already in the diagram: only its line changes, and what differs from the edge that was read.
 use Rattle.std.specs.Prelude.{ℕ, ◌==◌, ◌&&◌, Bool, List, codes, Option, Some, None, is_some, if◌then◌else◌}
 use Rattle.std.specs.Cmp.Lexicographic.{pointwise}
 use Rattle.std.specs.Ordering.{int_eq}
@@ -13,26 +13,26 @@ use Rattle.gml_scene.specs.Forms.{class_content, via_pair, line_content, line_pa
 abbrev pub point_eq : Point → Point → Bool
 point_eq a b = int_eq a.x b.x && int_eq a.y b.y
 
--- a class is written where it is not as it was
+-- a class is written if it has changed
 abbrev pub put_class : List ℕ → ℕ → ℕ → Pairs → Pairs
 put_class key was now pairs = if was == now then pairs else put key (class_content now) pairs
 
--- all checkpoints are written anew, last, where they are not as they were
+-- all checkpoints are replaced, appended at the end, if they have changed
 abbrev pub put_via : List Point → List Point → Pairs → Pairs
 put_via was via pairs = if pointwise point_eq was via then pairs else without (codes "via") pairs then all_of via_pair via
 
--- with a line the first `Line` in the `graphics` is replaced and any further one goes; without one each goes
+-- with a line the first `Line` in the `graphics` is replaced and any further one removed; without one all are removed
 abbrev pub put_line_in : Option (List Point) → Pairs → Pairs
 put_line_in (Some points) graphics = put_only (codes "Line") (line_content points) graphics
 put_line_in None graphics = without (codes "Line") graphics
 
--- the same in an edge's pairs, which get `graphics` for a line where they have none
+-- the same in an edge's pairs, to which `graphics` are added for a line if there are none
 abbrev pub put_line : Option (List Point) → Pairs → Pairs
 put_line line pairs =
     if is_some (list_at (codes "graphics") pairs) then change_list (codes "graphics") (put_line_in line) pairs
     else pairs then line_pairs line
 
--- the pairs of an edge that was read as the one and is the other now; those of a loop stay
+-- the pairs of an edge that was read as the first one and is now the second; those of a loop stay
 abbrev pub edge_again : Edge → Edge → Option (List Point) → Pairs → Pairs
 edge_again was e line pairs =
     if is_loop e then pairs

@@ -1,4 +1,4 @@
--- The forms of what is written: numbers, points, lines, pins, settings, and whole nodes and edges.
+-- The forms in which numbers, points, lines, pins, settings, and whole nodes and edges are written.
 use Rattle.std.specs.Prelude.{ℕ, ◌==◌, ℤ, pos, ◌*ℤ◌, List, codes, decimal, Option, Some, None, if◌then◌else◌}
 use Rattle.std.specs.Ordering.{int_eq}
 use Rattle.std.specs.Fmt.{signed_decimal}
@@ -12,7 +12,7 @@ use Rattle.scene_model.specs.declared.settings.Settings.{Settings}
 use Rattle.scene_model.specs.Letters.{letters}
 use Rattle.gml_scene.specs.Changes.{one, all_of}
 
--- a length in units, with three digits behind the point
+-- a length in units, with three digits after the decimal point
 abbrev pub length_content : ℤ → Content
 length_content z = number (milli_text z)
 
@@ -28,7 +28,7 @@ id_content id = number (signed_decimal id)
 abbrev pub point_pairs : Point → Pairs
 point_pairs p = one (codes "x") (length_content p.x) then one (codes "y") (length_content p.y)
 
--- what a cost adds to a pin's pairs: nothing where it is 0
+-- the pairs that a cost adds to a pin's pairs: none if it is 0
 abbrev pub cost_pairs : ℤ → Pairs
 cost_pairs cost = if int_eq cost (pos 0) then no_pairs else one (codes "cost") (length_content cost)
 
@@ -49,7 +49,7 @@ via_pair p = one (codes "via") (list (point_pairs p))
 abbrev pub line_point : Point → Pairs
 line_point p = one (codes "point") (list (point_pairs p))
 
--- a line holds its points and nothing else
+-- a line contains its points and nothing else
 abbrev pub line_content : List Point → Content
 line_content points = list (all_of line_point points)
 
@@ -72,7 +72,7 @@ node_pairs n = one (codes "id") (id_content n.id) then (one (codes "graphics") (
 abbrev pub node_pair : Node → Pairs
 node_pair n = one (codes "node") (list (node_pairs n))
 
--- a class of an edge's end; nothing where it is 0
+-- the pair of a class of an edge's end; none if it is 0
 abbrev pub class_pairs : List ℕ → ℕ → Pairs
 class_pairs key class = if class == 0 then no_pairs else one key (class_content class)
 

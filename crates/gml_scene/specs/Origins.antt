@@ -16,7 +16,7 @@ IsNodeOf was n = IsSome n.origin → IsSomeAnd (node_with was n.id) (λ m. m.ori
 abbrev pub IsEdgeOf : Scene → Edge → Type 0
 IsEdgeOf was e = IsSome e.origin → IsSomeAnd (edge_with was e.number) (λ d. (d.origin ≡ e.origin) × (d.from ≡ e.from) × (d.to ≡ e.to))
 
--- each node, each edge with an origin is one of the diagram
+-- each node and each edge with an origin is one of the diagram
 abbrev pub AreNodesOf : Scene → Scene → Type 0
 AreNodesOf was s = All (IsNodeOf was) s.nodes
 
@@ -28,12 +28,12 @@ pub record AreRoutesOf (s : Scene) (routes : List WrittenRoute) : Type 0 where
   pub rising : AllPairs (λ q r. q.edge < r.edge) routes
   pub connectors : All (λ r. IsSomeAnd (edge_with s r.edge) (λ e. e.from ≢ e.to)) routes
 
--- the law: a diagram's own scene has nodes and edges of the diagram alone
+-- the law: a diagram's own scene has only nodes and edges of the diagram
 pub record OwnScenesFit : Type 0 where
   pub nodes : (s : Scene) → IsValid s → AreNodesOf s s
   pub edges : (s : Scene) → IsValid s → AreEdgesOf s s
 
--- the law: each edit keeps that
+-- the law: each edit keeps this
 pub record EditsKeepOrigins : Type 0 where
   pub nodes : (was s : Scene) (e : Edit) → AreNodesOf was s → AreNodesOf was (changed e s)
   pub edges : (was s : Scene) (e : Edit) → AreEdgesOf was s → AreEdgesOf was (changed e s)

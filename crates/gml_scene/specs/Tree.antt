@@ -1,4 +1,4 @@
--- The tree of a scene and its routes: the diagram's tree, changed only where the scene says something else.
+-- The tree of a scene and its routes: the diagram's tree, changed only where the scene differs from it.
 use Rattle.std.specs.Prelude.{ℕ, suc, ◌==◌, ◌&&◌, Bool, false, List, codes, bytes_eq, Option, Some, None, option_map, is_some, is_none, find, filter, if◌then◌else◌}
 use Rattle.std.specs.Ordering.{int_eq}
 use Rattle.plane_geom.specs.declared.point.Point.{Point}
@@ -23,14 +23,14 @@ abbrev pub is_at : ℕ → Option ℕ → Bool
 is_at place None = false
 is_at place (Some origin) = origin == place
 
--- the node, the edge that comes from the place of the graph list
+-- the node, and the edge, whose origin is the place of the graph list
 abbrev pub node_from : Scene → ℕ → Option Node
 node_from s place = find (λ n. is_at place n.origin) s.nodes
 
 abbrev pub edge_from : Scene → ℕ → Option Edge
 edge_from s place = find (λ e. is_at place e.origin) s.edges
 
--- the list of a node: as the node is now, and gone where no node comes from it
+-- the list of a node: as the node is now, and removed if no node has it as its origin
 abbrev pub kept_node : List ℕ → Pairs → Option Node → Option Node → Pairs
 kept_node key inner (Some was) (Some n) = one key (list (node_again was n inner))
 kept_node key inner None now = no_pairs
@@ -66,18 +66,18 @@ put_settings was t router =
 abbrev pub settings_eq : Settings → Settings → Bool
 settings_eq a b = int_eq a.penalty b.penalty && int_eq a.buffer b.buffer && int_eq a.nudge b.nudge
 
--- the `router` of a graph list that had none; nothing where the settings are those to begin with
+-- the `router` of a graph list that had none; no pair if the settings are the default ones
 abbrev pub router_pairs : Settings → Pairs
 router_pairs t = if settings_eq t default_settings then no_pairs else one (codes "router") (list (settings_pairs t))
 
--- the pairs of the nodes, the edges that a script added
+-- the pairs of the nodes, and of the edges, that a script added
 abbrev pub new_nodes : List Node → Pairs
 new_nodes nodes = all_of node_pair (filter (λ n. is_none n.origin) nodes)
 
 abbrev pub new_edges : List WrittenRoute → List Edge → Pairs
 new_edges routes edges = all_of (λ e. edge_pair (line_for routes e.number) e) (filter (λ e. is_none e.origin) edges)
 
--- what goes behind the pairs of the graph list
+-- the pairs that are appended to the graph list
 abbrev pub appended : Scene → List WrittenRoute → Bool → Pairs
 appended s routes has_router =
     (if has_router then no_pairs else router_pairs s.settings)
@@ -88,6 +88,6 @@ graph_again was s routes graph =
     change_list (codes "router") (put_settings was.settings s.settings) (kept_from was s routes 0 graph)
     then appended s routes (is_some (list_at (codes "router") graph))
 
--- the tree of a scene with these routes, where the diagram's tree is read as the other scene
+-- the tree of a scene with these routes, where `was` is the scene that is read from the diagram's tree
 abbrev pub tree_of : Pairs → Scene → Scene → List WrittenRoute → Pairs
 tree_of tree was s routes = change_list (codes "graph") (graph_again was s routes) tree

@@ -9,14 +9,14 @@ use crate::copies::bytes_of;
 use gml_text::{Pair, Value, find};
 use std::alloc::{AllocError, Global};
 
-/// The pair has the key.
+/// Whether the pair has the key.
 pub(crate) fn has_key(pair: &Pair, key: &[u8]) -> bool
     ensures { result ≡ bytes_eq pair.now.key key.now }
 {
     pair.key.as_slice() == key
 }
 
-/// Puts a pair behind the others.
+/// Appends a pair.
 pub(crate) fn push(
     alloc: Global,
     list: &mut Vec<Pair>,
@@ -30,7 +30,7 @@ pub(crate) fn push(
     Ok(())
 }
 
-/// Gives the first pair of the key another value; where there is none, one goes last.
+/// Replaces the value of the first pair of the key; appends a pair if there is none.
 pub(crate) fn put(
     alloc: Global,
     list: &mut Vec<Pair>,
@@ -48,7 +48,7 @@ pub(crate) fn put(
     }
 }
 
-/// Takes out all pairs of the key.
+/// Removes all pairs of the key.
 pub(crate) fn remove_all(list: &mut Vec<Pair>, key: &[u8])
     ensures items { list.new.items ≡ filter (λ p. not (bytes_eq p.key key.now)) list.old.items }
     ensures pairs { pairs list.new.items ≡ without key.now (pairs list.old.items) }
@@ -56,7 +56,8 @@ pub(crate) fn remove_all(list: &mut Vec<Pair>, key: &[u8])
     list.retain(|pair| !has_key(pair, key));
 }
 
-/// Gives the first pair of the key another value and takes out any further one; where there is none, one goes last.
+/// Replaces the value of the first pair of the key and removes any further one; appends a pair if
+/// there is none.
 pub(crate) fn put_only(
     alloc: Global,
     list: &mut Vec<Pair>,
@@ -74,7 +75,7 @@ pub(crate) fn put_only(
     Ok(())
 }
 
-/// The pair has the key, and its value is a list.
+/// Whether the pair has the key, and its value is a list.
 fn is_list_of(pair: &Pair, key: &[u8]) -> bool
     ensures { result ≡ (bytes_eq pair.now.key key.now && is_list (content pair.now.value)) }
 {
@@ -93,7 +94,7 @@ pub(crate) fn list_place(list: &[Pair], key: &[u8]) -> Option<usize>
     None
 }
 
-/// A pair of the key has a list.
+/// Whether a pair of the key has a list.
 pub(crate) fn has_list(list: &[Pair], key: &[u8]) -> bool
     ensures { result ≡ is_some (list_at key.now (pairs list.now)) }
 {

@@ -1,4 +1,4 @@
-//! Pairs once more, with all that stands in them.
+//! Copies of pairs, with everything in them.
 ghost use Rattle.std.specs.Prelude.{◌≡◌, [], ◌∷◌, IfOk, OnOk};
 ghost use Rattle.gml_text.specs.Tree.{◌then◌};
 ghost use Rattle.gml_text.specs.View.{content, pairs};
@@ -6,14 +6,14 @@ ghost use Rattle.gml_text.specs.View.{content, pairs};
 use gml_text::{Bytes, Pair, Value};
 use std::alloc::{AllocError, Global};
 
-/// These bytes.
+/// A copy of the bytes.
 pub(crate) fn bytes_of(alloc: Global, bytes: &[u8]) -> Result<Bytes, AllocError>
     ensures { IfOk result (λ b. b ≡ bytes.now) }
 {
     Ok(Bytes(Vec::from_slice(alloc, bytes)?))
 }
 
-/// A value once more. The calls go as deep as its lists nest.
+/// A copy of the value. The recursion is as deep as its lists nest.
 #[cycle(copies)]
 pub(crate) fn copy_value(alloc: Global, value: &Value) -> Result<Value, AllocError>
     ensures { IfOk result (λ v. content v ≡ content value.now) }
@@ -29,7 +29,7 @@ pub(crate) fn copy_value(alloc: Global, value: &Value) -> Result<Value, AllocErr
     }
 }
 
-/// Puts a pair once more behind the others.
+/// Appends a copy of the pair.
 #[cycle(copies)]
 pub(crate) fn push_copy(alloc: Global, pair: &Pair, out: &mut Vec<Pair>) -> Result<(), AllocError>
     ensures { OnOk result (pairs out.new.items ≡ pairs out.old.items then pairs (pair.now ∷ [])) }
@@ -40,7 +40,7 @@ pub(crate) fn push_copy(alloc: Global, pair: &Pair, out: &mut Vec<Pair>) -> Resu
     Ok(())
 }
 
-/// Puts pairs once more behind the others.
+/// Appends copies of the pairs.
 #[cycle(copies)]
 pub(crate) fn push_copies(
     alloc: Global,
@@ -55,7 +55,7 @@ pub(crate) fn push_copies(
     Ok(())
 }
 
-/// Pairs once more. The calls go as deep as their lists nest.
+/// A copy of the pairs. The recursion is as deep as their lists nest.
 pub(crate) fn copy_pairs(alloc: Global, list: &[Pair]) -> Result<Vec<Pair>, AllocError>
     ensures { IfOk result (λ v. pairs v.items ≡ pairs list.now) }
 {

@@ -1,4 +1,4 @@
-//! The list of an edge that the diagram has.
+//! The list of an edge that is already in the diagram.
 ghost use Rattle.std.specs.Prelude.{◌≡◌, option_map, IfOk, OnOk};
 ghost use Rattle.gml_text.specs.View.{content, pairs};
 ghost use Rattle.gml_scene.specs.Changes.{change_inside};
@@ -12,7 +12,7 @@ use plane_geom::Point;
 use scene_model::Edge;
 use std::alloc::{AllocError, Global};
 
-/// Writes a class where it is not as it was.
+/// Writes a class if it has changed.
 fn put_class(
     alloc: Global,
     list: &mut Vec<Pair>,
@@ -28,7 +28,7 @@ fn put_class(
     put(alloc, list, key, class_of(alloc, now)?)
 }
 
-/// Writes all checkpoints anew, last, where they are not as they were.
+/// Replaces all checkpoints, appended at the end, if they have changed.
 fn put_via(
     alloc: Global,
     list: &mut Vec<Pair>,
@@ -44,8 +44,8 @@ fn put_via(
     push_via(alloc, list, via)
 }
 
-/// Replaces the first `Line` in the `graphics` that a value is, and takes out any further one; without a line it takes
-/// out each.
+/// Replaces the first `Line` in `value`, which is the value of a `graphics`, and removes any
+/// further one; without a line it removes all of them.
 fn put_line_in(alloc: Global, value: &mut Value, line: Option<&[Point]>) -> Result<(), AllocError>
     ensures { OnOk result (content value.new ≡ change_inside (put_line_in (option_map (λ l. l.now) line.entry)) (content value.old)) }
 {
@@ -61,7 +61,7 @@ fn put_line_in(alloc: Global, value: &mut Value, line: Option<&[Point]>) -> Resu
     }
 }
 
-/// Writes the line into the `graphics`, which go last where there are none.
+/// Writes the line into the `graphics`, which are appended if there are none.
 fn put_line(alloc: Global, list: &mut Vec<Pair>, line: Option<&[Point]>) -> Result<(), AllocError>
     ensures { OnOk result (pairs list.new.items ≡ put_line (option_map (λ l. l.now) line.entry) (pairs list.old.items)) }
 {
@@ -71,7 +71,7 @@ fn put_line(alloc: Global, list: &mut Vec<Pair>, line: Option<&[Point]>) -> Resu
     }
 }
 
-/// The pairs of an edge that was read as the one and is the other now; those of a loop stay.
+/// The pairs of an edge that was read as `was` and is now `edge`; those of a loop stay.
 pub(crate) fn edge_again(
     alloc: Global,
     was: &Edge,

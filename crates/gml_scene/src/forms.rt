@@ -1,4 +1,5 @@
-//! The forms of what is written: numbers, points, lines, pins, settings, and whole nodes and edges.
+//! The forms in which numbers, points, lines, pins, settings, and whole nodes and edges are
+//! written.
 ghost use Rattle.std.specs.Prelude.{◌≡◌, codes, option_map, IfOk, OnOk};
 ghost use Rattle.gml_text.specs.Tree.{◌then◌, list, text};
 ghost use Rattle.gml_text.specs.View.{content, pairs};
@@ -39,7 +40,7 @@ fn id_of(alloc: Global, id: i64) -> Result<Value, AllocError>
     Ok(Value::Number(bytes_of(alloc, text.as_bytes())?))
 }
 
-/// Puts a length behind the other pairs.
+/// Appends a length.
 fn push_length(
     alloc: Global,
     list: &mut Vec<Pair>,
@@ -72,7 +73,7 @@ pub(crate) fn line_of(alloc: Global, points: &[Point]) -> Result<Value, AllocErr
     Ok(Value::List(list))
 }
 
-/// Puts checkpoints behind the other pairs.
+/// Appends checkpoints.
 pub(crate) fn push_via(
     alloc: Global,
     list: &mut Vec<Pair>,
@@ -106,7 +107,7 @@ fn letters_of(alloc: Global, dirs: Dirs) -> Result<Value, AllocError>
     Ok(Value::Text(Bytes(letters)))
 }
 
-/// Puts the cost of a pin behind its other pairs, where it is not 0.
+/// Appends the cost of a pin, if it is not 0.
 fn push_cost(alloc: Global, list: &mut Vec<Pair>, cost: i64) -> Result<(), AllocError>
     ensures { OnOk result (pairs list.new.items ≡ pairs list.old.items then cost_pairs cost) }
 {
@@ -116,7 +117,7 @@ fn push_cost(alloc: Global, list: &mut Vec<Pair>, cost: i64) -> Result<(), Alloc
     push_length(alloc, list, b"cost", cost)
 }
 
-/// A pin's list.
+/// The list of a pin.
 fn pin_of(alloc: Global, pin: Pin) -> Result<Value, AllocError>
     ensures { IfOk result (λ v. content v ≡ list (pin_pairs pin)) }
 {
@@ -129,7 +130,7 @@ fn pin_of(alloc: Global, pin: Pin) -> Result<Value, AllocError>
     Ok(Value::List(list))
 }
 
-/// Puts pins behind the other pairs.
+/// Appends pins.
 pub(crate) fn push_pins(alloc: Global, list: &mut Vec<Pair>, pins: &[Pin]) -> Result<(), AllocError>
     ensures { OnOk result (pairs list.new.items ≡ pairs list.old.items then all_of pin_pair pins.now) }
 {
@@ -139,7 +140,7 @@ pub(crate) fn push_pins(alloc: Global, list: &mut Vec<Pair>, pins: &[Pin]) -> Re
     Ok(())
 }
 
-/// A node's centre and size.
+/// The centre and size of a node.
 fn box_of(alloc: Global, node: &Node) -> Result<Value, AllocError>
     requires { IsNode node.now }
     ensures { IfOk result (λ v. content v ≡ list (box_pairs node.now)) }
@@ -152,7 +153,7 @@ fn box_of(alloc: Global, node: &Node) -> Result<Value, AllocError>
     Ok(Value::List(list))
 }
 
-/// Puts a whole node behind the other pairs.
+/// Appends a whole node.
 pub(crate) fn push_node(alloc: Global, list: &mut Vec<Pair>, node: &Node) -> Result<(), AllocError>
     requires { IsNode node.now }
     ensures { OnOk result (pairs list.new.items ≡ pairs list.old.items then node_pair node.now) }
@@ -164,7 +165,7 @@ pub(crate) fn push_node(alloc: Global, list: &mut Vec<Pair>, node: &Node) -> Res
     push(alloc, list, b"node", Value::List(inner))
 }
 
-/// Puts a class of an edge's end behind the other pairs, where it is not 0.
+/// Appends a class of an edge's end, if it is not 0.
 fn push_class(alloc: Global, list: &mut Vec<Pair>, key: &[u8], class: u32) -> Result<(), AllocError>
     ensures { OnOk result (pairs list.new.items ≡ pairs list.old.items then class_pairs key.now class) }
 {
@@ -174,7 +175,7 @@ fn push_class(alloc: Global, list: &mut Vec<Pair>, key: &[u8], class: u32) -> Re
     push(alloc, list, key, class_of(alloc, class)?)
 }
 
-/// Puts the `graphics` of a line behind the other pairs, if there is one.
+/// Appends the `graphics` of a line, if there is one.
 pub(crate) fn push_line(
     alloc: Global,
     list: &mut Vec<Pair>,
@@ -190,7 +191,7 @@ pub(crate) fn push_line(
     push(alloc, list, b"graphics", Value::List(graphics))
 }
 
-/// Puts a whole edge behind the other pairs.
+/// Appends a whole edge.
 pub(crate) fn push_edge(
     alloc: Global,
     list: &mut Vec<Pair>,
@@ -209,7 +210,7 @@ pub(crate) fn push_edge(
     push(alloc, list, b"edge", Value::List(inner))
 }
 
-/// Puts a `router` of all settings behind the other pairs.
+/// Appends a `router` with all settings.
 pub(crate) fn push_router(
     alloc: Global,
     graph: &mut Vec<Pair>,

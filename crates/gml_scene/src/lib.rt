@@ -1,7 +1,8 @@
-//! A diagram as a scene, and back: a scene and its routes as the tree of the diagram that it comes from.
+//! A scene and its routes written back into the tree of the diagram that the scene comes from.
 //!
-//! `put_routes` keeps what the scene does not say otherwise: bytes of numbers, keys that have no meaning, the order of
-//! all pairs. What it writes anew has lengths in units with three digits behind the point.
+//! `put_routes` keeps everything that the scene does not change: bytes of numbers, keys that have
+//! no meaning, the order of all pairs. New text has lengths in units with three digits after the
+//! decimal point.
 #![tactic(auto)]
 
 mod changes;

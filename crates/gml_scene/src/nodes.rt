@@ -1,4 +1,4 @@
-//! The list of a node that the diagram has.
+//! The list of a node that is already in the diagram.
 ghost use Rattle.std.specs.Prelude.{◌≡◌, codes, IfOk, OnOk};
 ghost use Rattle.gml_text.specs.View.{content, pairs};
 ghost use Rattle.scene_model.specs.Valid.{IsNode};
@@ -12,7 +12,7 @@ use gml_text::{Pair, Value};
 use scene_model::{Node, Pin};
 use std::alloc::{AllocError, Global};
 
-/// Writes a length where it is not as it was.
+/// Writes a length if it has changed.
 pub(crate) fn put_length(
     alloc: Global,
     list: &mut Vec<Pair>,
@@ -28,7 +28,7 @@ pub(crate) fn put_length(
     put(alloc, list, key, length_of(alloc, now)?)
 }
 
-/// Writes centre and size where they are not as they were.
+/// Writes centre and size if they have changed.
 fn put_box(
     alloc: Global,
     graphics: &mut Vec<Pair>,
@@ -45,7 +45,7 @@ fn put_box(
     put_length(alloc, graphics, b"h", 2 * was.half_h, 2 * node.half_h)
 }
 
-/// The same in the `graphics` that a value is.
+/// The same in `value`, which is the value of a `graphics`.
 fn put_box_in(alloc: Global, value: &mut Value, was: &Node, node: &Node) -> Result<(), AllocError>
     requires was { IsNode was.now }
     requires node { IsNode node.now }
@@ -74,7 +74,7 @@ fn put_graphics(
     }
 }
 
-/// Writes all pins anew, last, where they are not as they were.
+/// Replaces all pins, appended at the end, if they have changed.
 fn put_pins(
     alloc: Global,
     list: &mut Vec<Pair>,
@@ -90,7 +90,7 @@ fn put_pins(
     push_pins(alloc, list, pins)
 }
 
-/// The pairs of a node that was read as the one and is the other now.
+/// The pairs of a node that was read as `was` and is now `node`.
 pub(crate) fn node_again(
     alloc: Global,
     was: &Node,

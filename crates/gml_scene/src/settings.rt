@@ -12,14 +12,14 @@ use gml_text::{Pair, Value};
 use scene_model::Settings;
 use std::alloc::{AllocError, Global};
 
-/// The settings of a diagram that tells none.
+/// The settings of a diagram that gives none.
 const DEFAULTS: Settings = Settings {
     penalty: 50_000,
     buffer: 4_000,
     nudge: 4_000,
 };
 
-/// Writes the settings that are not as they were.
+/// Writes the settings that have changed.
 fn put_all(
     alloc: Global,
     router: &mut Vec<Pair>,
@@ -33,7 +33,7 @@ fn put_all(
     put_length(alloc, router, b"nudge", was.nudge, now.nudge)
 }
 
-/// The same in the `router` that a value is.
+/// The same in `value`, which is the value of a `router`.
 fn put_settings_in(
     alloc: Global,
     value: &mut Value,
@@ -63,7 +63,7 @@ pub(crate) fn put_settings(
     }
 }
 
-/// Puts a `router` behind the other pairs, where there is none and the settings are not those to begin with.
+/// Appends a `router`, if there is none and the settings are not the default ones.
 pub(crate) fn push_settings(
     alloc: Global,
     graph: &mut Vec<Pair>,

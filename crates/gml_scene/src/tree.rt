@@ -24,24 +24,25 @@ use scene_store::Scene;
 use std::alloc::{AllocError, Global};
 use walk_model::WrittenRoute;
 
-/// The document of a scene with its routes: the tree of the diagram that the scene comes from, changed only where the
-/// scene says something else than the diagram.
+/// The document of a scene with its routes: the tree of the diagram that the scene comes from,
+/// changed only where the scene differs from the diagram.
 ///
-/// The document has to be a diagram, and each node and edge of the scene with an origin one of that diagram, with the
-/// same id, the same number and ends. The routes have to be of different connectors of the scene, in its order. Their
-/// points are in thousandths.
+/// The document has to be a diagram, and each node and edge of the scene with an origin has to be
+/// one of that diagram: a node with the same id, an edge with the same number and ends. The routes
+/// have to be of different connectors of the scene, in its order. Their points are in thousandths.
 ///
-/// - Of a node's list `x`, `y`, `w` and `h` are replaced, or appended, where they are read as another value; all `pin`
-///   pairs are replaced where other pins are read. Of a connector's list so are `sourcePin`, `targetPin` and the `via`
-///   pairs. Its first `Line` is replaced by its route, and any further one goes; without a route each goes. A loop's
-///   list stays.
-/// - A node or an edge that the scene has no more is taken out.
-/// - Settings are replaced in the first `router` list; where there is none and a setting is not the default one, a
-///   `router` is appended.
+/// - In a node's list `x`, `y`, `w` and `h` are replaced, or appended, where the present value
+///   differs from the one that is read; all `pin` pairs are replaced where the pins differ. In a
+///   connector's list the same holds for `sourcePin`, `targetPin` and the `via` pairs. Its first
+///   `Line` is replaced by its route, and any further one is removed; without a route all are
+///   removed. A loop's list stays.
+/// - A node or an edge that the scene no longer has is removed.
+/// - Settings are replaced in the first `router` list; if there is none and a setting is not the
+///   default one, a `router` is appended.
 /// - Nodes and then edges without an origin are appended.
 ///
-/// All else stays byte for byte. The calls go as deep as the document's lists nest, at most 64 for one that
-/// `gml_text::parse` gives. The only error is want of memory.
+/// Everything else stays byte for byte. The recursion is as deep as the document's lists nest, at
+/// most 64 for a document that `gml_text::parse` returns. The only error is out of memory.
 pub fn put_routes(
     alloc: Global,
     doc: &Doc,
@@ -54,7 +55,7 @@ pub fn put_routes(
     requires routes { AreRoutesOf scene.now routes.now }
     ensures tree { IfOk result (λ d. IfOk (scene_of (tree doc.now)) (λ was. tree d ≡ tree_of (tree doc.now) was scene.now routes.now)) }
 
-    // So it can be written.
+    // So the result can be printed.
     ensures printable { IsPrintable (tree doc.now) → IfOk result (λ d. IsPrintable (tree d)) }
 {
     let Ok(was) = scene_of(alloc, doc) else {
@@ -70,7 +71,7 @@ pub fn put_routes(
     Ok(Doc { pairs })
 }
 
-/// A scene with its routes beside the scene that its diagram is read as.
+/// A scene with its routes, and the scene that is read from its diagram.
 #[derive(Drop)]
 struct Change<'a> {
     alloc: Global,
@@ -79,7 +80,7 @@ struct Change<'a> {
     routes: &'a [WrittenRoute],
 }
 
-/// The node that comes from the place of the graph list.
+/// The node whose origin is the place of the graph list.
 fn node_from(scene: &Scene, place: usize) -> Option<&Node>
     ensures found { option_copied result ≡ node_from scene.now place }
     ensures node { IfSome result (λ n. IsNode n.now) }
@@ -95,7 +96,7 @@ fn node_from(scene: &Scene, place: usize) -> Option<&Node>
     None
 }
 
-/// The edge that comes from the place of the graph list.
+/// The edge whose origin is the place of the graph list.
 fn edge_from(scene: &Scene, place: usize) -> Option<&Edge>
     ensures { option_copied result ≡ edge_from scene.now place }
 {
@@ -110,7 +111,7 @@ fn edge_from(scene: &Scene, place: usize) -> Option<&Edge>
     None
 }
 
-/// The origin is this place of the graph list.
+/// Whether the origin is this place of the graph list.
 fn is_at(place: usize, origin: Option<u32>) -> bool
     ensures { result ≡ is_at place origin }
 {
@@ -120,7 +121,7 @@ fn is_at(place: usize, origin: Option<u32>) -> bool
     }
 }
 
-/// Puts a node behind the other pairs, if a script added it.
+/// Appends a node, if a script added it.
 fn push_new_node(alloc: Global, out: &mut Vec<Pair>, node: &Node) -> Result<(), AllocError>
     requires { IsNode node.now }
     ensures { OnOk result (pairs out.new.items ≡ pairs out.old.items then new_nodes (node.now ∷ [])) }
@@ -146,7 +147,7 @@ impl Change<'_> {
         Ok(out)
     }
 
-    /// Puts the graph that a value is behind the other pairs.
+    /// Appends the graph, which is `value`.
     fn push_graph(&self, out: &mut Vec<Pair>, value: &Value) -> Result<(), AllocError>
         ensures { OnOk result (pairs out.new.items ≡ pairs out.old.items
             then one (codes "graph") (change_inside (graph_again self.now.was.now self.now.scene.now self.now.routes.now) (content value.now))) }
@@ -173,7 +174,7 @@ impl Change<'_> {
         Ok(out)
     }
 
-    /// Puts what the graph list keeps behind the other pairs.
+    /// Appends what remains of the graph list.
     fn push_kept(&self, out: &mut Vec<Pair>, graph: &[Pair]) -> Result<(), AllocError>
         ensures { OnOk result (pairs out.new.items ≡ pairs out.old.items then kept_from self.now.was.now self.now.scene.now self.now.routes.now 0 (pairs graph.now)) }
     {
@@ -183,7 +184,7 @@ impl Change<'_> {
         Ok(())
     }
 
-    /// Puts what is kept of a pair of the graph list behind the other pairs.
+    /// Appends what remains of a pair of the graph list.
     fn push_pair(&self, out: &mut Vec<Pair>, place: usize, pair: &Pair) -> Result<(), AllocError>
         ensures { OnOk result (pairs out.new.items ≡ pairs out.old.items
             then kept self.now.was.now self.now.scene.now self.now.routes.now place pair.now.key (content pair.now.value)) }
@@ -195,7 +196,7 @@ impl Change<'_> {
         }
     }
 
-    /// Puts the list of a node behind the other pairs, if the scene has the node.
+    /// Appends the list of a node, if the scene still has the node.
     fn push_node(&self, out: &mut Vec<Pair>, place: usize, list: &[Pair]) -> Result<(), AllocError>
         ensures { OnOk result (pairs out.new.items ≡ pairs out.old.items
             then kept_node (codes "node") (pairs list.now) (node_from self.now.was.now place) (node_from self.now.scene.now place)) }
@@ -208,7 +209,7 @@ impl Change<'_> {
         push(self.alloc, out, b"node", Value::List(list))
     }
 
-    /// Puts the list of an edge behind the other pairs, if the scene has the edge.
+    /// Appends the list of an edge, if the scene still has the edge.
     fn push_edge(&self, out: &mut Vec<Pair>, place: usize, list: &[Pair]) -> Result<(), AllocError>
         ensures { OnOk result (pairs out.new.items ≡ pairs out.old.items
             then kept_edge (codes "edge") (pairs list.now) self.now.routes.now (edge_from self.now.was.now place) (edge_from self.now.scene.now place)) }
@@ -230,7 +231,7 @@ impl Change<'_> {
         Some(route.points.as_slice())
     }
 
-    /// Puts the nodes that a script added behind the other pairs.
+    /// Appends the nodes that a script added.
     fn push_new_nodes(&self, out: &mut Vec<Pair>) -> Result<(), AllocError>
         ensures { OnOk result (pairs out.new.items ≡ pairs out.old.items then new_nodes self.now.scene.now.nodes) }
     {
@@ -243,7 +244,7 @@ impl Change<'_> {
         Ok(())
     }
 
-    /// Puts an edge behind the other pairs, if a script added it.
+    /// Appends an edge, if a script added it.
     fn push_new_edge(&self, out: &mut Vec<Pair>, edge: &Edge) -> Result<(), AllocError>
         ensures { OnOk result (pairs out.new.items ≡ pairs out.old.items then new_edges self.now.routes.now (edge.now ∷ [])) }
     {
@@ -253,7 +254,7 @@ impl Change<'_> {
         push_edge(self.alloc, out, edge, self.line_for(edge.number))
     }
 
-    /// Puts the edges that a script added behind the other pairs.
+    /// Appends the edges that a script added.
     fn push_new_edges(&self, out: &mut Vec<Pair>) -> Result<(), AllocError>
         ensures { OnOk result (pairs out.new.items ≡ pairs out.old.items then new_edges self.now.routes.now self.now.scene.now.edges) }
     {

@@ -68,7 +68,7 @@ blanks_end_word [] more h (inr ends) = ends
 blanks_end_word (x ∷ xs) more h either =
     subst EndsWord (sym (append_assoc x (concat xs) more)) (blank_ends_word x (concat xs ++ more) h.0)
 
--- a word ends before white space, and where white space may be missing before what stands behind it
+-- a word ends before white space, and before what follows where white space may be missing
 pub gap_ends_word : (gap more : List ℕ) → IsWhiteSpace gap → (0 < length gap) ⊎ EndsWord more → EndsWord (gap ++ more)
 gap_ends_word gap more g either =
     subst (λ x. EndsWord (x ++ more)) (sym g.1)
@@ -178,7 +178,7 @@ value_ends_word (list inner) space written after_it more g v a =
     gap_ends_word space (written ++ more) g (inr (subst (λ x. EndsWord (x ++ more)) (sym v.1) refl))
 
 mutual
-  -- a value is read behind its key
+  -- a value is read after its key
   pub value_is_read : (value : Content) (written space more key : List ℕ) (fs : List Frame) (ps : Pairs)
       → SpellsValue value written → StandsApart value space more
       → accepted (written ++ more) (at (in_gap (behind key)) fs ps)

@@ -1,4 +1,4 @@
--- What a document and a fault of the bytes say of each answer.
+-- The consequences of a document and of a fault of the bytes for each result.
 use Rattle.std.proofs.Common.{◌≡◌, ℕ, List, IfOk, IsErrAnd, Result, Ok, Err, sym, subst}
 use Rattle.gml_text.specs.Tree.{Pairs}
 use Rattle.gml_text.specs.Parse.{IsDocument, IsSyntaxAt, IsTooDeepAt, ParsesAs}
@@ -11,7 +11,7 @@ use Rattle.gml_text.specs.declared.tree.Doc.{Doc}
 use Rattle.gml_text.proofs.Parsing.{reads_once, fault_answers, is_syntax, is_too_deep}
 use Rattle.gml_text.proofs.Printing.{document_is_printable}
 
--- a fault that is passed on
+-- a fault that is passed
 pub answer_passed : (bytes : List ℕ) (fault : GmlFault) (r : Result Doc GmlFault) → IsErrAnd r (λ e. e ≡ fault) → IsFaultOf bytes fault → IsAnswer bytes r
 answer_passed bytes fault (Ok doc) h f = absurd h
 answer_passed bytes fault (Err e) h f = subst (IsFaultOf bytes) (sym h) f

@@ -47,7 +47,7 @@ refused front b s leads e h =
     (sym (ap (option_and_then (accepted h.0)) e)
     ∙ (sym (leads (b ∷ h.0)) ∙ (ap (λ x. accepted x start) (sym (append_assoc front (b ∷ []) h.0)) ∙ spelled_is_accepted h.1 ((front ++ b ∷ []) ++ h.0) h.2)))
 
--- whatever begins so is at least as deep
+-- whatever begins in this way is at least as deep
 pub as_deep : (front : List ℕ) (s : State) → Leads front s → (more : List ℕ) (tree : Pairs) → SpellsDocument tree (front ++ more) → height s ≤ depth tree
 as_deep front s leads more tree h = accepted_height more s tree (sym (leads more) ∙ spelled_is_accepted tree (front ++ more) h)
 
@@ -163,7 +163,7 @@ reads_once bytes (Err (faults.TooDeep at)) (Err (faults.TooDeep to)) x y = ap (�
 reads_once bytes (Err (faults.TooDeep at)) (Err faults.Memory) x y = absurd y
 reads_once bytes (Err faults.Memory) s x y = absurd x
 
--- what a fault of the bytes says of each answer
+-- the consequences of a fault of the bytes for each result
 pub fault_answers : (bytes : List ℕ) (fault : GmlFault) → IsFaultOf bytes fault → (answer : Result Pairs GmlFault) → ParsesAs bytes answer → Answers (Err fault) answer
 fault_answers bytes (faults.Syntax at) f answer r = reads_once bytes answer (Err (faults.Syntax at)) r f
 fault_answers bytes (faults.TooDeep at) f answer r = reads_once bytes answer (Err (faults.TooDeep at)) r f
@@ -172,7 +172,7 @@ fault_answers bytes faults.Memory f answer r = tt
 same_fault : (bytes : List ℕ) (fault other : GmlFault) → ◌≡◌ {A = Result Doc GmlFault} (Err fault) (Err other) → IsFaultOf bytes fault → IsFaultOf bytes other
 same_fault bytes fault other e f = let same : fault ≡ other = cc in subst (IsFaultOf bytes) same f
 
--- a fault as each clause says it
+-- a fault as each clause states it
 pub is_syntax : (bytes : List ℕ) (fault : GmlFault) → IsFaultOf bytes fault → (at : ℕ)
     → ◌≡◌ {A = Result Doc GmlFault} (Err fault) (Err (faults.Syntax at)) → IsSyntaxAt bytes at
 is_syntax bytes fault f at e = same_fault bytes fault (faults.Syntax at) e f

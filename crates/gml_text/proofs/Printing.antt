@@ -64,7 +64,7 @@ indent_gap (suc level) =
 regroup : (a b c d e f : List ℕ) → (a ++ (b ++ (c ++ (d ++ e)))) ++ f ≡ a ++ (b ++ (c ++ (d ++ (e ++ f))))
 regroup a b c d e f = simp append_assoc
 
--- white space may stand behind pairs
+-- white space may follow pairs
 gap_behind : (tree : Pairs) (bytes gap : List ℕ) → SpellsPairs tree bytes → IsWhiteSpace gap → SpellsPairs tree (bytes ++ gap)
 gap_behind no_pairs bytes gap h g = gap_append bytes gap h g
 gap_behind (pair key value rest) bytes gap h g =

@@ -1,4 +1,4 @@
--- What is accepted is spelled: for each state, what the bytes behind it have to be.
+-- What is accepted is spelled: for each state, the conditions on the bytes after it.
 use Rattle.std.proofs.Common.{◌≡◌, ℕ, ◌<◌, Bool, true, false, not, ◌||◌, cond, ◌==◌, List, [], ◌∷◌, ◌++◌, length, Option, Some, None, ◌⊎◌, inl, inr, refl, sym, ap, ◌∙◌, subst, arith, append_assoc}
 use Rattle.std.specs.List.{list_all}
 use Rattle.std.specs.Option.{option_map, option_and_then, option_map_or}
@@ -23,7 +23,7 @@ Rest (f ∷ fs) ps more tree =
     (next : Pairs) × (body : List ℕ) × (rest : List ℕ) × (more ≡ body ++ 93 ∷ rest) × SpellsPairs next body
     × Rest fs (f.before then pair f.key (list (ps then next)) no_pairs) rest tree
 
--- behind a key and white space: a value comes
+-- after a key and white space: a value
 pub record BehindKey (key : List ℕ) (fs : List Frame) (ps : Pairs) (more : List ℕ) (tree : Pairs) : Type 0 where
   pub space : List ℕ
   pub written : List ℕ
@@ -49,7 +49,7 @@ pub record KeyRest (key : List ℕ) (fs : List Frame) (ps : Pairs) (more : List 
   pub apart : StandsApart value space rest
   pub then_rest : Rest fs (ps then pair (key ++ goes_on) value no_pairs) rest tree
 
--- what has to come in each mode
+-- the bytes that have to follow in each mode
 abbrev pub Completes : Mode → List Frame → Pairs → List ℕ → Pairs → Type 0
 Completes (in_gap between) fs ps more tree = Rest fs ps more tree
 Completes (in_gap (behind key)) fs ps more tree = BehindKey key fs ps more tree
@@ -303,7 +303,7 @@ comment_back (behind key) fs ps b bs tree true e h = ([], bs, ap (λ x. x ∷ bs
 comment_back (behind key) fs ps b bs tree false e h =
     (b ∷ h.0, h.1, ap (λ x. b ∷ x) h.2, and_from (not (b == 10)) _ (not_from_false (b == 10) e) h.3, h.4)
 
--- behind a key no number begins where no byte of a word stands
+-- after a key no number begins where there is no byte of a word
 space_before_number : (b : ℕ) (bs digits rest space : List ℕ) → is_word_byte b ≡ false → b ∷ bs ≡ space ++ (digits ++ rest) → IsNumber digits → 0 < length space
 space_before_number b bs digits rest [] w e n =
     let d = number_ends digits n in
@@ -450,7 +450,7 @@ after_step : (o : Option State) (bs : List ℕ) (tree : Pairs)
 after_step None bs tree later h = absurd (none-some tree h)
 after_step (Some s) bs tree later h = later s h
 
--- what is accepted from a state is what has to come there
+-- what is accepted from a state is what has to follow there
 pub accepted_completes : (more : List ℕ) (s : State) (tree : Pairs) → accepted more s ≡ Some tree → Completes s.mode s.lists s.pairs more tree
 accepted_completes [] s tree h = at_the_end s.mode s.lists s.pairs tree h
 accepted_completes (b ∷ bs) s tree h =

@@ -1,4 +1,4 @@
--- What a reader that stands somewhere comes to by the byte there, or by the end of the bytes.
+-- The next state of a reader at a place, by the byte there or by the end of the bytes.
 use Rattle.std.proofs.Common.{◌≡◌, ℕ, ◌+◌, ◌-◌, ◌≤◌, ◌<◌, Bool, true, false, not, ◌||◌, cond, ◌==◌, List, [], ◌∷◌, ◌++◌, length, take, drop, get_or, Some, None, refl, sym, ap, ◌∙◌, subst, arith, eq-eqb}
 use Rattle.std.specs.List.{slice_range}
 use Rattle.std.specs.Option.{option_map}
@@ -120,7 +120,7 @@ key_touches bytes at key fs ps h k w x =
     let b = get_or bytes at 0 in
     refused_there bytes at (key_state key fs ps) h x (cond-false (is_key_byte b) _ _ k ∙ cond-true (is_word_byte b) _ _ w)
 
--- where none does, a key is as white space behind it
+-- where none does, a key is as white space after it
 pub key_stops : (bytes : List ℕ) (at : ℕ) (key : List ℕ) (fs : List Frame) (ps : Pairs) → (at < length bytes → is_key_byte (get_or bytes at 0) ≡ false)
     → (at < length bytes → is_word_byte (get_or bytes at 0) ≡ false) → Stands bytes at (key_state key fs ps) → Stands bytes at (gap_state (behind key) fs ps)
 key_stops bytes at key fs ps k w x =
@@ -206,7 +206,7 @@ pub number_incomplete : (bytes : List ℕ) (at : ℕ) (key digits : List ℕ) (p
 number_incomplete bytes at key digits part fs ps h e x =
     unfinished_there bytes at (number_state key digits part fs ps) h x (cond-false (is_complete part) _ _ e)
 
--- where a number may end and no byte of a word touches it, it is as white space behind its pair
+-- where a number may end and no byte of a word touches it, it is as white space after its pair
 pub number_stops : (bytes : List ℕ) (at : ℕ) (key digits : List ℕ) (part : NumberPart) (fs : List Frame) (ps : Pairs)
     → (at < length bytes → after part (get_or bytes at 0) ≡ None) → (at < length bytes → is_word_byte (get_or bytes at 0) ≡ false) → is_complete part ≡ true
     → Stands bytes at (number_state key digits part fs ps) → Stands bytes at (gap_state between fs (ps then pair key (number digits) no_pairs))

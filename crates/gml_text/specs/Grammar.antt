@@ -1,11 +1,11 @@
--- What a document is: how the bytes of a text spell a tree.
+-- Documents: how the bytes of a text spell a tree.
 use Rattle.std.specs.Prelude.{◌≡◌, ℕ, ◌<◌, ◌⊎◌, false, not, ◌==◌, IsTrue, List, [], ◌∷◌, ◌++◌, length, codes}
 use Rattle.std.specs.List.{AllByRecursion, concat, list_all}
 use Rattle.fixed_milli.specs.Number.{IsNumber}
 use Rattle.gml_text.specs.Bytes.{line_feed, quote, is_space, begins_key, is_key_byte, is_word_byte}
 use Rattle.gml_text.specs.Tree.{Content, number, text, list, Pairs, no_pairs, pair}
 
--- the byte does not stand among the bytes
+-- the byte is not among the bytes
 abbrev pub Lacks : ℕ → List ℕ → Type 0
 Lacks byte bytes = IsTrue (list_all (λ b. not (b == byte)) bytes)
 
@@ -24,19 +24,19 @@ abbrev pub IsKey : List ℕ → Type 0
 IsKey [] = ⊥
 IsKey (b ∷ bs) = IsTrue (begins_key b) × IsTrue (list_all is_key_byte bs)
 
--- the first byte, if there is one, is none of a word
+-- the first byte, if there is one, is not part of a word
 abbrev pub EndsWord : List ℕ → Type 0
 EndsWord [] = Unit {0}
 EndsWord (b ∷ bs) = is_word_byte b ≡ false
 
--- a number is a word, a longest run of its bytes: white space must stand between it and its key, and no byte of a word stands behind it
+-- a number is a word, a longest run of its bytes: white space must stand between it and its key, and no byte of a word follows it
 abbrev pub StandsApart : Content → List ℕ → List ℕ → Type 0
 StandsApart (number digits) space behind = (0 < length space) × EndsWord behind
 StandsApart (text inner) space behind = Unit {0}
 StandsApart (list inner) space behind = Unit {0}
 
 abbrev mutual
-  -- the bytes spell the pairs: a key, its value and white space before, between and behind them
+  -- the bytes spell the pairs: a key, its value and white space before, between and after them
   pub SpellsPairs : Pairs → List ℕ → Type 0
   SpellsPairs no_pairs bytes = IsWhiteSpace bytes
   SpellsPairs (pair key value rest) bytes =
@@ -51,11 +51,11 @@ abbrev mutual
   SpellsValue (text inner) bytes = (bytes ≡ codes "\"" ++ (inner ++ codes "\"")) × Lacks quote inner
   SpellsValue (list inner) bytes = (body : List ℕ) × (bytes ≡ codes "[" ++ (body ++ codes "]")) × SpellsPairs inner body
 
--- nothing, or a comment that the end of the document ends
+-- the empty text, or a comment that ends at the end of the document
 abbrev pub IsEnding : List ℕ → Type 0
 IsEnding bytes = (bytes ≡ []) ⊎ ((line : List ℕ) × (bytes ≡ codes "#" ++ line) × Lacks line_feed line)
 
--- the bytes are a document, and spell its pairs
+-- the bytes are valid GML, and spell its pairs
 pub record SpellsDocument (tree : Pairs) (bytes : List ℕ) : Type 0 where
   pub body : List ℕ
   pub ending : List ℕ

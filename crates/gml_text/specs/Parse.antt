@@ -13,18 +13,18 @@ most_open = 64
 abbrev pub Begins : List ℕ → Type 0
 Begins bytes = (more : List ℕ) × (tree : Pairs) × SpellsDocument tree (bytes ++ more)
 
--- and one that is not too deep
+-- the same for a document that is not too deep
 abbrev pub BeginsWithinLimit : List ℕ → Type 0
 BeginsWithinLimit bytes = (more : List ℕ) × (tree : Pairs) × SpellsDocument tree (bytes ++ more) × (depth tree ≤ most_open)
 
--- the byte there opens the first list too many: up to it a document within the limit begins, and with it deeper ones alone
+-- the byte there opens the first list too many: the bytes before it begin a document within the limit, and the bytes up to it begin only deeper ones
 pub record IsTooDeepAt (bytes : List ℕ) (at : ℕ) : Type 0 where
   pub within : at < length bytes
   pub before : BeginsWithinLimit (take at bytes)
   pub begins : Begins (take (at + 1) bytes)
   pub deeper : (more : List ℕ) (tree : Pairs) → SpellsDocument tree (take (at + 1) bytes ++ more) → most_open < depth tree
 
--- the bytes are no document, no list is too deep, and so many of the bytes, and no more, begin a document
+-- the bytes are not valid GML, no list is too deep, and exactly the first `at` bytes begin a document
 pub record IsSyntaxAt (bytes : List ℕ) (at : ℕ) : Type 0 where
   pub no_document : (tree : Pairs) → SpellsDocument tree bytes → ⊥
   pub not_too_deep : (deep : ℕ) → IsTooDeepAt bytes deep → ⊥
@@ -32,12 +32,12 @@ pub record IsSyntaxAt (bytes : List ℕ) (at : ℕ) : Type 0 where
   pub begins : Begins (take at bytes)
   pub longest : (n : ℕ) → at < n → n ≤ length bytes → Begins (take n bytes) → ⊥
 
--- the bytes are a document within the limit, and spell the pairs
+-- the bytes are valid GML within the limit of depth, and spell the pairs
 pub record IsDocument (tree : Pairs) (bytes : List ℕ) : Type 0 where
   pub spelled : SpellsDocument tree bytes
   pub within_limit : depth tree ≤ most_open
 
--- what the bytes are read as; that memory is wanting the bytes do not say
+-- what the bytes are read as; out of memory is never such a reading
 abbrev pub ParsesAs : List ℕ → Result Pairs GmlFault → Type 0
 ParsesAs bytes (Ok tree) = IsDocument tree bytes
 ParsesAs bytes (Err (Syntax at)) = IsSyntaxAt bytes at

@@ -12,13 +12,13 @@ indent zero = []
 indent (suc level) = codes "  " ++ indent level
 
 abbrev mutual
-  -- the lines of pairs inside so many open lists
+  -- the lines of pairs inside `level` open lists
   pub printed_inside : ℕ → Pairs → List ℕ
   printed_inside level no_pairs = []
   printed_inside level (pair key value rest) =
       (indent level ++ (key ++ (codes " " ++ (printed_value level value ++ codes "\n")))) ++ printed_inside level rest
 
-  -- a value behind its key: a list has its pairs on lines of their own, and its closing bracket too
+  -- the value of a key: a list has its pairs on their own lines, and its closing bracket too
   pub printed_value : ℕ → Content → List ℕ
   printed_value level (number digits) = digits
   printed_value level (text inner) = codes "\"" ++ (inner ++ codes "\"")

@@ -9,10 +9,10 @@ use Rattle.gml_text.specs.declared.reader.Reader.{Reader}
 abbrev pub frame_of : OpenList → Frame
 frame_of o = record { key = o.key.items; before = pairs o.before.items }
 
--- the innermost list stands last in the vector
+-- the innermost list is the last in the vector
 abbrev pub frames : List OpenList → List Frame
 frames lists = reverse (map frame_of lists)
 
--- what a reader stands for between two pairs, without where it lies in memory
+-- the state of a reader between two pairs, as a value
 abbrev pub state_of : Reader → State
 state_of r = gap_state between (frames r.lists.items) (pairs r.pairs.items)

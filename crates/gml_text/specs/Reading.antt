@@ -1,4 +1,4 @@
--- How bytes are read one by one, as a function on states. No public clause cites this module; what is promised is `Grammar` and `Parse`.
+-- How bytes are read one by one, as a function on states. No public clause cites this module; `Grammar` and `Parse` state what is promised.
 use Rattle.std.specs.Prelude.{ℕ, not, ◌==◌, ◌||◌, if◌then◌else◌, List, [], ◌∷◌, ◌++◌, Option, Some, None}
 use Rattle.std.specs.Option.{option_map, option_and_then}
 use Rattle.gml_text.specs.Bytes.{line_feed, hash, quote, opening, closing, is_space, begins_key, is_key_byte, is_word_byte}
@@ -6,12 +6,12 @@ use Rattle.gml_text.specs.Tree.{Content, number, text, list, Pairs, no_pairs, pa
 use Rattle.gml_text.specs.Token.{begun, after, is_complete}
 use Rattle.gml_text.specs.declared.token.NumberPart.{NumberPart}
 
--- where white space stands: between two pairs, or behind a key
+-- where white space stands: between two pairs, or after a key
 pub data Where : Type 0 where
   between : Where
   behind : List ℕ → Where
 
--- what the last byte belongs to, with the key and the bytes of the value so far
+-- the kind of the last byte, with the key and the bytes of the value so far
 pub data Mode : Type 0 where
   in_gap : Where → Mode
   in_comment : Where → Mode
@@ -24,13 +24,13 @@ pub record Frame : Type 0 where
   pub key : List ℕ
   pub before : Pairs
 
--- what the bytes so far leave: the mode, the open lists, innermost first, and the pairs of the innermost one
+-- the state after the bytes so far: the mode, the open lists, innermost first, and the pairs of the innermost one
 pub record State : Type 0 where
   pub mode : Mode
   pub lists : List Frame
   pub pairs : Pairs
 
--- before the first byte
+-- the state before the first byte
 abbrev pub start : State
 start = record { mode = in_gap between; lists = []; pairs = no_pairs }
 
@@ -43,11 +43,11 @@ abbrev pub closed : List Frame → Pairs → Option State
 closed [] ps = None
 closed (f ∷ fs) ps = Some (ended fs f.before f.key (list ps))
 
--- a bracket opens a list behind the key
+-- a bracket opens a list after the key
 abbrev pub opened : List Frame → Pairs → List ℕ → State
 opened fs ps key = record { mode = in_gap between; lists = record { key = key; before = ps } ∷ fs; pairs = no_pairs }
 
--- a byte that is no white space
+-- a byte that is not white space
 abbrev pub begins : Where → List Frame → Pairs → ℕ → Option State
 begins between fs ps b =
     if b == closing then closed fs ps
@@ -89,7 +89,7 @@ text_step key inner fs ps b =
     if b == quote then Some (ended fs ps key (text inner))
     else Some (record { mode = in_text key (inner ++ b ∷ []); lists = fs; pairs = ps })
 
--- one more byte
+-- the state after one more byte
 abbrev pub mode_step : Mode → List Frame → Pairs → ℕ → Option State
 mode_step (in_gap here) fs ps b = in_space here fs ps b
 mode_step (in_comment here) fs ps b =
@@ -101,7 +101,7 @@ mode_step (in_text key inner) fs ps b = text_step key inner fs ps b
 abbrev pub stepped : State → ℕ → Option State
 stepped s b = mode_step s.mode s.lists s.pairs b
 
--- the pairs, where no list is open
+-- the pairs, if no list is open
 abbrev pub whole : List Frame → Pairs → Option Pairs
 whole [] ps = Some ps
 whole (f ∷ fs) ps = None
@@ -117,7 +117,7 @@ finished (in_number key digits part) fs ps =
     if is_complete part then whole fs (ps then pair key (number digits) no_pairs) else None
 finished (in_text key inner) fs ps = None
 
--- what comes of the state and these bytes
+-- the result of these bytes from the state
 abbrev pub accepted : List ℕ → State → Option Pairs
 accepted [] s = finished s.mode s.lists s.pairs
 accepted (b ∷ bs) s = option_and_then (accepted bs) (stepped s b)

@@ -1,4 +1,4 @@
--- Where in the bytes a reader stands: the state that the bytes before it leave. No public clause cites this module.
+-- The position of a reader in the bytes: the state that the bytes before it leave. No public clause cites this module.
 use Rattle.std.specs.Prelude.{◌≡◌, ℕ, ◌+◌, ◌<◌, ◌≤◌, false, ◌==◌, List, [], ◌∷◌, ◌++◌, length, take, slice_index, slice_range, Result, Ok, Err}
 use Rattle.gml_text.specs.Bytes.{hash, is_space}
 use Rattle.gml_text.specs.Tree.{list, Pairs, no_pairs, pair, depth, ◌then◌}
@@ -10,12 +10,12 @@ use Rattle.gml_text.specs.declared.fault.GmlFault.TheVariants.{Syntax, TooDeep, 
 use Rattle.gml_text.specs.declared.token.NumberPart.{NumberPart}
 use Rattle.gml_text.specs.declared.tree.Doc.{Doc}
 
--- the pairs of the document where each open list is closed at once
+-- the pairs of the document if each open list is closed at once
 abbrev pub closed_up : List Frame → Pairs → Pairs
 closed_up [] ps = ps
 closed_up (f ∷ fs) ps = closed_up fs (f.before then pair f.key (list ps) no_pairs)
 
--- how deep that document is
+-- the depth of that document
 abbrev pub height : State → ℕ
 height s = depth (closed_up s.lists s.pairs)
 
@@ -23,12 +23,12 @@ height s = depth (closed_up s.lists s.pairs)
 abbrev pub Leads : List ℕ → State → Type 0
 Leads front s = (more : List ℕ) → accepted (front ++ more) start ≡ accepted more s
 
--- within the limit, too
+-- the same within the limit
 pub record LeadsWithinLimit (front : List ℕ) (s : State) : Type 0 where
   pub leads : Leads front s
   pub within : height s ≤ most_open
 
--- the bytes before the place lead to the state, or to one that goes on and ends as this one does there
+-- the bytes before the place lead to the state, or to one that continues and ends as this one does there
 pub record Stands (bytes : List ℕ) (at : ℕ) (s : State) : Type 0 where
   pub through : State
   pub leads : LeadsWithinLimit (take at bytes) through
@@ -52,25 +52,25 @@ number_state key digits part fs ps = record { mode = in_number key digits part; 
 abbrev pub text_state : List ℕ → List ℕ → List Frame → Pairs → State
 text_state key inner fs ps = record { mode = in_text key inner; lists = fs; pairs = ps }
 
--- from one place to the other: a comment goes on, and white space with it
+-- from one place to another: the rest of a comment, and white space with it
 abbrev pub EndsComment : List ℕ → ℕ → ℕ → Type 0
 EndsComment bytes from end = (here : Where) (fs : List Frame) (ps : Pairs) → Stands bytes from (comment_state here fs ps) → Stands bytes end (gap_state here fs ps)
 
--- white space and comments go on
+-- white space and comments
 abbrev pub EndsGap : List ℕ → ℕ → ℕ → Type 0
 EndsGap bytes from end = (here : Where) (fs : List Frame) (ps : Pairs) → Stands bytes from (gap_state here fs ps) → Stands bytes end (gap_state here fs ps)
 
--- a key goes on
+-- the rest of a key
 abbrev pub EndsKey : List ℕ → ℕ → ℕ → Type 0
 EndsKey bytes at end = (fs : List Frame) (ps : Pairs) → Stands bytes (at + 1) (key_state (slice_range bytes at (at + 1)) fs ps)
     → Stands bytes end (key_state (slice_range bytes at end) fs ps)
 
--- a string goes on
+-- the rest of a string
 abbrev pub EndsText : List ℕ → ℕ → ℕ → Type 0
 EndsText bytes from end = (key : List ℕ) (fs : List Frame) (ps : Pairs) → Stands bytes from (text_state key [] fs ps)
     → Stands bytes end (text_state key (slice_range bytes from end) fs ps)
 
--- a number goes on
+-- the rest of a number
 abbrev pub EndsNumber : List ℕ → ℕ → NumberPart → ℕ → NumberPart → Type 0
 EndsNumber bytes at begun end part = (key : List ℕ) (fs : List Frame) (ps : Pairs)
     → Stands bytes (at + 1) (number_state key (slice_range bytes at (at + 1)) begun fs ps)
@@ -81,13 +81,13 @@ pub record IsNoGap (b : ℕ) : Type 0 where
   pub no_space : is_space b ≡ false
   pub no_hash : (b == hash) ≡ false
 
--- the fault that the bytes have; want of memory is none of theirs
+-- the fault of the bytes; out of memory requires nothing of them
 abbrev pub IsFaultOf : List ℕ → GmlFault → Type 0
 IsFaultOf bytes (Syntax at) = IsSyntaxAt bytes at
 IsFaultOf bytes (TooDeep at) = IsTooDeepAt bytes at
 IsFaultOf bytes Memory = Unit {0}
 
--- a reader goes on to a place where it stands with the state, or the bytes have the fault
+-- a reader reaches a place where its state is this, or the bytes have the fault
 abbrev pub Goes : List ℕ → Result ℕ GmlFault → State → Type 0
 Goes bytes (Ok next) s = (next ≤ length bytes) × Stands bytes next s
 Goes bytes (Err fault) s = IsFaultOf bytes fault

@@ -1,4 +1,4 @@
--- How a number goes on byte by byte: the code once more, as a function. No public clause cites this module; what a number is, `fixed_milli` says.
+-- How a number is read byte by byte, as a function that repeats the code. No public clause cites this module; `fixed_milli` says what a number is.
 use Rattle.std.specs.Prelude.{ℕ, Bool, true, false, ◌==◌, ◌||◌, if◌then◌else◌, Option, Some, None}
 use Rattle.std.specs.Char.{is_ascii_digit}
 use Rattle.fixed_milli.specs.Bytes.{plus, minus, point, is_mark}

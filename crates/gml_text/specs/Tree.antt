@@ -1,8 +1,8 @@
--- Trees of pairs, as contracts see a document.
+-- Trees of pairs, the model of a document.
 use Rattle.std.specs.Prelude.{ℕ, suc, max, List, [], ◌∷◌}
 
 mutual
-  -- what stands behind a key
+  -- the value of a key
   pub data Content : Type 0 where
     number : List ℕ → Content
     text : List ℕ → Content
@@ -19,7 +19,7 @@ abbrev mutual
   depth no_pairs = 0
   depth (pair key value rest) = max (value_depth value) (depth rest)
 
-  -- the same, where the value is a list with that list
+  -- the same, if the value is a list, including that list
   pub value_depth : Content → ℕ
   value_depth (number bytes) = 0
   value_depth (text bytes) = 0

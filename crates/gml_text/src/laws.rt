@@ -7,7 +7,7 @@ ghost use Rattle.gml_text.specs.Printed.{IsGrammatical, IsPrintable, printed};
 ghost use Rattle.gml_text.specs.Tree.{Pairs};
 ghost use Rattle.gml_text.specs.declared.fault.GmlFault.{GmlFault};
 
-/// No bytes are a spelling of two trees.
+/// No bytes are the spelling of two trees.
 pub fn spelled_once()
     ensures { (bytes : List ℕ) (tree other : Pairs) → SpellsDocument tree bytes → SpellsDocument other bytes → tree ≡ other }
 {}
@@ -17,7 +17,7 @@ pub fn read_once()
     ensures { (bytes : List ℕ) (r s : Result Pairs GmlFault) → ParsesAs bytes r → ParsesAs bytes s → r ≡ s }
 {}
 
-/// What is printed is read again as the tree.
+/// What is printed is read again as the same tree.
 pub fn printed_is_read()
     ensures spelled { (tree : Pairs) → IsGrammatical tree → SpellsDocument tree (printed tree) }
     ensures read { (tree : Pairs) → IsPrintable tree → ParsesAs (printed tree) (Ok tree) }

@@ -1,4 +1,4 @@
-//! Reading pair by pair: the open lists stand in a vector, so that depth takes no stack.
+//! Reading pair by pair: the open lists are kept in a vector, so that depth takes no stack.
 
 ghost use Rattle.std.specs.Prelude.{◌≡◌, ◌≢◌, ◌<◌, ◌≤◌, IfOk, IfErr, OnOk, length, slice_index, vec_len};
 ghost use Rattle.gml_text.specs.Parse.{most_open};
@@ -20,7 +20,8 @@ struct OpenList {
     before: Vec<Pair>,
 }
 
-/// What the pairs so far leave: the open lists, outermost first, and the pairs of the innermost one.
+/// The state after the pairs so far: the open lists, outermost first, and the pairs of the
+/// innermost one.
 #[derive(Drop)]
 pub(crate) struct Reader {
     alloc: Global,
@@ -29,7 +30,7 @@ pub(crate) struct Reader {
     ghost within_limit: { vec_len lists ≤ most_open },
 }
 
-/// A vector with these bytes, and room for no more.
+/// A vector with these bytes, and no room for more.
 fn copied(alloc: Global, bytes: &[u8]) -> Result<Vec<u8>, GmlFault>
     ensures ok { IfOk result (λ copy. copy.items ≡ bytes.now) }
     ensures err { IfErr result (λ fault. fault ≡ GmlFault.Memory) }
@@ -51,7 +52,7 @@ impl Reader {
     ghost use Rattle.gml_text.specs.Tree.{◌then◌, no_pairs, pair};
     ghost use Rattle.gml_text.specs.View.{content, pairs};
 
-    /// Before the first pair.
+    /// The state before the first pair.
     pub(crate) fn new(alloc: Global) -> Reader
         ensures { state_of result ≡ start }
     {
@@ -62,8 +63,8 @@ impl Reader {
         }
     }
 
-    /// Reads a pair, or its key and the bracket where its value is a list, or the bracket that closes the innermost
-    /// list.
+    /// Reads a pair, or its key and the opening bracket if its value is a list, or the bracket that
+    /// closes the innermost list.
     pub(crate) fn item(&mut self, bytes: &[u8], at: usize) -> Result<usize, GmlFault>
         requires within { at < length bytes.now }
         requires no_gap { IsNoGap (slice_index bytes.now at) }
@@ -87,7 +88,7 @@ impl Reader {
         self.value(key, bytes, from)
     }
 
-    /// The document of the pairs, where it may end at the end of the bytes.
+    /// The document of the pairs, if it may end at the end of the bytes.
     pub(crate) fn finish(self, bytes: &[u8]) -> Result<Doc, GmlFault>
         requires stands { Stands bytes.now (length bytes.now) (state_of self) }
         ensures { IsAnswer bytes.now result }
@@ -99,7 +100,7 @@ impl Reader {
         Ok(Doc { pairs: self.pairs })
     }
 
-    /// Reads the value behind the key, or the bracket that opens it.
+    /// Reads the value after the key, or the bracket that opens it.
     fn value(&mut self, key: Vec<u8>, bytes: &[u8], at: usize) -> Result<usize, GmlFault>
         requires within { at ≤ length bytes.now }
         requires no_gap { at < length bytes.now → IsNoGap (slice_index bytes.now at) }
@@ -117,7 +118,7 @@ impl Reader {
         }
     }
 
-    /// Reads the string that begins with the quote there.
+    /// Reads the string that begins with the quote at `at`.
     fn text(&mut self, key: Vec<u8>, bytes: &[u8], at: usize) -> Result<usize, GmlFault>
         requires within { at < length bytes.now }
         requires opens { slice_index bytes.now at ≡ quote }
@@ -135,7 +136,7 @@ impl Reader {
         Ok(end + 1)
     }
 
-    /// Reads the number that begins there.
+    /// Reads the number that begins at `at`.
     fn number(&mut self, key: Vec<u8>, bytes: &[u8], at: usize) -> Result<usize, GmlFault>
         requires within { at < length bytes.now }
         requires no_gap { IsNoGap (slice_index bytes.now at) }
@@ -157,7 +158,7 @@ impl Reader {
         Ok(end)
     }
 
-    /// Opens a list behind the key.
+    /// Opens a list after the key.
     fn open_list(&mut self, key: Vec<u8>, bytes: &[u8], at: usize) -> Result<usize, GmlFault>
         requires within { at < length bytes.now }
         requires opens { slice_index bytes.now at ≡ opening }
@@ -191,7 +192,7 @@ impl Reader {
         Ok(at + 1)
     }
 
-    /// Puts the key with this value behind the pairs.
+    /// Appends the key with this value to the pairs.
     fn put(&mut self, key: Vec<u8>, value: Value) -> Result<(), GmlFault>
         ensures lists { self.new.lists ≡ self.old.lists }
         ensures ok { OnOk result (pairs self.new.pairs.items ≡ pairs self.old.pairs.items then pair key.items (content value) no_pairs) }

@@ -1,4 +1,4 @@
-//! How far white space, keys, numbers and strings go on.
+//! The ends of white space, keys, numbers and strings.
 
 ghost use Rattle.std.specs.Prelude.{◌≡◌, ◌<◌, ◌≤◌, false, None, length, slice_index};
 ghost use Rattle.gml_text.specs.Bytes.{is_key_byte, quote};
@@ -7,7 +7,7 @@ ghost use Rattle.gml_text.specs.Token.{after};
 
 use crate::token::{self, NumberPart};
 
-/// The end of the comment that goes on there: its line feed, or the end of the bytes.
+/// The end of the comment that `from` is in: its line feed, or the end of the bytes.
 fn comment_end(bytes: &[u8], from: usize) -> usize
     requires { from ≤ length bytes.now }
     ensures after { from ≤ result }
@@ -21,7 +21,8 @@ fn comment_end(bytes: &[u8], from: usize) -> usize
     end
 }
 
-/// The first byte from there on that is neither white space nor of a comment, or the end of the bytes.
+/// The first byte from `from` on that is neither white space nor in a comment, or the end of the
+/// bytes.
 pub(crate) fn gap_end(bytes: &[u8], from: usize) -> usize
     requires { from ≤ length bytes.now }
     ensures after { from ≤ result }
@@ -42,7 +43,7 @@ pub(crate) fn gap_end(bytes: &[u8], from: usize) -> usize
     end
 }
 
-/// The first byte behind the one there that is none of a key, or the end of the bytes.
+/// The first byte after `at` that is not part of a key, or the end of the bytes.
 pub(crate) fn key_end(bytes: &[u8], at: usize) -> usize
     requires { at < length bytes.now }
     ensures after { at < result }
@@ -57,7 +58,7 @@ pub(crate) fn key_end(bytes: &[u8], at: usize) -> usize
     end
 }
 
-/// The first quote from there on, or the end of the bytes.
+/// The first quote from `from` on, or the end of the bytes.
 pub(crate) fn text_end(bytes: &[u8], from: usize) -> usize
     requires { from ≤ length bytes.now }
     ensures after { from ≤ result }
@@ -72,8 +73,8 @@ pub(crate) fn text_end(bytes: &[u8], from: usize) -> usize
     end
 }
 
-/// The first byte behind the one there with which the number does not go on, or the end of the bytes, and how far
-/// the number has been read there.
+/// The first byte after `at` that does not continue the number, or the end of the bytes, and the
+/// part of the number that has been read there.
 pub(crate) fn number_end(bytes: &[u8], at: usize, begun: NumberPart) -> (usize, NumberPart)
     requires { at < length bytes.now }
     ensures after { at < result.0 }

@@ -6,7 +6,7 @@ ghost use Rattle.gml_text.specs.View.{pairs};
 
 use crate::tree::Pair;
 
-/// The index, from 0, of the first pair with this key, if there is one. The call takes no memory.
+/// The index, from 0, of the first pair with this key, if there is one. Takes no memory.
 pub fn find(list: &[Pair], key: &[u8]) -> Option<usize>
     ensures found { IfSome result (λ index. slice_get (keys (pairs list.now)) index ≡ Some key.now) }
     ensures first { IfSome result (λ index. (k : ℕ) → k < index → slice_get (keys (pairs list.now)) k ≢ Some key.now) }

@@ -1,19 +1,19 @@
-//! Kinds of bytes, and how far a number has been read.
+//! Kinds of bytes, and the parts of a number.
 
 ghost use Rattle.std.specs.Prelude.{◌≡◌};
 ghost use Rattle.gml_text.specs.Bytes.{is_space, begins_key, is_key_byte, is_word_byte};
 ghost use Rattle.gml_text.specs.Token.{begun, after, is_complete};
 
-/// How far a number has been read.
+/// The part of a number that was read last.
 #[derive(Clone, Copy)]
 pub(crate) enum NumberPart {
     /// The sign alone.
     Sign,
     /// Digits, and no point yet.
     Whole,
-    /// A point with no digit before it or behind it.
+    /// A point with no digit before or after it.
     Point,
-    /// Behind the point, with a digit on one of its sides.
+    /// After the point, with a digit on at least one side of it.
     Fraction,
     /// The mark of the exponent alone.
     Mark,
@@ -24,7 +24,7 @@ pub(crate) enum NumberPart {
 }
 
 impl NumberPart {
-    /// The part after a number's first byte, if a number begins with it.
+    /// The part after a number's first byte, if a number may begin with it.
     pub(crate) fn begun(byte: u8) -> Option<NumberPart>
         ensures { result ≡ begun byte }
     {
@@ -36,7 +36,7 @@ impl NumberPart {
         }
     }
 
-    /// The part after one more byte, if the number goes on with it.
+    /// The part after one more byte, if the number may continue with it.
     pub(crate) fn after(self, byte: u8) -> Option<NumberPart>
         ensures { result ≡ after self byte }
     {
@@ -79,21 +79,21 @@ pub(crate) fn is_space(byte: u8) -> bool
     matches!(byte, b' ' | b'\t' | b'\n' | b'\r')
 }
 
-/// Whether a key begins with the byte.
+/// Whether a key may begin with the byte.
 pub(crate) fn begins_key(byte: u8) -> bool
     ensures { result ≡ begins_key byte }
 {
     byte.is_ascii_alphabetic() || byte == b'_'
 }
 
-/// Whether a key goes on with the byte.
+/// Whether a key may continue with the byte.
 pub(crate) fn is_key_byte(byte: u8) -> bool
     ensures { result ≡ is_key_byte byte }
 {
     byte.is_ascii_alphanumeric() || byte == b'_'
 }
 
-/// Whether the byte is one of a word.
+/// Whether the byte may be part of a word.
 pub(crate) fn is_word_byte(byte: u8) -> bool
     ensures { result ≡ is_word_byte byte }
 {

@@ -25,13 +25,13 @@ impl Bytes {
     }
 }
 
-/// What stands behind a key.
+/// The value of a key.
 #[cycle(tree)]
 #[derive(Debug, Drop)]
 pub enum Value {
     /// A number, with the bytes that spell it.
     Number(Bytes),
-    /// What stands between the quotes of a string, escapes as they were written.
+    /// The bytes between the quotes of a string, with escapes as they were written.
     Text(Bytes),
     /// A list of pairs.
     List(Vec<Pair>),

@@ -10,7 +10,7 @@ ghost use Rattle.gml_text.specs.View.{content, pairs, tree};
 use crate::tree::{Bytes, Doc, Pair, Value};
 use std::alloc::{AllocError, Global};
 
-/// Spaces for a line inside so many open lists.
+/// The indent of a line inside `level` open lists.
 fn put_indent(out: &mut Vec<u8>, level: usize) -> Result<(), AllocError>
     ensures { OnOk result (out.new.items ≡ out.old.items ++ indent level) }
 {
@@ -30,7 +30,7 @@ fn put_text(out: &mut Vec<u8>, text: &Bytes) -> Result<(), AllocError>
     Ok(())
 }
 
-/// A value behind its key, inside so many open lists.
+/// The value of a key, inside `level` open lists.
 #[cycle(lines)]
 fn put_value(out: &mut Vec<u8>, value: &Value, level: usize) -> Result<(), AllocError>
     requires { value_depth (content value.now) + level ≤ most_open }
@@ -49,7 +49,7 @@ fn put_value(out: &mut Vec<u8>, value: &Value, level: usize) -> Result<(), Alloc
     }
 }
 
-/// The line or lines of a pair, inside so many open lists.
+/// The line or lines of a pair, inside `level` open lists.
 #[cycle(lines)]
 fn put_pair(out: &mut Vec<u8>, pair: &Pair, level: usize) -> Result<(), AllocError>
     requires { depth (pairs (pair.now ∷ [])) + level ≤ most_open }
@@ -63,7 +63,7 @@ fn put_pair(out: &mut Vec<u8>, pair: &Pair, level: usize) -> Result<(), AllocErr
     Ok(())
 }
 
-/// The lines of the pairs, inside so many open lists.
+/// The lines of the pairs, inside `level` open lists.
 #[cycle(lines)]
 fn put_lines(out: &mut Vec<u8>, list: &[Pair], level: usize) -> Result<(), AllocError>
     requires { depth (pairs list.now) + level ≤ most_open }
@@ -77,18 +77,18 @@ fn put_lines(out: &mut Vec<u8>, list: &[Pair], level: usize) -> Result<(), Alloc
 
 /// Writes a document in its printed form.
 ///
-/// Each pair stands on a line of its own, behind two spaces for each open list, with one space
-/// between its key and its value. A list opens on the line of its key and closes on a line of its
-/// own. Each line ends with a line feed. All bytes of keys, numbers and strings are kept; comments
-/// and layout of a source are in no document.
+/// Each pair is on its own line, after two spaces for each open list, with one space between its
+/// key and its value. A list opens on the line of its key and closes on its own line. Each line
+/// ends with a line feed. All bytes of keys, numbers and strings are kept; a document contains no
+/// comments and no layout of a source.
 ///
-/// The document's keys, numbers and strings have to be of the grammar, and at most 64 lists open.
-/// Of every document that `parse` gives that is so.
+/// The document's keys, numbers and strings have to follow the grammar, with at most 64 open lists.
+/// Every document that `parse` returns does.
 pub fn print(alloc: Global, doc: &Doc) -> Result<Vec<u8>, AllocError>
     requires { IsPrintable (tree doc.now) }
     ensures printed { IfOk result (λ out. out.items ≡ printed (tree doc.now)) }
 
-    // So it is read again as the same tree.
+    // So the result is read again as the same tree.
     ensures spelled { IfOk result (λ out. SpellsDocument (tree doc.now) out.items) }
 {
     let mut out = Vec::new(alloc);

@@ -191,7 +191,7 @@ rising_drop zero ls r = r
 rising_drop (suc n) [] r = r
 rising_drop (suc n) (x ∷ xs) r = rising_drop n xs r.1
 
--- so much was found in the first i of the old lines and the first j of the new ones
+-- these lines were found in the first i of the old lines and the first j of the new ones
 abbrev pub AreFoundUpto : Rect → List Line → List Line → ℕ → ℕ → List Line → List Line → List Line → Type 0
 AreFoundUpto near old new i j = AreFound near old new (drop i old) (drop j new)
 

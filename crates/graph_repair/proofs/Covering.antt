@@ -7,7 +7,7 @@ use Rattle.plane_geom.specs.declared.rect.Rect.{Rect}
 use Rattle.plane_geom.specs.Rect.{HasWithin}
 use Rattle.graph_repair.specs.Hull.{AreListedOrWithin}
 
--- each point of the one rectangle lies in the other
+-- each point of the first rectangle lies in the second
 abbrev pub IsWider : Rect → Rect → Type 0
 IsWider hull wide = (p : Point) → HasWithin hull p → HasWithin wide p
 
@@ -30,7 +30,7 @@ covered_lists first last hull wide xs items ys others e f wider covered =
     subst (λ zs. AreListedOrWithin first last wide zs others) e
     (subst (λ zs. AreListedOrWithin first last wide xs zs) f (covered_in_wider first last xs ys hull wide wider covered))
 
--- from the one hull to the other the first items were covered
+-- from the first hull to the second the first items were covered
 pub record Covers {X : Type 0} (first last : X → Point) (hull wide : Rect) (items others : List X) : Type 0 where
   pub wider : IsWider hull wide
   pub covered : AreListedOrWithin first last wide items others

@@ -100,7 +100,7 @@ is_there ls l = elim (cases_Bool (is_listed ls l)) as (λ _. Contains ls l ⊎ (
 pub ordered_filter : (p : Line → Bool) (ls : List Line) → AreOrdered ls → AreOrdered (filter p ls)
 ordered_filter p ls ordered = AllPairs-filter (λ l m. stands_before l m ≡ true) p ls ordered
 
--- the new lines near what differs tell which old lines stay
+-- the new lines near the differences decide which old lines stay
 module _ (near : Rect) (a b : Floor) (gone : IsAloneWithin near a b) (come : IsAloneWithin near b a) (ls ms : List Line) (of_a : AreAllKept a ls) (of_b : AreKept b (λ l. is_near near l ≡ true) ms) where
   abbrev test : Line → Bool
   test = stays near ms
@@ -117,7 +117,7 @@ module _ (near : Rect) (a b : Floor) (gone : IsAloneWithin near a b) (come : IsA
   test_far : (l : Line) → is_near near l ≡ false → test l ≡ true
   test_far l e = ap (λ c. not c || is_listed ms l) e
 
-  -- a line of the one floor stays where it is one of the other
+  -- a line of the one floor stays if it is also one of the other
   other_of_stays : (l : Line) → IsKept a l → test l ≡ true → IsKept b l
   other_of_stays l k e = elim (cases_Bool (is_near near l)) as (λ _. IsKept b l) [
     | inl close ↦ listed_kept l (sym (test_near l close) ∙ e)
@@ -159,7 +159,7 @@ module _ (near : Rect) (a b : Floor) (gone : IsAloneWithin near a b) (come : IsA
     ordered = ordered_filter (goes near ms) ls of_a.ordered;
   }
 
-  -- a new line is near, since else it would be an old one
+  -- a new line is near, since otherwise it would be an old one
   near_of_new : (l : Line) → IsKept b l → (IsKept a l → ⊥) → is_near near l ≡ true
   near_of_new l k none = elim (cases_Bool (is_near near l)) as (λ _. is_near near l ≡ true) [
     | inl close ↦ close

@@ -188,7 +188,7 @@ between_one x xs (y ∷ ys) =
     let one : ◌≡◌ {A = ℕ} (cond (meets y x) 1 0) (cond (meets x y) 1 0) = ap (λ (b : Bool). cond {A = ℕ} b 1 0) (meets_back y x) in
     omega arith
 
--- the pairs of a list with further lines behind it
+-- the pairs of a list with further lines after it
 pub pairs_joined : (xs ys : List Line) → pairs_by meets (xs ++ ys) ≡ pairs_by meets xs + coming ys xs
 pairs_joined [] ys = let e = none_between ys in omega arith
 pairs_joined (x ∷ xs) ys =

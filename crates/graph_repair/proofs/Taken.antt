@@ -12,7 +12,7 @@ use Rattle.visibility_graph.proofs.Lines.{one_id, same_some}
 use Rattle.visibility_graph.proofs.Crossed.{only_one, the_one}
 use Rattle.graph_repair.proofs.Counted.{removed, left, less_one, some_len}
 
--- some crossings of the line have gone from the arena, and nothing else
+-- some crossings of the line were removed from the arena, and nothing else
 pub record IsEmptied (old now : Arena) (id : ℕ) : Type 0 where
   pub lines : now.lines ≡ old.lines
   pub spare_lines : now.spare_lines ≡ old.spare_lines

@@ -1,4 +1,4 @@
--- What a repair is seen as, when it leads where, and what it writes.
+-- The model of a repair, the floors between which it leads, and its number of writes.
 pub mod Change
 pub mod Listed
 pub mod Hull

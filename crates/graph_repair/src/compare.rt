@@ -1,4 +1,4 @@
-//! What two lists of lines have in common, and what each has alone.
+//! What two lists of lines have in common, and what is only in one of them.
 ghost use Rattle.std.specs.Prelude.{◌≡◌, ◌++◌, not, IfOk, OnOk, filter};
 ghost use Rattle.sweep_lines.specs.Kept.{AreOrdered};
 ghost use Rattle.graph_repair.specs.Listed.{goes, is_listed, lines_of, stays};
@@ -11,7 +11,8 @@ use sweep_lines::is_near;
 /// The lines of two lists, an old one and a new one.
 #[derive(Drop)]
 pub struct Difference {
-    // Those that stay, those of the old list alone, and those of the new list alone, each in the order of its list.
+    // The lines that stay, those of the old list alone, and those of the new list alone, each in
+    // the order of its list.
     pub stay: Vec<Line>,
     pub here: Vec<Line>,
     pub there: Vec<Line>,
@@ -21,8 +22,8 @@ impl Difference {
     ghost use Rattle.std.specs.Prelude.{[], ◌∷◌};
     ghost use Rattle.sweep_lines.specs.Kept.{is_near};
 
-    /// Appends an old line that is not in the new list, to those here where it is near the rectangle, and else to
-    /// those that stay.
+    /// Appends an old line that is not in the new list: to `here` where it is near the rectangle,
+    /// and otherwise to those that stay.
     fn part_line(&mut self, hull: &Rect, line: Line) -> Result<(), AllocError>
         ensures stay { OnOk result (self.new.stay.items ≡ self.old.stay.items ++ filter (λ l. not (is_near hull.now l)) (line ∷ [])) }
         ensures here { OnOk result (self.new.here.items ≡ self.old.here.items ++ filter (is_near hull.now) (line ∷ [])) }
@@ -36,7 +37,7 @@ impl Difference {
         Ok(())
     }
 
-    /// Appends the lines of the pairs so, of which none is in the new list.
+    /// Appends the lines of the pairs in the same way; none is in the new list.
     fn part_lines(&mut self, hull: &Rect, pairs: &[(Line, LineId)]) -> Result<(), AllocError>
         ensures stay { OnOk result (self.new.stay.items ≡ self.old.stay.items ++ filter (λ l. not (is_near hull.now l)) (lines_of pairs.now)) }
         ensures here { OnOk result (self.new.here.items ≡ self.old.here.items ++ filter (is_near hull.now) (lines_of pairs.now)) }
@@ -51,8 +52,9 @@ impl Difference {
 
 /// Compares the lines of two lists in one pass over both, since both are in order.
 ///
-/// The new list has the lines near the rectangle alone, so that old lines stay that are not near it. Lines that begin
-/// at one point and end at two are two. The only error is want of memory.
+/// The new list has only the lines near the rectangle, so old lines that are not near it stay.
+/// Lines that begin at the same point and end at different ones are different. The only error is
+/// out of memory.
 pub fn compare(
     alloc: Global,
     hull: &Rect,

@@ -1,4 +1,4 @@
-//! What changes from one floor to another, and the room for it.
+//! The changes from one floor to another, and the room for them.
 ghost use Rattle.std.specs.Prelude.{◌≡◌, ◌-◌, ◌≤◌, false, length, IfOk, OnOk};
 ghost use Rattle.plane_geom.specs.Floor.{IsFloor};
 ghost use Rattle.sweep_lines.specs.Kept.{AreOrdered};
@@ -14,10 +14,11 @@ use std::alloc::{AllocError, Global};
 use sweep_lines::lines_near;
 use visibility_graph::{Graph, crossings_of};
 
-/// Plans a repair of the graph to the new floor, and takes all memory that it and the way back will need.
+/// Plans a repair of the graph to the new floor, and takes all memory that the repair and the way
+/// back will need.
 ///
-/// The graph's floor, lines, crossings and `written` stay as they are, also where memory is wanting, which is the
-/// only error.
+/// The graph's floor, lines, crossings and `written` stay as they are, even when out of memory,
+/// which is the only error.
 pub fn plan(alloc: Global, graph: &mut Graph, new: &Floor) -> Result<Repair, AllocError>
     requires new_floor { IsFloor new.now }
     ensures floor { graph.new.floor ≡ graph.old.floor }
@@ -51,7 +52,7 @@ pub fn plan(alloc: Global, graph: &mut Graph, new: &Floor) -> Result<Repair, All
     })
 }
 
-/// Makes room for the lines and crossings that come, less those that go.
+/// Makes room for the lines and crossings that are added, less those that are removed.
 fn make_room(
     alloc: Global,
     graph: &mut Graph,

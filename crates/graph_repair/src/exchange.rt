@@ -1,4 +1,4 @@
-//! The repair, either way.
+//! Switches a graph between the two floors of a repair.
 ghost use Rattle.std.specs.Prelude.{◌≡◌, true, false, not, All, [], ◌∷◌};
 ghost use Rattle.line_arena.specs.Stands.{HasLine, IsComplete, StandsFor};
 ghost use Rattle.sweep_lines.specs.Kept.{AreOrdered};
@@ -14,8 +14,9 @@ use visibility_graph::{Graph, GraphParts, put_lines};
 
 /// Repairs the graph to the new floor. Takes no memory.
 ///
-/// The graph is the one that the repair was planned for, as `plan` or `revert` left it. `written` rises by the
-/// number of lines that the old floor has not and of crossings that have such a line, and stays once it is 2^64 - 1.
+/// The graph is the one for which the repair was planned, as `plan` or `revert` left it. `written`
+/// rises by the number of added lines (those not on the old floor) and of crossings on an added
+/// line, and stops at 2^64 - 1.
 pub fn apply(graph: &mut Graph, repair: &mut Repair)
     requires leads { LeadsFrom graph.old repair.old }
     requires planned { repair.old.applied ≡ false }
@@ -30,8 +31,9 @@ pub fn apply(graph: &mut Graph, repair: &mut Repair)
 
 /// Repairs the graph back to the old floor. Takes no memory.
 ///
-/// The graph is the one that the repair was planned for, as `apply` left it. `written` rises by the number of lines
-/// that the new floor has not and of crossings that have such a line, and stays once it is 2^64 - 1.
+/// The graph is the one for which the repair was planned, as `apply` left it. `written` rises by
+/// the number of added lines (those not on the new floor) and of crossings on an added line, and
+/// stops at 2^64 - 1.
 pub fn revert(graph: &mut Graph, repair: &mut Repair)
     requires leads { LeadsFrom graph.old repair.old }
     requires applied { repair.old.applied ≡ true }
@@ -44,7 +46,8 @@ pub fn revert(graph: &mut Graph, repair: &mut Repair)
     exchange(graph, repair);
 }
 
-/// Lets the graph stand for the repair's floor, and the repair lead back.
+/// Switches the graph to the repair's floor; the repair then leads back to the floor that the graph
+/// had.
 fn exchange(graph: &mut Graph, repair: &mut Repair)
     requires { LeadsFrom graph.old repair.old }
     ensures there { graph.new.floor ≡ repair.old.floor }
@@ -68,7 +71,7 @@ fn exchange(graph: &mut Graph, repair: &mut Repair)
     *graph = Graph::from_parts(parts);
 }
 
-/// Takes the graph out and leaves an empty one.
+/// Returns the parts of the graph and leaves an empty graph in its place.
 pub(crate) fn take(alloc: Global, graph: &mut Graph) -> GraphParts
     ensures floor { result.floor ≡ graph.old.floor }
     ensures arena { result.arena ≡ graph.old.arena }
@@ -77,7 +80,7 @@ pub(crate) fn take(alloc: Global, graph: &mut Graph) -> GraphParts
     mem::replace(graph, Graph::empty(alloc)).into_parts()
 }
 
-/// Takes the lines out with all their crossings.
+/// Removes the lines with all their crossings.
 fn take_lines(arena: &mut LineArena, lines: &[Line])
     requires there { All (HasLine arena.old) lines.now }
     requires ordered { AreOrdered lines.now }
@@ -89,7 +92,7 @@ fn take_lines(arena: &mut LineArena, lines: &[Line])
     }
 }
 
-/// Takes the line out with all its crossings.
+/// Removes the line with all its crossings.
 fn take_line(arena: &mut LineArena, line: Line)
     requires there { HasLine arena.old line }
     requires complete { IsComplete arena.old }

@@ -1,4 +1,4 @@
-//! Where two floors differ.
+//! A rectangle around the differences of two floors.
 ghost use Rattle.std.specs.Prelude.{◌≡◌, IsTrue, Contains};
 ghost use Rattle.plane_geom.specs.declared.point.Point.{Point};
 ghost use Rattle.plane_geom.specs.Rect.{HasWithin};
@@ -6,7 +6,7 @@ ghost use Rattle.graph_repair.specs.Hull.{AreListedOrWithin, IsAloneWithin};
 
 use plane_geom::{Floor, Point, Rect, Solid};
 
-/// A rectangle with nothing in it, from which a hull grows.
+/// The empty rectangle from which a hull grows.
 const NOWHERE: Rect = Rect {
     left: i64::MAX,
     top: i64::MAX,
@@ -14,12 +14,12 @@ const NOWHERE: Rect = Rect {
     bottom: i64::MIN,
 };
 
-/// What stands on a floor: a solid or an anchor.
+/// Something on a floor: a solid or an anchor.
 trait Placed {
     ghost use Rattle.std.specs.Prelude.{◌≡◌, ◌↔◌, IsTrue};
     ghost use Rattle.plane_geom.specs.declared.point.Point.{Point};
 
-    // Its corners, as definitions see them.
+    // The two corners, in definitions.
     ghost near_of: { Self → Point };
 
     ghost far_of: { Self → Point };
@@ -32,7 +32,7 @@ trait Placed {
     fn far_corner(&self) -> Point
         ensures { result ≡ far_of self.now };
 
-    /// Whether they are one.
+    /// Whether the two are equal.
     fn is_same(&self, other: &Self) -> bool
         ensures { IsTrue result ↔ (self.now ≡ other.now) };
 }
@@ -81,7 +81,8 @@ impl Placed for Point {
     }
 }
 
-/// A rectangle in which all lies that one of the floors has and the other has not. It is small where one node changes.
+/// A rectangle that contains everything that only one of the two floors has. It is small where one
+/// node changes.
 pub fn hull_of_difference(old: &Floor, new: &Floor) -> Rect
     ensures gone { IsAloneWithin result old.now new.now }
     ensures come { IsAloneWithin result new.now old.now }
@@ -94,7 +95,7 @@ pub fn hull_of_difference(old: &Floor, new: &Floor) -> Rect
     cover_missing(hull, other_anchors, anchors)
 }
 
-/// The hull with those of the items in it that do not stand among the others, as far as it is seen by their places.
+/// The hull, widened to contain the items that are not found among the others at a matching place.
 fn cover_missing<T: Placed>(hull: Rect, items: &[T], others: &[T]) -> Rect
     ensures wider { (p : Point) → HasWithin hull p → HasWithin result p }
     ensures covered { AreListedOrWithin T.near_of T.far_of result items.now others.now }
@@ -108,18 +109,20 @@ fn cover_missing<T: Placed>(hull: Rect, items: &[T], others: &[T]) -> Rect
     hull
 }
 
-/// Whether the item stands among the others as far from the front or from the back as in a list of this length.
+/// Whether the item is among the others, as far from the front or from the back as in a list of
+/// this length.
 ///
-/// In lists of which one is the other with one part changed, put in or left out, each item of the rest does.
+/// If one list is the other with one part changed, inserted or removed, this holds for each other
+/// item.
 fn stands_alike<T: Placed>(others: &[T], item: &T, place: usize, len: usize) -> bool
     ensures { IsTrue result → Contains others.now item.now }
 {
-    // Where the other list is too short for it, this comes round to a place past its end.
+    // Where the other list is too short for it, this wraps to a place past its end.
     let from_back = others.len().wrapping_sub(len).wrapping_add(place);
     stands_at(others, item, place) || stands_at(others, item, from_back)
 }
 
-/// Whether the item stands at the place.
+/// Whether the item is at the place.
 fn stands_at<T: Placed>(others: &[T], item: &T, place: usize) -> bool
     ensures { IsTrue result → Contains others.now item.now }
 {
@@ -129,7 +132,7 @@ fn stands_at<T: Placed>(others: &[T], item: &T, place: usize) -> bool
     }
 }
 
-/// The least rectangle that has the hull and the point in it.
+/// The least rectangle that contains the hull and the point.
 fn widened(hull: Rect, p: Point) -> Rect
     ensures has { HasWithin result p }
     ensures wider { (q : Point) → HasWithin hull q → HasWithin result q }

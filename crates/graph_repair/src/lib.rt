@@ -1,4 +1,5 @@
-//! Local repair of a visibility graph: only the lines and crossings that change are taken out and put in.
+//! Local repair of a visibility graph: only the lines and crossings that change are removed and
+//! added.
 #![tactic(auto)]
 
 mod compare;

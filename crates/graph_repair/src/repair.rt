@@ -1,21 +1,22 @@
-//! What a repair holds.
+//! The contents of a repair.
 use plane_geom::{Floor, Line};
 use std::alloc::Global;
 use std::marker::Model;
 
-/// Leads from the floor of a graph to another one, and back.
+/// Leads from one floor of a graph to another one, and back.
 ///
-/// Lines are named by what they are, so that no id grows stale, and crossings by their lines.
+/// Lines are named by their values, so that no id becomes invalid, and crossings by their lines.
 #[derive(Drop)]
 pub struct Repair {
     pub(crate) alloc: Global,
-    // The floor for which the graph does not stand.
+    // The floor that the graph does not represent.
     pub(crate) floor: Floor,
-    // The kept lines of both floors, those of the graph's floor alone, and those of the other floor alone.
+    // The kept lines of both floors, those of the graph's floor alone, and those of the other floor
+    // alone.
     pub(crate) stay: Vec<Line>,
     pub(crate) here: Vec<Line>,
     pub(crate) there: Vec<Line>,
-    // Whether the graph stands for the new floor.
+    // Whether the graph represents the new floor.
     pub(crate) applied: bool,
 }
 

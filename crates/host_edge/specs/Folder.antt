@@ -1,11 +1,11 @@
--- The files that a folder tells, and the note that each answer leaves.
+-- The files that a folder exposes, and the note that each result adds.
 use Rattle.std.specs.Prelude.{◌≡◌, ℕ, ◌<◌, ◌≤◌, Bool, true, false, List, [], ◌∷◌, ◌++◌, Option, option_map, find, bytes_eq, Result, Ok, Err, Vec, vec_len}
 use Rattle.host_edge.specs.declared.folder.FolderFault.{FolderFault}
 use Rattle.host_edge.specs.declared.folder.FolderFault.TheVariants.{Failed, TooLong, Memory}
 use Rattle.std.specs.declared.alloc.Global.{Global}
 use Rattle.host_edge.specs.Note.{Note}
 
--- the files that a folder tells, each as its name and its bytes
+-- the files that a folder exposes, each as its name and its bytes
 abbrev pub ToldFiles : Type 0
 ToldFiles = List (List ℕ × List ℕ)
 
@@ -13,12 +13,12 @@ ToldFiles = List (List ℕ × List ℕ)
 abbrev pub file_named : ToldFiles → List ℕ → Option (List ℕ)
 file_named files name = option_map (λ file. file.1) (find (λ file. bytes_eq file.0 name) files)
 
--- the notes gained one, of a read of this name under this limit
+-- one note was added, of a read of this name under this limit
 abbrev pub GainsNote : List Note → List Note → List ℕ → ℕ → ℕ → Bool → Type 0
 GainsNote old new name limit taken failed =
     new ≡ old ++ record { name = name; limit = limit; taken = taken; failed = failed } ∷ []
 
--- the notes record the read that gave this answer; since no two lines leave notes alike, a read answers `Failed` exactly where its note failed, and `TooLong` exactly where its note did not fail and took more than the limit
+-- the read with this result adds its note; the lines exclude one another, so `Failed` means a failed note, and `TooLong` one that took more than the limit
 abbrev pub RecordsRead : List Note → List Note → List ℕ → ℕ → Result (Vec ℕ Global) FolderFault → Type 0
 RecordsRead old new name limit (Ok bytes) = (vec_len bytes ≤ limit) × GainsNote old new name limit (vec_len bytes) false
 RecordsRead old new name limit (Err Failed) = (taken : ℕ) × GainsNote old new name limit taken true

@@ -1,4 +1,4 @@
--- A folder in memory, and the note that its next read leaves.
+-- A folder in memory, and the note of its next read.
 use Rattle.std.specs.Prelude.{ℕ, ◌+◌, min, ◌||◌, if◌then◌else◌, List, [], length, is_none, unwrap_or, string_bytes}
 use Rattle.host_edge.specs.declared.mem_folder.NamedFile.{NamedFile}
 use Rattle.host_edge.specs.Count.{is_listed}
@@ -11,11 +11,11 @@ pub record MemFolderState : Type 0 where
   pub fails : List ℕ
   pub notes : List Note
 
--- a file as a folder tells it
+-- a file as a folder exposes it
 abbrev pub told_file : NamedFile → List ℕ × List ℕ
 told_file file = (string_bytes file.name, file.bytes.items)
 
--- the note of the next read: it fails where the call is listed or the file is not there, and it takes a byte more than the limit where the file has one
+-- the note of the next read: it fails if the call is in the list or the file does not exist, and it takes one byte more than the limit if the file has more
 abbrev pub next_note : MemFolderState → List ℕ → ℕ → Note
 next_note folder name limit =
     let file = file_named folder.files name in

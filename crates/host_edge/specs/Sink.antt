@@ -1,4 +1,4 @@
--- What a failed write of many bytes leaves.
+-- The effect of a failed write of many bytes.
 use Rattle.std.specs.Prelude.{◌≡◌, ℕ, ◌<◌, List, length, take, Option}
 use Rattle.std.specs.Io.KnownBytes.{append_known}
 

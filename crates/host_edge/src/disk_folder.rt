@@ -1,4 +1,4 @@
-//! The real files.
+//! The files on disk.
 
 ghost use Rattle.std.specs.Prelude.{◌≡◌, ◌+◌, ◌<◌, ◌↔◌, [], ◌++◌, take, vec_len, None, IfOk, IfSome, IsTrue, OnOk};
 
@@ -11,7 +11,7 @@ use std::io::{ErrorKind, Read};
 use std::marker::Model;
 use std::rt::Files;
 
-/// The real files, of which the folder tells nothing.
+/// The files on disk, whose bytes are opaque to contracts.
 #[derive(Drop)]
 pub struct DiskFolder<'a, R: Files> {
     rt: &'a R,
@@ -19,7 +19,7 @@ pub struct DiskFolder<'a, R: Files> {
     alloc: Global,
 }
 
-// Contracts see the notes alone.
+// The model is the notes alone.
 impl<'a, R: Files> Model for DiskFolder<'a, R> {
     ghost use Rattle.std.specs.Prelude.{List};
     ghost use Rattle.host_edge.specs.Note.{Note};
@@ -30,7 +30,7 @@ impl<'a, R: Files> Model for DiskFolder<'a, R> {
 }
 
 impl<'a, R: Files> DiskFolder<'a, R> {
-    /// The files that `rt` reaches. The call takes no memory.
+    /// The files that `rt` reaches. Takes no memory.
     pub fn new(alloc: Global, rt: &'a R) -> DiskFolder<'a, R>
         ensures { result ≡ [] }
     {
@@ -42,7 +42,8 @@ impl<'a, R: Files> DiskFolder<'a, R> {
     }
 }
 
-/// Reads to the end, or to the first byte past the limit, and answers whether there is such a byte.
+/// Reads to the end, or to the first byte beyond the limit, and returns whether there is such a
+/// byte.
 fn read_past<R: Read + Drop>(reader: R, limit: u64, bytes: &mut Vec<u8>) -> io::Result<bool>
     ensures read { OnOk result (IfSome (R.remaining reader) (λ rest.
         bytes.new.items ≡ bytes.old.items ++ take (limit + 1) rest)) }

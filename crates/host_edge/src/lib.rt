@@ -1,9 +1,9 @@
 //! The outside of a program: files that are read by name, and output.
 //!
-//! Contracts speak of the outside through two traits. A `Folder` leaves a note of each read, and a
-//! `Sink` counts its faults; both tell what they hold only where they can. `MemFolder` and
-//! `MemSink` live in memory and tell all. `DiskFolder` and `StdSink` stand for real files and
-//! standard output, and tell nothing of them.
+//! Contracts describe the outside through two traits. A `Folder` adds a note of each read, and a
+//! `Sink` counts its faults; only some of them expose their bytes. `MemFolder` and `MemSink` are in
+//! memory and expose all of them. `DiskFolder` and `StdSink` stand for real files and standard
+//! output, and are opaque.
 #![tactic(auto)]
 
 mod disk_folder;

@@ -16,9 +16,9 @@ pub struct NamedFile {
     pub bytes: Vec<u8>,
 }
 
-/// A folder in memory, which tells its files.
+/// A folder in memory, which exposes its bytes.
 ///
-/// Its calls are counted from 1. A call that finds no memory leaves no note and is not counted, so
+/// Its calls are counted from 1. A call that runs out of memory adds no note and is not counted, so
 /// the next call has its number.
 #[derive(Debug, Drop)]
 pub struct MemFolder {
@@ -42,8 +42,8 @@ impl Model for MemFolder {
 }
 
 impl MemFolder {
-    /// A folder with these files, where the calls with the numbers in `fails` fail. The call takes
-    /// no memory.
+    /// A folder with these files, in which the calls with the numbers in `fails` fail. Takes no
+    /// memory.
     pub fn new(alloc: Global, files: Vec<NamedFile>, fails: Vec<u64>) -> MemFolder
         ensures files { result.files ≡ map told_file files.items }
         ensures fails { result.fails ≡ fails.items }
@@ -79,7 +79,7 @@ impl Folder for MemFolder {
         ensures longer { IsErrOf result (FolderFault.TooLong limit)
             → IsSomeAnd (file_named self.old.files name.now) (λ bytes. limit < length bytes) }
 
-        // A call fails where it is listed and where no file has the name, and nowhere else.
+        // A call fails exactly if its number is in the list or no file has the name.
         ensures fails_kept { self.new.fails ≡ self.old.fails }
         ensures note { result ≢ Err FolderFault.Memory
             → self.new.notes ≡ self.old.notes ++ next_note self.old name.now limit ∷ [] }

@@ -8,10 +8,10 @@ use crate::sink::{Sink, WriteFailed};
 use std::alloc::Global;
 use std::marker::Model;
 
-/// A sink in memory, which tells what it holds.
+/// A sink in memory, which exposes its bytes.
 ///
-/// Its calls are counted from 1, but for those with an empty piece. The count stays at 2^64 - 1
-/// once it is there.
+/// Its calls are counted from 1, except those with an empty piece. The count stays at 2^64 - 1 once
+/// it is reached.
 #[derive(Debug, Drop)]
 pub struct MemSink {
     held: Vec<u8>,
@@ -39,8 +39,8 @@ impl Model for MemSink {
 }
 
 impl MemSink {
-    /// A sink that takes at most `most` bytes a call, which is at least 1, and where the calls with
-    /// the numbers in `fails` fail. It holds nothing yet. The call takes no memory.
+    /// A sink that takes at most `most` bytes a call, at least 1, and in which the calls with the
+    /// numbers in `fails` fail. It holds nothing yet. Takes no memory.
     pub fn new(alloc: Global, most: usize, fails: Vec<u64>) -> MemSink
         requires { 1 ≤ most }
         ensures { result
@@ -55,7 +55,7 @@ impl MemSink {
         }
     }
 
-    /// The bytes held.
+    /// The bytes that were written.
     pub fn held(&self) -> &[u8]
         ensures { result.now ≡ self.now.held }
     {
@@ -69,19 +69,19 @@ impl Sink for MemSink {
     ghost faults = { λ s. s.faults };
 
     fn write(&mut self, bytes: &[u8]) -> Result<usize, WriteFailed>
-        // A call puts as many bytes as it may, or counts a fault.
+        // A call takes as many bytes as it may, or counts a fault.
         ensures took { IfOk result (λ n. (n ≡ min self.old.most (length bytes.now)) × (self.new
             ≡ record self.old { held = self.old.held ++ take n bytes.now; calls = self.new.calls })) }
         ensures fault { OnErr result (self.new
             ≡ record self.old { calls = self.new.calls; faults = next_count self.old.faults }) }
 
-        // A call with a piece that is not empty is counted, and fails where it is listed.
+        // A call with a piece that is not empty is counted, and fails if its number is in the list.
         ensures counted { self.new.calls
             ≡ (if length bytes.now == 0 then self.old.calls else next_count self.old.calls) }
         ensures listed { 0 < length bytes.now
             → IsTrue (is_listed self.old.fails self.new.calls) → IsErr result }
 
-        // What each sink promises, as far as the clauses above do not say it.
+        // The promises of every sink that the clauses above do not state.
         ensures progress { IfOk result (λ n. 0 < length bytes.now → 0 < n) }
         ensures empty { length bytes.now ≡ 0 → (result ≡ Ok 0) × (self.new ≡ self.old) }
         ensures never_falls { NeverFalls self.old.faults self.new.faults }

@@ -5,7 +5,7 @@ ghost use Rattle.std.specs.Prelude.{◌≡◌, ◌<◌, IfOk, OnOk, string_bytes
 use std::alloc::{AllocError, Global};
 use std::marker::Model;
 
-/// One read: what it was asked for, and what came of it.
+/// One read: the name and limit that were asked for, and its result.
 #[derive(Debug, Drop)]
 pub(crate) struct StoredNote {
     pub(crate) name: String,
@@ -28,7 +28,7 @@ impl Model for StoredNote {
     } };
 }
 
-/// Takes the memory for a note of a read of this name, and answers the note's copy of the name.
+/// Reserves the memory for a note of a read of this name, and returns the note's copy of the name.
 pub(crate) fn reserve_note(
     alloc: Global,
     notes: &mut Vec<StoredNote>,

@@ -6,17 +6,17 @@ ghost use Rattle.host_edge.specs.Count.{NeverFalls, next_count};
 use crate::sink::{Sink, WriteFailed};
 use std::marker::Model;
 
-/// Standard output, of which the sink tells nothing.
+/// Standard output, whose bytes are opaque to contracts.
 ///
-/// It counts a fault where standard output answers an error, and where nothing is taken of a piece
-/// that is not empty.
+/// It counts a fault if standard output returns an error, or if it takes no byte of a piece that is
+/// not empty.
 #[derive(Drop)]
 pub struct StdSink<'a, R: Print> {
     rt: &'a R,
     faults: u64,
 }
 
-// Contracts see the count of faults alone.
+// The model is the count of faults alone.
 impl<'a, R: Print> Model for StdSink<'a, R> {
     ghost use Rattle.std.specs.Prelude.{ℕ};
 
@@ -26,7 +26,7 @@ impl<'a, R: Print> Model for StdSink<'a, R> {
 }
 
 impl<'a, R: Print> StdSink<'a, R> {
-    /// The standard output of `rt`. The call takes no memory.
+    /// The standard output of `rt`. Takes no memory.
     pub fn new(rt: &'a R) -> StdSink<'a, R>
         ensures { result ≡ 0 }
     {
@@ -40,11 +40,11 @@ impl<'a, R: Print> Sink for StdSink<'a, R> {
     ghost faults = { λ s. s };
 
     fn write(&mut self, bytes: &[u8]) -> Result<usize, WriteFailed>
-        // A fault is counted exactly where a piece is refused.
+        // A fault is counted exactly if a piece is refused.
         ensures ok { OnOk result (self.new ≡ self.old) }
         ensures err { OnErr result (self.new ≡ next_count self.old) }
 
-        // What each sink promises, as far as the clauses above do not say it.
+        // The promises of every sink that the clauses above do not state.
         ensures within { IfOk result (λ n. n ≤ length bytes.now) }
         ensures progress { IfOk result (λ n. 0 < length bytes.now → 0 < n) }
         ensures empty { length bytes.now ≡ 0 → (result ≡ Ok 0) × (self.new ≡ self.old) }

@@ -1,4 +1,4 @@
--- The widest free interval round a coordinate, and the spans that touch an interval.
+-- The widest free interval around a coordinate, and the spans that touch an interval.
 use Rattle.std.proofs.Common.{◌≡◌, ◌⊎◌, inl, inr, ℤ, ◌≤ℤ◌, ◌<ℤ◌, Bool, true, false, cond, ◌||◌, ◌&&◌, List, [], ◌∷◌, refl, arith}
 use Rattle.std.specs.Prelude.{int_lt, filter}
 use Rattle.std.specs.Int.{int_max}
@@ -32,7 +32,7 @@ not_past a b = grind (arith, ints)
 further : (a b c : ℤ) → a ≤ℤ c → a ≤ℤ int_max b c
 further a b c h = grind (arith, ints)
 
--- each span ends by the one end or begins from the other on
+-- each span ends at `from` or before, or begins at `to` or after
 clear_by : (b : Bool) (s : Span) (l : List Span) (to from : ℤ) → IsSorted (s ∷ l) → AllByRecursion (λ t. (to ≤ℤ t.lo) ⊎ (t.hi ≤ℤ from)) l → AllByRecursion (λ t. (cond b to s.lo ≤ℤ t.lo) ⊎ (t.hi ≤ℤ cond b (int_max s.hi from) from)) (s ∷ l)
 clear_by true s l to from h a = (inr (not_past s.hi from), all_map (λ t. (to ≤ℤ t.lo) ⊎ (t.hi ≤ℤ from)) (λ t. (to ≤ℤ t.lo) ⊎ (t.hi ≤ℤ int_max s.hi from)) (λ t e. elim e [ inl later ↦ inl later | inr ended ↦ inr (further t.hi s.hi from ended) ]) l a)
 clear_by false s l to from h a = (inl (no_further s.lo), all_map (λ t. is_before s t ≡ true) (λ t. (s.lo ≤ℤ t.lo) ⊎ (t.hi ≤ℤ from)) (λ t e. inl (lo_of_before s t e)) l h.0)

@@ -1,4 +1,4 @@
--- Ends and beginnings in a sorted list, round one of its spans.
+-- Ends and beginnings in a sorted list, around one of its spans.
 use Rattle.std.proofs.Common.{◌≡◌, ℕ, ℤ, ◌≤ℤ◌, append_assoc, true, false, List, [], ◌∷◌, ◌++◌, refl, ap, sym, ◌∙◌, arith}
 use Rattle.std.specs.Int.{int_max}
 use Rattle.std.specs.Prelude.{int_lt}

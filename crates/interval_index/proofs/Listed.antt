@@ -36,7 +36,7 @@ pub absent_all : (k : ℕ) (l : List Span) → has_key k l ≡ false → AllByRe
 absent_all k [] h = tt
 absent_all k (t ∷ l) h = (or_false (t.key == k) (has_key k l) h, absent_all k l (or_false_later (t.key == k) (has_key k l) h))
 
--- what comes in
+-- what is added
 all_inserted_by : (P : Span → Type 0) (b : Bool) (s t : Span) (l m : List Span) → P s → P t → AllByRecursion P l → AllByRecursion P m → AllByRecursion P (cond b (s ∷ t ∷ l) (t ∷ m))
 all_inserted_by P true s t l m p q a c = (p, (q, a))
 all_inserted_by P false s t l m p q a c = (q, c)

@@ -1,4 +1,4 @@
--- What the index is seen as, and what its calls answer.
+-- The model of the index, and the results of its calls.
 use Rattle.std.specs.Prelude.{◌≡◌, ℕ, ◌^◌, ◌<◌, Bool, not, ◌&&◌, ◌==◌, ◌⊎◌, ℤ, ◌≤ℤ◌, ◌<ℤ◌, int_lt, false, List, [], ◌∷◌, filter, find, map}
 use Rattle.std.specs.List.{AllByRecursion, list_any}
 use Rattle.std.specs.Int.{int_max, int_min}
@@ -9,7 +9,7 @@ use Rattle.interval_index.specs.declared.span.Span.{Span}
 use Rattle.plane_geom.specs.Point.{IsCoordinate}
 use Rattle.interval_index.specs.Order.{IsSorted}
 
--- what may stand in the index: a span on the sheet that is not empty
+-- a span that may be in the index: on the sheet, and not empty
 pub record IsSpan (s : Span) : Type 0 where
   pub key : s.key < 2 ^ 32
   pub lo : IsCoordinate s.lo
@@ -44,7 +44,7 @@ without_key k = filter (λ s. not (s.key == k))
 abbrev pub inside_any : ℤ → List Span → Bool
 inside_any at = list_any (λ s. int_lt s.lo at && int_lt at s.hi)
 
--- a closed interval round the coordinate, on the sheet, that has no point inside a span
+-- a closed interval around the coordinate, on the sheet, that has no point inside a span
 pub record IsFree (ss : List Span) (at from to : ℤ) : Type 0 where
   pub from_within : IsCoordinate from
   pub to_within : IsCoordinate to
@@ -52,7 +52,7 @@ pub record IsFree (ss : List Span) (at from to : ℤ) : Type 0 where
   pub after : at ≤ℤ to
   pub clear : AllByRecursion (λ s. (to ≤ℤ s.lo) ⊎ (s.hi ≤ℤ from)) ss
 
--- such an interval, which holds all others
+-- such an interval that contains all others
 pub record IsWidestFree (ss : List Span) (at from to : ℤ) : Type 0 where
   pub free : IsFree ss at from to
   pub widest : (a b : ℤ) → IsFree ss at a b → (from ≤ℤ a) × (b ≤ℤ to)

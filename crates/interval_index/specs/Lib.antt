@@ -1,4 +1,4 @@
--- What the index holds and what its calls answer, beside the tree that it is.
+-- The contents of the index and the results of its calls, and the tree that it is.
 pub mod Order
 pub mod Ends
 pub mod Height

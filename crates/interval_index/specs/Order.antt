@@ -4,20 +4,20 @@ use Rattle.std.specs.List.{AllByRecursion}
 use Rattle.std.specs.Ordering.{int_eq}
 use Rattle.interval_index.specs.declared.span.Span.{Span}
 
--- whether one span stands before another: by lo, and then by key
+-- whether one span comes before another: by lo, and then by key
 abbrev pub is_before : Span → Span → Bool
 is_before s t = int_lt s.lo t.lo || (int_eq s.lo t.lo && nat_lt s.key t.key)
 
--- each span stands before all later ones
+-- each span comes before all later ones
 abbrev pub IsSorted : List Span → Type 0
 IsSorted [] = Unit {0}
 IsSorted (s ∷ ss) = AllByRecursion (λ t. is_before s t ≡ true) ss × IsSorted ss
 
--- the spans with s in its place
+-- the spans with s inserted at its place
 abbrev pub inserted : Span → List Span → List Span
 inserted s [] = s ∷ []
 inserted s (t ∷ ts) = cond (is_before s t) (s ∷ t ∷ ts) (t ∷ inserted s ts)
 
--- the spans that stand elsewhere than s
+-- the spans that are before or after s
 abbrev pub without : Span → List Span → List Span
 without s = filter (λ t. is_before s t || is_before t s)

@@ -12,11 +12,11 @@ use std::collections::BTreeMap;
 use std::marker::Model;
 use std::mem;
 
-/// Open intervals on one axis, each under a key of its own, in the order of `lo` and then `key`.
+/// Open intervals on one axis, each under its own key, in the order of `lo` and then `key`.
 ///
-/// They stand in an AVL tree that keeps the greatest end of each subtree
-/// (an interval tree: Cormen, Leiserson, Rivest and Stein, "Introduction to Algorithms", section 14.3).
-/// A second map leads from each key to its span, so that a key alone finds its place in the tree.
+/// They are kept in an AVL tree with the greatest end of each subtree (an interval tree: Cormen,
+/// Leiserson, Rivest and Stein, "Introduction to Algorithms", section 14.3). A second map leads
+/// from each key to its span, so that a key alone finds its place in the tree.
 #[derive(Drop)]
 pub struct IntervalIndex {
     tree: Tree,
@@ -38,7 +38,7 @@ impl Model for IntervalIndex {
 }
 
 impl IntervalIndex {
-    /// An index with no spans. Takes no memory.
+    /// An index without spans. Takes no memory.
     pub fn new(alloc: Global) -> IntervalIndex
         ensures { result ≡ [] }
     {
@@ -49,10 +49,10 @@ impl IntervalIndex {
         }
     }
 
-    /// Puts in a span under a new key, in logarithmic time. Coordinates are in thousandths.
+    /// Adds a span under a new key, in logarithmic time. Coordinates are in thousandths.
     ///
-    /// The span is not empty (`lo` is below `hi`), and both its ends lie on the sheet. Where memory is wanting, which
-    /// is the only error, the index stays as it was.
+    /// The span is not empty (`lo` is below `hi`), and both its ends lie on the sheet. When out of
+    /// memory, which is the only error, the index stays as it was.
     pub fn insert(&mut self, span: Span) -> Result<(), AllocError>
         requires new_key { has_key span.key self.old ≡ false }
         requires lo_within { IsCoordinate span.lo }
@@ -68,7 +68,8 @@ impl IntervalIndex {
         Ok(())
     }
 
-    /// Takes out the span under the key, in logarithmic time, and says whether there was one. Takes no memory.
+    /// Removes the span under the key, in logarithmic time, and returns whether there was one.
+    /// Takes no memory.
     ///
     /// The map from keys to spans gives the span's `lo`, and `lo` and key its place in the tree.
     pub fn remove(&mut self, key: u32) -> bool
@@ -83,8 +84,9 @@ impl IntervalIndex {
         true
     }
 
-    /// The ends of the widest closed interval round the coordinate, on the sheet, that has no point inside a span.
-    /// `None` where the coordinate, which lies on the sheet, is inside one. In thousandths. Takes logarithmic time, and no memory.
+    /// The ends of the widest closed interval around the coordinate, on the sheet, that has no
+    /// point inside a span. `None` where the coordinate, which lies on the sheet, is inside a span.
+    /// In thousandths. Takes logarithmic time and no memory.
     pub fn free_around(&self, at: i64) -> Option<(i64, i64)>
         requires within { IsCoordinate at }
         ensures inside { is_none result ≡ inside_any at self.now }
@@ -98,9 +100,9 @@ impl IntervalIndex {
         Some((from, self.tree.start_from(at, SHEET_END)))
     }
 
-    /// The keys of the spans that share a point with the open interval from `lo` to `hi`, in thousandths,
-    /// in the order of the index. Visits the nodes on one path down and those with such a span below them alone,
-    /// and takes memory for all keys of the index at once.
+    /// The keys of the spans that share a point with the open interval from `lo` to `hi`, in
+    /// thousandths, in the order of the index. Visits only the nodes on one path down and those
+    /// with such a span below them, and takes memory for all keys of the index at once.
     pub fn touching(&self, lo: i64, hi: i64) -> Result<Vec<u32>, AllocError>
         ensures touching { IfOk result (λ keys. keys.items ≡ keys_touching lo hi self.now) }
         ensures listed { IsListed self.now }

@@ -11,7 +11,7 @@ pub struct Span {
 }
 
 impl Span {
-    /// Whether the span stands before the other one: by `lo`, and then by `key`.
+    /// Whether the span comes before the other one: by `lo`, and then by `key`.
     pub(crate) fn is_before(&self, other: &Span) -> bool
         ensures { result ≡ is_before self.now other.now }
     {

@@ -1,5 +1,5 @@
 //! A balanced tree of spans that keeps the greatest end of each subtree.
-// An AVL tree of spans, seen as the spans in order and its height.
+// An AVL tree of spans; its model is the list of spans in order and its height.
 ghost use Rattle.std.specs.Prelude.{◌≡◌, ◌+◌, ◌^◌, ◌<◌, ◌≤◌, max, [], ◌∷◌, ◌++◌, length, OnOk, MatchOption};
 ghost use Rattle.interval_index.specs.Order.{IsSorted, inserted, is_before, without};
 ghost use Rattle.interval_index.specs.Ends.{greatest_end, keys_met, greatest_end_before, start_from};
@@ -18,7 +18,7 @@ pub struct Tree {
     root: Option<Box<Node>>,
 }
 
-// What a node keeps is only right once the node stands in a tree.
+// What a node keeps is correct only while the node is in a tree.
 #[cycle(tree)]
 #[derive(Drop)]
 pub struct Node {
@@ -50,7 +50,7 @@ impl Model for Tree {
 }
 
 impl Node {
-    /// A node that stands in no tree yet.
+    /// A node that is in no tree yet.
     pub fn new(span: Span) -> Node
         ensures { result.span ≡ span }
     {
@@ -64,7 +64,7 @@ impl Node {
     }
 }
 
-// The trees below the node, which has none then.
+// Takes both trees below the node out of it.
 fn take_sides(node: &mut Node) -> (Tree, Tree)
     ensures left { result.0 ≡ node.old.left }
     ensures right { result.1 ≡ node.old.right }
@@ -82,7 +82,7 @@ impl Tree {
         Tree { root: None }
     }
 
-    /// At most twice the binary logarithm of one more than the number of spans.
+    /// The height, at most twice the binary logarithm of the number of spans plus 1.
     pub fn height(&self) -> u64
         ensures height { result ≡ self.now.1 }
         ensures low { IsLow self.now.1 (length self.now.0) }
@@ -103,7 +103,7 @@ impl Tree {
         }
     }
 
-    /// Puts in the span of a new node.
+    /// Adds the span of a new node.
     pub fn insert(self, new: Box<Node>) -> Tree
         requires sorted { IsSorted self.0 }
         requires fits { length self.0 < 2 ^ 62 }
@@ -122,7 +122,7 @@ impl Tree {
         }
     }
 
-    /// Takes out the span that neither stands before this one nor after it.
+    /// Removes the span that is neither before nor after `span`.
     pub fn remove(self, span: &Span) -> Tree
         requires sorted { IsSorted self.0 }
         requires fits { length self.0 < 2 ^ 62 }
@@ -176,7 +176,8 @@ impl Tree {
         }
     }
 
-    /// Where the first span begins that begins at the coordinate or after it; `otherwise` if none does.
+    /// The begin of the first span that begins at the coordinate or after it; `otherwise` if there
+    /// is none.
     pub fn start_from(&self, at: i64, otherwise: i64) -> i64
         requires sorted { IsSorted self.now.0 }
         ensures { result ≡ start_from at otherwise self.now.0 }
@@ -225,7 +226,7 @@ fn push_meeting(span: &Span, lo: i64, hi: i64, keys: &mut Vec<u32>) -> Result<()
     Ok(())
 }
 
-// The node with these trees below it.
+// The node with these trees as its sides.
 fn fork(left: Tree, mut node: Box<Node>, right: Tree) -> Tree
     requires level { DifferByAtMost 1 left.1 right.1 }
     requires fits { length left.0 + length right.0 < 2 ^ 62 }
@@ -235,7 +236,7 @@ fn fork(left: Tree, mut node: Box<Node>, right: Tree) -> Tree
     Tree { root: Some(node) }
 }
 
-// Puts the trees below the node, and renews what it keeps.
+// Puts the trees below the node, and updates what it keeps.
 fn put_sides(node: &mut Node, left: Tree, right: Tree)
     requires level { DifferByAtMost 1 left.1 right.1 }
     requires fits { length left.0 + length right.0 < 2 ^ 62 }
@@ -253,7 +254,7 @@ fn put_sides(node: &mut Node, left: Tree, right: Tree)
     node.right = right;
 }
 
-// The same spans in order, where one side may be two levels higher than the other.
+// The same spans in order, balanced, where one side may be two levels higher than the other.
 fn balanced(left: Tree, node: Box<Node>, right: Tree) -> Tree
     requires nearly_level { DifferByAtMost 2 left.1 right.1 }
     requires fits { length left.0 + length right.0 < 2 ^ 62 }
@@ -272,7 +273,7 @@ fn balanced(left: Tree, node: Box<Node>, right: Tree) -> Tree
     }
 }
 
-// Raises what is below the left side, which is two levels higher.
+// Rotates up what is below the left side, which is two levels higher.
 fn raise_left(left: Tree, node: Box<Node>, right: Tree) -> Tree
     requires two_higher { left.1 ≡ right.1 + 2 }
     requires fits { length left.0 + length right.0 < 2 ^ 62 }
@@ -294,7 +295,7 @@ fn raise_left(left: Tree, node: Box<Node>, right: Tree) -> Tree
     fork(fork(outer, top, before), middle, fork(after, node, right))
 }
 
-// Raises what is below the right side, which is two levels higher.
+// Rotates up what is below the right side, which is two levels higher.
 fn raise_right(left: Tree, node: Box<Node>, right: Tree) -> Tree
     requires two_higher { right.1 ≡ left.1 + 2 }
     requires fits { length left.0 + length right.0 < 2 ^ 62 }
@@ -316,7 +317,7 @@ fn raise_right(left: Tree, node: Box<Node>, right: Tree) -> Tree
     fork(fork(left, node, before), middle, fork(after, top, outer))
 }
 
-// The spans of both, where the left ones stand before the right ones.
+// The spans of both, where the left ones come before the right ones.
 fn joined(left: Tree, right: Tree) -> Tree
     requires level { DifferByAtMost 1 left.1 right.1 }
     requires fits { length left.0 + length right.0 < 2 ^ 62 }

@@ -1,4 +1,4 @@
--- What an arena is seen as, and what its calls answer.
+-- The model of an arena, and the results of its calls.
 use Rattle.std.specs.Prelude.{◌≡◌, ℕ, ◌⊎◌, ◌≤ℤ◌, Some, refl, Bool, true, false, ℤ}
 use Rattle.std.specs.Coded.{Coded, code_by, coded×, coded_ℕ, coded_ℤ, coded_bool}
 use Rattle.std.specs.Ordering.{nat_cmp}
@@ -43,8 +43,8 @@ line_code =
     (λ p. record { way = way_by p.0; at = p.1.0; lo = p.1.1.0; hi = p.1.1.1 })
     (λ l. λ i. record l { way = way_again l.way i })
 
--- the lines and the crossings under their ids, how many more of each fit, what all numbers of crossings are below,
--- and how many lines and crossings were put in
+-- the lines and the crossings under their ids, the numbers of each that still fit, a number greater than those of all
+-- crossings, and the number of lines and crossings that were put in
 pub record Arena : Type 0 where
   pub lines : FinMap nat_cmp Line
   pub crossings : FinMap nat_cmp Pair
@@ -69,7 +69,7 @@ line_along South p = p.vertical
 line_along West p = p.horizontal
 line_along North p = p.vertical
 
--- the ids are of a vertical and of a horizontal line that have a point in common
+-- the ids are of a vertical and of a horizontal line that share a point
 pub record Meet (a : Arena) (vertical horizontal : ℕ) : Type 0 where
   pub down : Line
   pub across : Line
@@ -81,7 +81,7 @@ pub record Meet (a : Arena) (vertical horizontal : ℕ) : Type 0 where
   pub on_down : Holds down point
   pub on_across : Holds across point
 
--- the crossing stands at the point, which both its lines hold
+-- the crossing is at the point, which is on both its lines
 pub record StandsAt (a : Arena) (crossing : ℕ) (point : Point) : Type 0 where
   pub pair : Pair
   pub is : get a.crossings crossing ≡ Some pair
@@ -98,7 +98,7 @@ pub record IsOn (a : Arena) (line crossing : ℕ) : Type 0 where
   pub is : get a.crossings crossing ≡ Some pair
   pub on : (pair.vertical ≡ line) ⊎ (pair.horizontal ≡ line)
 
--- the second crossing is one of the line along which one travels from the first in the direction, and further on
+-- the second crossing is on the line along which one travels from the first in the direction, and further on
 pub record LiesFurther (a : Arena) (direction : Dir) (from to : ℕ) : Type 0 where
   pub here : Pair
   pub there : Pair
@@ -111,19 +111,19 @@ pub record LiesFurther (a : Arena) (direction : Dir) (from to : ℕ) : Type 0 wh
   pub stands_there : StandsAt a to stop
   pub further : IsFurther direction start stop
 
--- the second crossing is the nearest one further on, and any other lies further than it
+-- the second crossing is the nearest one further on; any other is further than it
 pub record IsNearest (a : Arena) (direction : Dir) (from to : ℕ) : Type 0 where
   pub lies : LiesFurther a direction from to
   pub others : (c : ℕ) → LiesFurther a direction from c → (c ≡ to) ⊎ LiesFurther a direction to c
 
--- the crossing is the one of the line with the smallest coordinate, and any other lies further in the rising direction
+-- the crossing is the one of the line with the smallest coordinate; any other is further in the rising direction
 pub record IsFirst (a : Arena) (id : ℕ) (crossing : ℕ) : Type 0 where
   pub on : IsOn a id crossing
   pub line : Line
   pub is : get a.lines id ≡ Some line
   pub others : (c : ℕ) → IsOn a id c → (c ≡ crossing) ⊎ LiesFurther a (rising line.way) crossing c
 
--- what holds of every arena
+-- the invariant of every arena
 pub record IsArena (a : Arena) : Type 0 where
   pub ordered : (l : ℕ) (line : Line) → get a.lines l ≡ Some line → line.lo ≤ℤ line.hi
   pub apart : (i j : ℕ) (l m : Line) (p : Point) → get a.lines i ≡ Some l → get a.lines j ≡ Some m →

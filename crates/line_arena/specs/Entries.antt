@@ -3,7 +3,7 @@ use Rattle.std.specs.Prelude.{ℕ, ◌≤◌, Option, refl}
 use Rattle.std.specs.Coded.{Coded, code_by, coded×, coded_ℕ}
 use Rattle.slab.specs.Slab.{Slab, get, slab_len, slab_code}
 
--- the entries under their ids, and how many fit in all
+-- the entries under their ids, and the number for which there is room
 pub record Entered (K V : Type 0) : Type 0 where
   pub slab : Slab (K × V)
   pub room : ℕ
@@ -21,7 +21,7 @@ entered_code {K} {V} key value =
 abbrev pub entry_at : {K V : Type 0} → Entered K V → ℕ → Option (K × V)
 entry_at a id = get a.slab id
 
--- no more entries are there than fit, and all that fit have places
+-- there are at most `room` entries, and places for all of them
 pub record HasRoom {T : Type 0} (slab : Slab T) (room : ℕ) : Type 0 where
   pub fits : slab_len slab ≤ room
   pub places : room ≤ slab.capacity

@@ -1,4 +1,4 @@
--- What an arena is seen as, beside the lists and maps that it is.
+-- The model of an arena, and the lists and maps that it consists of.
 pub mod Count
 pub mod Link
 pub mod Entries

@@ -1,11 +1,11 @@
--- What a line and a crossing know of the lists that they are in.
+-- What a line and a crossing know about the lists that they are in.
 use Rattle.std.specs.Prelude.{ℕ, Option}
 use Rattle.plane_geom.specs.declared.point.Dir.{Dir}
 use Rattle.plane_geom.specs.declared.point.Dir.TheVariants.{East, South, West, North}
 use Rattle.line_arena.specs.declared.node.Ends.{Ends}
 use Rattle.line_arena.specs.declared.node.Node.{Node}
 
--- where one begins who walks along the line in the direction
+-- the first crossing for one who walks along the line in the direction
 abbrev pub start_of : Dir → Ends → Option ℕ
 start_of East e = e.first
 start_of South e = e.first

@@ -9,15 +9,15 @@ use Rattle.plane_geom.specs.Order.{stands_before}
 use Rattle.line_arena.specs.declared.lists.Lists.{Lists}
 use Rattle.line_arena.specs.Lists.{AreLists, line_at}
 
--- the vertical line of the point alone
+-- the vertical line with this point alone
 abbrev pub at_point : Point → Line
 at_point p = record { way = Vertical; at = p.x; lo = p.y; hi = p.y }
 
--- each line stands before all later ones
+-- each line comes before all later ones
 abbrev pub AreInOrder : List (Line × ℕ) → Type 0
 AreInOrder = AllPairs (λ d e. stands_before d.0 e.0 ≡ true)
 
--- each of the lines stands before the line or after it
+-- each of the lines comes before the line or after it
 abbrev pub HasPlace : List (Line × ℕ) → Line → Type 0
 HasPlace lines line = (e : Line × ℕ) → Contains lines e → stands_before line e.0 ≡ false → stands_before e.0 line ≡ true
 
@@ -26,7 +26,7 @@ pub record AreApart (lines : List (Line × ℕ)) : Type 0 where
   pub ordered : (e : Line × ℕ) → Contains lines e → e.0.lo ≤ℤ e.0.hi
   pub apart : (d e : Line × ℕ) (p : Point) → Contains lines d → Contains lines e → AreOnOneWholeLine d.0 e.0 → Holds d.0 p → Holds e.0 p → d ≡ e
 
--- what an arena keeps: its lists, and all their lines in order; so many are held, and there is room for all that fit
+-- the invariant of an arena: its lists, and all their `held` lines in order, with a capacity of at least the room
 pub record IsOrderedArena (a : Lists) (lines : List (Line × ℕ)) (held capacity : ℕ) : Type 0 where
   pub lists : AreLists a
   pub ordered : AreInOrder lines

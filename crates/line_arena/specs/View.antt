@@ -1,4 +1,4 @@
--- How the fields of an arena are seen.
+-- The models of the fields of an arena.
 use Rattle.std.specs.Prelude.{ℕ, ◌-◌, map}
 use Rattle.std.specs.Ordering.{nat_cmp}
 use Rattle.std.specs.FinMap.{FinMap, from_entries}
@@ -9,14 +9,14 @@ use Rattle.line_arena.specs.declared.node.Node.{Node}
 use Rattle.line_arena.specs.Arena.{Arena, Pair}
 use Rattle.line_arena.specs.Entries.{Entered}
 
--- the slab as a map from its keys to what is seen of the values
+-- the slab as a map from its keys to the models of the values
 unfoldable pub seen : {T X : Type 0} → (T → X) → Slab T → FinMap nat_cmp X
 seen see slab = from_entries (map (λ e. (e.0, see e.1)) (entries slab))
 
 abbrev pub pair_of : Point × Node → Pair
 pair_of e = record { vertical = e.1.vertical; horizontal = e.1.horizontal }
 
--- how many more entries fit
+-- the number of entries for which there still is room
 abbrev pub spare_of : {K V : Type 0} → Entered K V → ℕ
 spare_of k = k.room - slab_len k.slab
 

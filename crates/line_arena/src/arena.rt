@@ -14,11 +14,11 @@ use plane_geom::{Dir, Line, Point};
 use std::alloc::{AllocError, Global};
 use std::marker::Model;
 
-/// Vertical and horizontal lines and their crossings, each under an id of its own.
+/// Vertical and horizontal lines and their crossings, each under its own id.
 ///
-/// A crossing is a node of two doubly linked lists at once, that of its vertical and that of its horizontal line,
-/// by rising coordinate. All lines also stand in order, so a line is found by what it is, and a crossing by where it
-/// stands.
+/// A crossing is a node of two doubly linked lists at once, that of its vertical and that of its
+/// horizontal line, by rising coordinate. All lines are also kept in order, so a line is found by
+/// its value, and a crossing by its point.
 #[derive(Drop)]
 pub struct LineArena {
     lists: Lists,
@@ -64,7 +64,7 @@ impl LineArena {
         }
     }
 
-    /// What holds of every arena, for proofs. Does nothing.
+    /// Gives proofs what holds for every arena. Does nothing.
     pub fn laws(&self)
         ensures arena { IsArena self.now }
         ensures written { self.now.written < 2 ^ 64 }
@@ -73,10 +73,11 @@ impl LineArena {
         let _written = self.written;
     }
 
-    /// Makes room for so many more lines and crossings, so that as many puts take no memory.
+    /// Makes room for `lines` more lines and `crossings` more crossings, so that this many puts
+    /// take no memory.
     ///
-    /// Lines and crossings stay as they are, and no room is lost, also where memory is wanting, which is the only
-    /// error. `places` may rise, where there was no room for so many crossings.
+    /// Lines and crossings stay as they are, and no room is lost, even when out of memory, which is
+    /// the only error. `places` may rise if there was not enough room for the crossings.
     pub fn reserve(&mut self, lines: usize, crossings: usize) -> Result<(), AllocError>
         ensures lines { self.new.lines ≡ self.old.lines }
         ensures crossings { self.new.crossings ≡ self.old.crossings }
@@ -93,10 +94,10 @@ impl LineArena {
         self.lists.crossings.reserve(crossings)
     }
 
-    /// Puts in a line that shares no point with a line of its way at its coordinate. Takes no memory.
+    /// Adds a line that shares no point with a line of its way at its coordinate. Takes no memory.
     ///
-    /// There is a spare place for a line, and `lo` is at most `hi`. `written` rises by one, and stays once it is
-    /// 2^64 - 1.
+    /// There is a spare place for a line, and `lo` is at most `hi`. `written` rises by one, and
+    /// stops at 2^64 - 1.
     pub fn put_line(&mut self, line: Line) -> LineId
         requires spare { 0 < self.old.spare_lines }
         requires ordered { line.lo ≤ℤ line.hi }
@@ -115,10 +116,11 @@ impl LineArena {
         id
     }
 
-    /// Puts in the crossing of a vertical and a horizontal line that meet. Takes no memory.
+    /// Adds the crossing of a vertical and a horizontal line that meet. Takes no memory.
     ///
-    /// There is a spare place for a crossing, and none of these two lines is there. Takes constant time where the crossing goes first or last on each of its lines.
-    /// `written` rises by one, and stays once it is 2^64 - 1.
+    /// There is a spare place for a crossing, and these two lines have none yet. Takes constant
+    /// time if the crossing goes first or last on each of its lines. `written` rises by one, and
+    /// stops at 2^64 - 1.
     pub fn put_crossing(&mut self, vertical: LineId, horizontal: LineId) -> CrossId
         requires spare { 0 < self.old.spare_crossings }
         requires meet { Meet self.old vertical horizontal }
@@ -135,7 +137,7 @@ impl LineArena {
         self.lists.put_crossing(vertical, horizontal)
     }
 
-    /// Takes out a crossing that is there. Takes no memory.
+    /// Removes a crossing that is there. Takes no memory.
     pub fn remove_crossing(&mut self, crossing: CrossId)
         requires live { IsSome (map.get self.old.crossings crossing) }
         ensures after { self.new ≡ record self.old {
@@ -146,7 +148,7 @@ impl LineArena {
         self.lists.remove_crossing(crossing);
     }
 
-    /// Takes out a line that is there and has no crossings. Takes no memory.
+    /// Removes a line that is there and has no crossings. Takes no memory.
     pub fn remove_line(&mut self, line: LineId)
         requires live { IsSome (map.get self.old.lines line) }
         requires no_crossings { (c : ℕ) → IsOn self.old line c → ⊥ }
@@ -168,7 +170,7 @@ impl LineArena {
         self.order.as_slice()
     }
 
-    /// The id of the line, in logarithmic time. `None` where the line is not there.
+    /// The id of the line, in logarithmic time. `None` if the line is not there.
     pub fn line_at(&self, line: Line) -> Option<LineId>
         ensures found { IfSome result (λ l. map.get self.now.lines l ≡ Some line) }
         ensures absent { IsNone result ↔ ((l : ℕ) → map.get self.now.lines l ≡ Some line → ⊥) }
@@ -178,12 +180,12 @@ impl LineArena {
         Some(id)
     }
 
-    /// The id of the line, and its place among all lines in the order of `Line::stands_before`. `None` where the
-    /// line is not there.
+    /// The id of the line, and its place among all lines in the order of `Line::stands_before`.
+    /// `None` if the line is not there.
     ///
-    /// Looks at the given place first, and finds the line in constant time there, in logarithmic time elsewhere.
-    /// Places change as lines come and go, and are for speed alone: which one is given changes nothing else, and no
-    /// clause says which one is answered.
+    /// Looks at the given place first, and finds the line there in constant time, elsewhere in
+    /// logarithmic time. Places change as lines are put in and removed, and are only for speed:
+    /// which one is given changes nothing else, and no clause says which one is returned.
     pub fn line_near(&self, line: Line, place: usize) -> Option<(LineId, usize)>
         ensures found { IfSome result (λ found. map.get self.now.lines found.0 ≡ Some line) }
         ensures absent { IsNone result ↔ ((l : ℕ) → map.get self.now.lines l ≡ Some line → ⊥) }
@@ -192,7 +194,8 @@ impl LineArena {
         find_near(self.order.as_slice(), &line, place)
     }
 
-    /// The crossing with the smallest coordinate on the line, which is there. `None` where it has no crossing.
+    /// The crossing with the smallest coordinate on the line, which is there. `None` if it has no
+    /// crossing.
     pub fn first_on_line(&self, line: LineId) -> Option<CrossId>
         requires live { IsSome (map.get self.now.lines line) }
         ensures first { IfSome result (λ c. IsFirst self.now line c) }
@@ -202,7 +205,7 @@ impl LineArena {
         self.lists.lines.get(line.place()).1.first.crossing()
     }
 
-    /// The crossing at the point. `None` where no crossing stands there.
+    /// The crossing at the point. `None` where there is no crossing.
     ///
     /// Finds the vertical line in logarithmic time, and walks along it from its nearer end.
     pub fn crossing_at(&self, at: Point) -> Option<CrossId>
@@ -214,7 +217,7 @@ impl LineArena {
         self.lists.crossing_on(line, at)
     }
 
-    /// The number in the id of a crossing that is there, below `places`.
+    /// The number in the id of a crossing that is there; it is less than `places`.
     pub fn index(&self, crossing: CrossId) -> usize
         requires live { IsSome (map.get self.now.crossings crossing) }
         ensures number { result ≡ crossing }
@@ -223,16 +226,18 @@ impl LineArena {
         self.lists.crossings.index(crossing.place())
     }
 
-    /// What the numbers of all crossings are below. Only `reserve` changes it, and it never falls.
+    /// A number that is greater than the number of each crossing. Only `reserve` changes it, and it
+    /// never falls.
     pub fn places(&self) -> usize
         ensures { result ≡ self.now.places }
     {
         self.lists.crossings.places()
     }
 
-    /// The nearest crossing further on in the direction, on the line along which it leads. Reads one link.
+    /// The nearest crossing further on in the direction, on the line along which the direction
+    /// leads. Reads one link.
     ///
-    /// The crossing is there. `None` where none lies further that way.
+    /// The crossing is there. `None` if there is none further on.
     pub fn next_on_line(&self, crossing: CrossId, dir: Dir) -> Option<CrossId>
         requires live { IsSome (map.get self.now.crossings crossing) }
         ensures nearest { IfSome result (λ c. IsNearest self.now dir crossing c) }
@@ -247,7 +252,7 @@ impl LineArena {
             .crossing()
     }
 
-    /// Where the crossing, which is there, stands. In thousandths.
+    /// The point of the crossing, which is there. In thousandths.
     pub fn point(&self, crossing: CrossId) -> Point
         requires live { IsSome (map.get self.now.crossings crossing) }
         ensures { StandsAt self.now crossing result }
@@ -255,7 +260,7 @@ impl LineArena {
         self.lists.crossings.get(crossing.place()).0
     }
 
-    /// How many lines and crossings were put in, and 2^64 - 1 where it would be more.
+    /// The number of lines and crossings put in so far, and 2^64 - 1 once it would be more.
     pub fn written(&self) -> u64
         ensures { result ≡ self.now.written }
     {

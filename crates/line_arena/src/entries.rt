@@ -8,11 +8,11 @@ use slab::Slab;
 use std::alloc::{AllocError, Global};
 use std::marker::Model;
 
-/// Entries under their ids: of each what stays as it is, and what may change.
+/// Entries under their ids, each with a key that stays and a value that may change.
 #[derive(Drop)]
 pub struct Entries<K: Copy, V: Copy> {
     slab: Slab<(K, V)>,
-    // How many fit in all: those for which room was asked.
+    // The number of entries for which room was made.
     room: usize,
 }
 
@@ -40,7 +40,7 @@ impl<K: Copy, V: Copy> Entries<K, V> {
         }
     }
 
-    /// Makes room for so many more entries.
+    /// Makes room for `more` more entries.
     pub fn reserve(&mut self, more: usize) -> Result<(), AllocError>
         ensures slots { self.new.slab.slots ≡ self.old.slab.slots }
         ensures capacity { self.old.slab.capacity ≤ self.new.slab.capacity }
@@ -52,13 +52,13 @@ impl<K: Copy, V: Copy> Entries<K, V> {
         ensures ok { OnOk result (slab_len self.old.slab + more ≤ self.new.room) }
     {
         make_places(&mut self.slab, more)?;
-        // The capacity fits a `usize`, and so does the sum, which is no more.
+        // The capacity fits a `usize`, and so does the sum, which is not greater.
         let _ = self.slab.capacity();
         self.room = self.room.max(self.slab.len() + more);
         Ok(())
     }
 
-    /// Puts in an entry, and takes no memory.
+    /// Adds an entry, and takes no memory.
     pub fn insert(&mut self, key: K, value: V) -> usize
         requires { slab_len self.old.slab < self.old.room }
         ensures new_id { entry_at self.old result ≡ None }
@@ -74,7 +74,7 @@ impl<K: Copy, V: Copy> Entries<K, V> {
         id
     }
 
-    /// Takes out an entry.
+    /// Removes an entry.
     pub fn remove(&mut self, id: usize)
         requires { entry_at self.old id ≢ None }
         ensures updates { Updates self.old.slab self.new.slab id None }
@@ -94,7 +94,7 @@ impl<K: Copy, V: Copy> Entries<K, V> {
         &self.slab[id]
     }
 
-    /// Changes what may change of the entry under an id.
+    /// Changes the value of the entry under an id.
     pub fn set(&mut self, id: usize, value: V)
         requires { entry_at self.old id ≢ None }
         ensures updates { (e : K × V) → entry_at self.old id ≡ Some e →
@@ -116,7 +116,7 @@ impl<K: Copy, V: Copy> Entries<K, V> {
         id
     }
 
-    /// Each id is below this.
+    /// A number that is greater than each id.
     pub fn places(&self) -> usize
         ensures { result ≡ self.now.slab.capacity }
     {

@@ -3,15 +3,16 @@ ghost use Rattle.std.specs.Prelude.{◌≡◌, ◌<◌, ℕ, None, Some};
 
 use std::marker::Model;
 
-/// Names a line of an arena, from its put to its removal.
+/// The id of a line of an arena, from its put to its removal.
 #[derive(Clone, Copy, Debug, PartialEq, Eq, PartialOrd, Ord, Hash)]
 pub struct LineId(usize);
 
-/// Names a crossing of an arena, from its put to its removal.
+/// The id of a crossing of an arena, from its put to its removal.
 #[derive(Clone, Copy, Debug, PartialEq, Eq, PartialOrd, Ord, Hash)]
 pub struct CrossId(usize);
 
-/// Leads to a crossing, or to none, in one word: one more than the number in the crossing's id, and 0 for none.
+/// A link to a crossing, or to none, in one machine word: the number in the crossing's id plus 1,
+/// and 0 for none.
 #[derive(Clone, Copy, Debug)]
 pub struct Link(usize);
 
@@ -82,21 +83,21 @@ impl CrossId {
 }
 
 impl Link {
-    /// Leads to no crossing.
+    /// A link to no crossing.
     pub(crate) fn none() -> Link
         ensures { result ≡ None }
     {
         Link(0)
     }
 
-    /// Leads to the crossing.
+    /// A link to the crossing.
     pub(crate) fn to(crossing: CrossId) -> Link
         ensures { result ≡ Some crossing }
     {
         Link(crossing.0 + 1)
     }
 
-    /// The crossing to which it leads.
+    /// The crossing of the link.
     pub(crate) fn crossing(self) -> Option<CrossId>
         ensures { result ≡ self }
     {

@@ -1,4 +1,5 @@
-//! The lines of a visibility graph and their crossings, in place: each crossing is a node of two linked lists at once.
+//! The lines of a visibility graph and their crossings: each crossing is a node of two linked
+//! lists at once.
 //!
 //! Coordinates are whole thousandths of a GML unit. East is +x and South is +y.
 #![tactic(auto)]

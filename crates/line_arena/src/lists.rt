@@ -20,7 +20,7 @@ pub struct Lists {
     pub crossings: Entries<Point, Node>,
 }
 
-/// Whether the second point lies further in the direction.
+/// Whether the point `to` is further in the direction than `from`.
 fn is_further(dir: Dir, from: Point, to: Point) -> bool
     ensures { IsTrue result ↔ IsFurther dir from to }
 {
@@ -32,14 +32,14 @@ fn is_further(dir: Dir, from: Point, to: Point) -> bool
     }
 }
 
-/// Whether the points are one.
+/// Whether the two points are equal.
 fn is_same(at: Point, point: Point) -> bool
     ensures { IsTrue result ↔ (at ≡ point) }
 {
     at == point
 }
 
-/// How far the points are from each other along the lines of the direction.
+/// The distance of the points along the lines of the direction.
 fn distance_along(dir: Dir, a: Point, b: Point) -> u64 {
     match dir {
         Dir::East | Dir::West => a.x.abs_diff(b.x),
@@ -50,7 +50,8 @@ fn distance_along(dir: Dir, a: Point, b: Point) -> u64 {
 impl Lists {
     ghost use Rattle.line_arena.specs.Lists.{AreLinked, AreLists, IsFirstFrom, IsNext, KnowsNeighbours, AreMet, IsApart, IsPut, IsShortOf, IsSpot, Relinks, RunsAlong, SameDirection, SameLinks, SamePlaces, Spot, Stands, UpdatesAt, line_along, line_at, link, spot_at, without};
 
-    /// The crossing that follows in the line's list in the direction; after none it is where the list begins.
+    /// The crossing after `from` in the line's list in the direction; after none it is the
+    /// beginning of the list.
     fn next(&self, line: LineId, from: Link, dir: Dir) -> Link
         requires line { entry_at self.now.lines line ≢ None }
         requires from { ForSome from (λ c. entry_at self.now.crossings c ≢ None) }
@@ -62,7 +63,7 @@ impl Lists {
         }
     }
 
-    /// Lets the crossing follow in the line's list in the direction.
+    /// Makes `to` the crossing after `from` in the line's list in the direction.
     fn set_next(&mut self, line: LineId, from: Link, dir: Dir, to: Link)
         requires runs { RunsAlong self.old line dir }
         requires from { ForSome from (λ c. entry_at self.old.crossings c ≢ None) }
@@ -81,7 +82,7 @@ impl Lists {
         }
     }
 
-    /// Whether the point lies beyond the crossing in the direction. Where there is no crossing, it does.
+    /// Whether the point is beyond the crossing in the direction; true where there is no crossing.
     fn is_beyond(&self, crossing: Link, dir: Dir, point: Point) -> bool
         requires { ForSome crossing (λ c. entry_at self.now.crossings c ≢ None) }
         ensures { IsTrue result → ForSome crossing (λ c. (s : Spot) → spot_at self.now c ≡ Some s → IsFurther dir s.point point) }
@@ -92,9 +93,9 @@ impl Lists {
         }
     }
 
-    /// The first crossing of the line in the direction that the point does not lie beyond.
+    /// The first crossing of the line in the direction that is not before the point.
     ///
-    /// Walks on from a crossing of the line that stands before the point, or from where the list begins.
+    /// Walks on from a crossing of the line before the point, or from the beginning of the list.
     fn first_from(&self, line: LineId, from: Link, dir: Dir, point: Point) -> Link
         requires lists { AreLists self.now }
         requires runs { RunsAlong self.now line dir }
@@ -112,7 +113,8 @@ impl Lists {
         Link::none()
     }
 
-    /// Whether the line's list in the direction begins nearer to the point than it ends.
+    /// Whether the beginning of the line's list in the direction is nearer to the point than its
+    /// end.
     fn starts_nearer(&self, line: LineId, dir: Dir, point: Point) -> bool
         requires lists { AreLists self.now }
         requires runs { RunsAlong self.now line dir }
@@ -127,7 +129,8 @@ impl Lists {
         distance_along(dir, *start, point) < distance_along(dir, *stop, point)
     }
 
-    /// The direction, or the one against it, in which the line's list begins nearer to the point than it ends.
+    /// The direction along the line, the given one or its opposite, in which the beginning of the
+    /// list is nearer to the point.
     fn nearer_start(&self, line: LineId, dir: Dir, point: Point) -> Dir
         requires lists { AreLists self.now }
         requires runs { RunsAlong self.now line dir }
@@ -140,16 +143,18 @@ impl Lists {
         }
     }
 
-    /// A crossing of the line that stands before the point in the direction, and mostly near to it, if one is found.
+    /// A crossing of the line before the point in the direction, and mostly near to it, if one is
+    /// found.
     ///
-    /// For speed alone, so no clause says which: from a crossing beside the point, on the other line, it lies a step back
-    /// and then a step towards the line, where the steps lead there.
+    /// Only for speed, so no clause says which: from a crossing beside the point, on the other
+    /// line, it is a step back and then a step towards the line, if the steps lead there.
     fn near(&self, line: LineId, dir: Dir, point: Point, beside: Link) -> Link
         requires beside { ForSome beside (λ c. entry_at self.now.crossings c ≢ None) }
         requires lists { AreLists self.now }
         ensures { ForSome result (λ c. IsShortOf (spot_at self.now) line dir point c) }
     {
-        // The one beside an eastward line stands north of it, and the one beside a southward line west of it.
+        // On an eastward line, the crossing beside the point is north of it; on a southward line,
+        // it is west of it.
         let towards = match dir {
             Dir::East | Dir::West => Dir::South,
             Dir::South | Dir::North => Dir::East,
@@ -163,7 +168,7 @@ impl Lists {
         }
     }
 
-    /// The crossing that follows in the direction. None follows none.
+    /// The crossing after `from` in the direction. After none there is none.
     fn step(&self, from: Link, dir: Dir) -> Link
         requires lists { AreLists self.now }
         requires from { ForSome from (λ c. entry_at self.now.crossings c ≢ None) }
@@ -175,7 +180,7 @@ impl Lists {
         }
     }
 
-    /// Whether this is a crossing of the line, and stands before the point in the direction.
+    /// Whether this is a crossing of the line that comes before the point in the direction.
     fn is_before(&self, crossing: Link, line: LineId, dir: Dir, point: Point) -> bool
         requires { ForSome crossing (λ c. entry_at self.now.crossings c ≢ None) }
         ensures { IsTrue result → ForSome crossing (λ c. IsShortOf (spot_at self.now) line dir point c) }
@@ -187,10 +192,12 @@ impl Lists {
         node.line(dir) == line && is_further(dir, *at, point)
     }
 
-    /// The crossings of the line between which the point stands: the nearest one back, and the nearest one on in the direction.
+    /// The two crossings of the line around the point: the nearest one back, and the nearest one on
+    /// in the direction.
     ///
-    /// Where the point does not lie beyond all of them, the walk to its place begins near to it, if the crossing beside
-    /// it on the other line leads there, and at the nearer end of the line otherwise.
+    /// If the point is not beyond all of them, the walk to its place begins near to it, if the
+    /// crossing beside it on the other line leads there, and otherwise at the nearer end of the
+    /// line.
     fn neighbours(&self, line: LineId, dir: Dir, point: Point, beside: Link) -> (Link, Link)
         requires lists { AreLists self.now }
         requires runs { RunsAlong self.now line dir }
@@ -217,7 +224,7 @@ impl Lists {
 
     /// The crossing of the vertical line at the point.
     ///
-    /// The walk begins at the end of the line that is nearer.
+    /// The walk begins at the nearer end of the line.
     pub fn crossing_on(&self, line: LineId, point: Point) -> Option<CrossId>
         requires lists { AreLists self.now }
         requires runs { RunsAlong self.now line South }
@@ -234,7 +241,8 @@ impl Lists {
         }
     }
 
-    /// Puts the crossing, which knows its neighbours, into the list of its line in the direction, behind the one before.
+    /// Puts the crossing, which knows its neighbours, into the list of its line in the direction,
+    /// after `before`.
     fn link_in(&mut self, crossing: CrossId, dir: Dir, line: LineId, before: Link)
         requires knows { KnowsNeighbours self.old crossing }
         requires others { AreLinked self.old (without crossing (spot_at self.old)) dir }
@@ -248,7 +256,7 @@ impl Lists {
         self.set_next(line, before, dir, Link::to(crossing));
     }
 
-    /// Takes the crossing out of the list of its line in the direction, and joins its neighbours.
+    /// Removes the crossing from the list of its line in the direction, and joins its neighbours.
     fn unlink_in(&mut self, crossing: CrossId, dir: Dir)
         requires knows { KnowsNeighbours self.old crossing }
         requires linked { AreLinked self.old (spot_at self.old) dir }
@@ -276,7 +284,7 @@ impl Lists {
         self.link_in(crossing, Dir::North, node.vertical, node.south);
     }
 
-    /// Takes the crossing out of the lists of its lines.
+    /// Removes the crossing from the lists of its lines.
     fn unlink_all(&mut self, crossing: CrossId)
         requires knows { KnowsNeighbours self.old crossing }
         requires linked { (d : Dir) → AreLinked self.old (spot_at self.old) d }
@@ -289,7 +297,7 @@ impl Lists {
         self.unlink_in(crossing, Dir::North);
     }
 
-    /// Puts in a line without crossings.
+    /// Adds a line without crossings.
     pub fn put_line(&mut self, line: Line) -> LineId
         requires lists { AreLists self.old }
         requires room { slab_len self.old.lines.slab < self.old.lines.room }
@@ -309,7 +317,7 @@ impl Lists {
         LineId::new(self.lines.insert(line, ends))
     }
 
-    /// Takes out a line without crossings.
+    /// Removes a line without crossings.
     pub fn remove_line(&mut self, line: LineId)
         requires lists { AreLists self.old }
         requires live { line_at self.old line ≢ None }
@@ -324,7 +332,7 @@ impl Lists {
         self.lines.remove(line.place());
     }
 
-    /// Where the lines meet.
+    /// The point where the lines meet.
     fn meeting_point(&self, vertical: LineId, horizontal: LineId) -> Point
         requires meet { AreMet (line_at self.now) vertical horizontal }
         ensures { IsSpot (line_at self.now) (record { point = result; vertical = vertical; horizontal = horizontal }) }
@@ -335,10 +343,12 @@ impl Lists {
         }
     }
 
-    /// What a new crossing of the lines, which meet at the point, knows: its lines, and its neighbours on both.
+    /// The node of a new crossing of the lines, which meet at the point: its lines, and its
+    /// neighbours on both.
     ///
-    /// Where it does not go last on both, the walk along the vertical line may begin beside the horizontal one's last
-    /// crossing, and that along the horizontal one beside the crossing just found to the north.
+    /// If it does not go last on both, the walk along the vertical line may begin beside the
+    /// horizontal one's last crossing, and that along the horizontal one beside the crossing just
+    /// found to the north.
     fn node_at(&self, vertical: LineId, horizontal: LineId, point: Point) -> Node
         requires lists { AreLists self.now }
         requires spot { IsSpot (line_at self.now) (record { point = point; vertical = vertical; horizontal = horizontal }) }
@@ -350,7 +360,8 @@ impl Lists {
         let north = self.next(vertical, Link::none(), Dir::North);
         let west = self.next(horizontal, Link::none(), Dir::West);
         if self.is_beyond(north, Dir::South, point) && self.is_beyond(west, Dir::East, point) {
-            // What goes last on both its lines, as all does while a graph is built, reads no more of them.
+            // A crossing that goes last on both lines, as each does while a graph is built, reads
+            // nothing more of them.
             return Node {
                 vertical,
                 horizontal,
@@ -372,7 +383,7 @@ impl Lists {
         }
     }
 
-    /// Puts in the crossing of the lines.
+    /// Adds the crossing of the lines.
     pub fn put_crossing(&mut self, vertical: LineId, horizontal: LineId) -> CrossId
         requires lists { AreLists self.old }
         requires room { slab_len self.old.crossings.slab < self.old.crossings.room }
@@ -395,7 +406,7 @@ impl Lists {
         crossing
     }
 
-    /// Takes out a crossing, and joins its neighbours.
+    /// Removes a crossing, and joins its neighbours.
     pub fn remove_crossing(&mut self, crossing: CrossId)
         requires lists { AreLists self.old }
         requires live { spot_at self.old crossing ≢ None }

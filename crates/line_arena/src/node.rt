@@ -1,4 +1,4 @@
-//! What a line and a crossing know of the lists that they are in.
+//! What a line and a crossing know about the lists that they are in.
 ghost use Rattle.std.specs.Prelude.{◌≡◌};
 ghost use Rattle.line_arena.specs.Node.{line_of, next_of, start_of, with_next, with_start};
 
@@ -12,7 +12,7 @@ pub struct Ends {
     pub last: Link,
 }
 
-/// A crossing in the lists of its two lines: its nearest neighbours to all four sides.
+/// A crossing in the lists of its two lines: its nearest neighbours on all four sides.
 #[derive(Clone, Copy, Debug)]
 pub struct Node {
     pub vertical: LineId,
@@ -24,7 +24,7 @@ pub struct Node {
 }
 
 impl Ends {
-    /// Where one begins who walks along the line in the direction.
+    /// The first crossing for one who walks along the line in the direction.
     pub fn start(&self, dir: Dir) -> Link
         ensures { result ≡ start_of dir self.now }
     {
@@ -34,7 +34,7 @@ impl Ends {
         }
     }
 
-    /// The same ends with another such begin.
+    /// The same ends with another first crossing in the direction.
     pub fn with_start(mut self, dir: Dir, to: Link) -> Ends
         ensures { result ≡ with_start dir to self }
     {

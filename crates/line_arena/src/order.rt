@@ -10,7 +10,7 @@ ghost use Rattle.plane_geom.specs.Order.{stands_before};
 use crate::id::LineId;
 use plane_geom::{Line, Point, Way};
 
-/// How many of the lines the line does not stand before.
+/// The number of lines that are before the line or equal to it.
 fn count_upto(lines: &[(Line, LineId)], line: &Line) -> usize
     requires { AreInOrder lines.now }
     ensures bound { result ≤ length lines.now }
@@ -19,7 +19,7 @@ fn count_upto(lines: &[(Line, LineId)], line: &Line) -> usize
     lines.partition_point(|(other, _)| !line.stands_before(other))
 }
 
-/// Puts a line in at its place, and takes no memory.
+/// Inserts a line at its place, and takes no memory.
 pub fn put_in_order(lines: &mut Vec<(Line, LineId)>, line: Line, id: LineId)
     requires ordered { AreInOrder lines.old.items }
     requires place { HasPlace lines.old.items line }
@@ -33,7 +33,7 @@ pub fn put_in_order(lines: &mut Vec<(Line, LineId)>, line: Line, id: LineId)
     let _ = lines.insert(place, (line, id));
 }
 
-/// Takes a line out that is there.
+/// Removes a line that is there.
 pub fn take_out(lines: &mut Vec<(Line, LineId)>, line: &Line)
     requires ordered { AreInOrder lines.old.items }
     requires there { (id : ℕ) × Contains lines.old.items (line.now, id) }
@@ -59,7 +59,7 @@ pub fn find(lines: &[(Line, LineId)], line: &Line) -> Option<(LineId, usize)>
     at_place(lines, line, place - 1)
 }
 
-/// The id of the line and its place, in constant time where it stands near: at the given place.
+/// The id of the line and its place, in constant time if the line is at the place `near`.
 pub fn find_near(lines: &[(Line, LineId)], line: &Line, near: usize) -> Option<(LineId, usize)>
     requires { AreInOrder lines.now }
     ensures found { IfSome result (λ found. Contains lines.now (line.now, found.0)) }
@@ -71,7 +71,7 @@ pub fn find_near(lines: &[(Line, LineId)], line: &Line, near: usize) -> Option<(
     }
 }
 
-/// The id of the line and the place, if the line stands there.
+/// The id of the line and the place, if the line is there.
 fn at_place(lines: &[(Line, LineId)], line: &Line, place: usize) -> Option<(LineId, usize)>
     ensures found { IfSome result (λ found. Contains lines.now (line.now, found.0)) }
     ensures absent { IsNone result → (id : ℕ) (there : Contains lines.now (line.now, id)) → there.0 ≢ place }
@@ -104,7 +104,7 @@ pub fn column_through(lines: &[(Line, LineId)], point: Point) -> Option<LineId>
     }
 }
 
-/// The vertical line of the point alone.
+/// The vertical line that has this point alone.
 fn column_at(point: Point) -> Line
     ensures { result ≡ at_point point }
 {

@@ -5,7 +5,8 @@ ghost use Rattle.slab.specs.Slab.{HasRoomFor, slab_len};
 use slab::Slab;
 use std::alloc::AllocError;
 
-/// Makes room for so many more: where there is none, just that, and an eighth of what is there besides.
+/// Makes room for `more` more entries; if there is not enough, also for an eighth of the present
+/// number.
 pub fn make_places<T>(slab: &mut Slab<T>, more: usize) -> Result<(), AllocError>
     ensures within { slab_len slab.old ≤ slab.old.capacity }
     ensures room { OnOk result (HasRoomFor slab.new more) }

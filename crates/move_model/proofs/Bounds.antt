@@ -42,7 +42,7 @@ turn_back North South = refl
 turn_back North West = refl
 turn_back North North = refl
 
--- how far the one number lies above the other
+-- how far the first number is above the second
 gap_is : (a b : ℤ) → ((a ≤ℤ b) × (pos (int_gap a b) ≡ b -ℤ a)) ⊎ ((b ≤ℤ a) × (int_gap a b ≡ 0))
 gap_is (pos a) (pos b) = by_lt_z (pos a) (pos b) (λ l. inl (omega (arith, ints, l), omega (arith, ints, l))) (λ l. inr (l, omega (arith, ints, l)))
 gap_is (pos a) (negsuc b) = inr (omega (arith, ints), refl)
@@ -52,7 +52,7 @@ gap_is (negsuc a) (negsuc b) = by_lt_z (negsuc a) (negsuc b) (λ l. inl (omega (
 gap_none : (a b : ℤ) → b ≤ℤ a → int_gap a b ≡ 0
 gap_none a b h = elim (gap_is a b) as (λ _. int_gap a b ≡ 0) [ inl up ↦ omega (arith, ints, h, up.0, up.1) | inr down ↦ down.1 ]
 
--- a number that rises is as much further above others, and no further below
+-- a number that rises is above others by that much more, and no further below
 gap_up : (z p q : ℤ) → p ≤ℤ q → int_gap z q ≤ int_gap z p + unsigned_abs (p -ℤ q)
 gap_up z p q h = elim (gap_is z q) as (λ _. int_gap z q ≤ int_gap z p + unsigned_abs (p -ℤ q)) [
   | inl up ↦ elim (gap_is z p) as (λ _. int_gap z q ≤ int_gap z p + unsigned_abs (p -ℤ q)) [
@@ -139,7 +139,7 @@ within_bends d r p h = (
   bends_on d r p d refl ∙ ap (λ k. if k == 0 then 0 else 2) (within_beside (way_of d) r p h),
 )
 
--- steps on from a point cost no bend but the one before them
+-- steps on from a point cost no bend except the one before them
 pub bends_grow : (from : Dir) (r : Rect) (p : Point) (h d : Dir) (n : ℕ) → fewest_bends from r (forward d n p) d ≤ fewest_bends from r p h + turn h d
 bends_grow from r p h d n =
     let q = forward d n p in

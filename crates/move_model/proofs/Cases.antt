@@ -62,7 +62,7 @@ east_choice = record { node = pos 1; pin = at (pos 0) (pos 3); dir = East; port 
 from_pin : with_start east_choice behind ≡ record { cost = 19; runs = 4; lean = negsuc 1 }
 from_pin = refl
 
--- two checkpoints at one point are behind a walk that comes there, and the third is not
+-- a walk at that point has passed two checkpoints there, and not the third
 abbrev via : List Point
 via = at (pos 4) (pos 0) ∷ at (pos 4) (pos 0) ∷ at (pos 9) (pos 0) ∷ []
 
@@ -77,7 +77,7 @@ two_at_once = record { from = omega arith; within = omega arith; passed = passed
     other : Some (at (pos 9) (pos 0)) ≢ Some (at (pos 4) (pos 0))
     other e = let same : pos 9 ≡ pos 4 = ap (λ o. (unwrap_or o (at (pos 0) (pos 0))).x) e in omega (arith, ints, same)
 
--- a walk that comes to the third without the others has none behind it
+-- a walk that reaches the third without the others has passed none
 none_out_of_order : ComesTo via 0 (at (pos 9) (pos 0)) 0
 none_out_of_order = record { from = omega arith; within = omega arith; passed = λ i low high. absurd (omega (arith, low, high)); no_more = λ e. other e }
   where
@@ -111,7 +111,7 @@ two_stubs = refl
 no_move : (a : Arena) (c : ℕ) → StandsAt a c (at (pos 2) (pos 3)) → IsWay [] a [] (record { crossing = c; stage = 0; heading = East }) [] north_choice
 no_move a c h = record { free = λ k s inside other. absurd (omega (arith, inside)); here = h; stage = refl }
 
--- a leg has its steps in the heading in which it comes to its place
+-- a leg has its steps in the heading with which it reaches its place
 one_leg : steps_of_way (record { steps = 2; to = record { crossing = 5; stage = 0; heading = North } } ∷ []) north_choice ≡ North ∷ North ∷ South ∷ South ∷ South ∷ []
 one_leg = refl
 
@@ -134,6 +134,6 @@ back_to_them = refl
 across_them : fewest_bends East ports (at (pos 5) (pos 1)) South ≡ 1
 across_them = refl
 
--- a walk behind one turn: its pin and the turn are its corners, and it stands two steps further on
+-- a walk after one turn: its pin and the turn are its corners, and it is two steps further on
 one_turn : IsDrawn (at (pos 0) (pos 0) ∷ at (pos 3) (pos 0) ∷ []) (at (pos 3) (pos 2)) South (record { start = at (pos 0) (pos 0); steps = East ∷ East ∷ East ∷ South ∷ South ∷ [] })
 one_turn = record { corners = at (pos 3) (pos 0) ∷ []; all = refl; straight = (inr refl, tt); steps = 2; some = omega arith; here = refl; walk = refl; count = refl }

@@ -1,4 +1,4 @@
--- Corners, and the point where a walk stands behind them.
+-- Corners, and the point that a walk has reached after them.
 use Rattle.std.proofs.Common.{◌≡◌, ◌≢◌, ℕ, suc, zero, ◌+◌, ◌<◌, Some, List, [], ◌∷◌, ◌++◌, length, replicate, refl, sym, ap, subst, ◌∙◌, arith, append_assoc, append-nil, length-append}
 use Rattle.std.proofs.lemmas.List.{replicate-append-replicate}
 use Rattle.plane_geom.specs.declared.point.Point.{Point}
@@ -45,7 +45,7 @@ last_stretch d [] k h = last_equal k h
     last_equal (suc k) h = last_equal k h
 last_stretch d (e ∷ xs) k h = last_stretch e xs k h
 
--- what runs come behind a stretch, whatever stands before it
+-- the runs that follow a stretch, whatever comes before it
 runs_behind : (xs : List Dir) (k : ℕ) (h : Dir) (ds : List Dir) → 0 < k → runs ((xs ++ replicate k h) ++ ds) ≡ runs (xs ++ replicate k h) + runs_after h ds
 runs_behind xs zero h ds some = absurd (omega (arith, some))
 runs_behind [] (suc k) h ds some =

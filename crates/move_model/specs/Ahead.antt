@@ -1,4 +1,4 @@
--- What a walk has ahead of it: its cost, runs and lean from there.
+-- What is ahead of a walk: its cost, runs and sum of run coordinates (lean) from there.
 use Rattle.std.specs.Prelude.{ℕ, ◌+◌, ◌*◌, ◌==◌, pos, ◌+ℤ◌, List, length, if◌then◌else◌}
 use Rattle.std.specs.declared.cmp.Ordering.{Ordering}
 use Rattle.std.specs.Ordering.{nat_cmp, int_cmp, ordering_then}
@@ -18,7 +18,7 @@ use Rattle.move_model.specs.declared.ahead.Stretch.{Stretch}
 abbrev pub nothing : Ahead
 nothing = record { cost = 0; runs = 0; lean = pos 0 }
 
--- the steps from the point are ahead of a walk that comes there in the heading, and at their end it costs so much more
+-- what is ahead of a walk that arrives at the point with the heading and takes these steps, with an additional cost of `more` at their end
 abbrev pub ahead : ℕ → Dir → Point → List Dir → ℕ → Ahead
 ahead penalty heading p steps more = record {
   cost = length steps + penalty * bends_after heading steps + more;
@@ -26,7 +26,7 @@ ahead penalty heading p steps more = record {
   lean = lean_after heading p steps;
 }
 
--- the same with a stretch in front, for a walk that comes to the stretch in the heading
+-- the same with a stretch in front, for a walk that enters the stretch with the heading
 abbrev pub with_stretch : ℕ → Dir → Stretch → Ahead → Ahead
 with_stretch penalty heading s v = record {
   cost = v.cost + s.steps + penalty * turn heading s.dir;
@@ -42,6 +42,6 @@ with_start s v = record { cost = stub_length s + s.cost + v.cost; runs = 1 + v.r
 abbrev pub whole : Task → Triple → Ahead
 whole task t = record { cost = triple_cost task t; runs = runs t.walk.steps; lean = lean t.walk.start t.walk.steps }
 
--- the order of what is ahead: by cost, runs and lean
+-- the order of what is ahead: by cost, runs and sum of run coordinates
 abbrev pub ahead_cmp : Ahead → Ahead → Ordering
 ahead_cmp v w = ordering_then (nat_cmp v.cost w.cost) (ordering_then (nat_cmp v.runs w.runs) (int_cmp v.lean w.lean))

@@ -1,4 +1,4 @@
--- How far points are from a rectangle, and how many bends a walk from it to them has at least.
+-- The distances of points from a rectangle, and the fewest bends of a walk from it to them.
 use Rattle.std.specs.Prelude.{ℕ, ◌+◌, ◌==◌, ℤ, if◌then◌else◌}
 use Rattle.std.specs.Int.{int_gap}
 use Rattle.plane_geom.specs.declared.point.Point.{Point}
@@ -9,19 +9,19 @@ use Rattle.plane_geom.specs.Along.{way_of, across}
 use Rattle.plane_geom.specs.Floor.{first_side, last_side}
 use Rattle.walk_model.specs.Cost.{turn}
 
--- how far the number is from those between the two: below the one, or above the other
+-- the distance of z from the range: below `low`, or above `high`
 abbrev pub outside : ℤ → ℤ → ℤ → ℕ
 outside low z high = int_gap z low + int_gap high z
 
--- how many steps lead at least from the closed rectangle to the point
+-- the least number of steps from the closed rectangle to the point
 abbrev pub distance_from : Rect → Point → ℕ
 distance_from r p = outside r.left p.x r.right + outside r.top p.y r.bottom
 
--- how far the point lies beside the rectangle, for one who leaves it along lines of the way
+-- the distance of the point to a side of the rectangle, for one who leaves it along lines of the way
 abbrev pub beside : Way → Rect → Point → ℕ
 beside way r p = outside (first_side way r) (across way p) (last_side way r)
 
--- no walk that leaves the rectangle in the one direction and comes to the point in the other has fewer bends
+-- the fewest bends of a walk that leaves the rectangle in the direction `from` and arrives at the point with the heading
 abbrev pub fewest_bends : Dir → Rect → Point → Dir → ℕ
 fewest_bends from r p heading =
     if turn from heading == 0 then (if beside (way_of from) r p == 0 then 0 else 2) else turn from heading

@@ -1,4 +1,4 @@
--- Walks by the corners that they have behind them.
+-- Walks by the corners that they have passed.
 use Rattle.std.specs.Prelude.{ℕ, ◌≡◌, ◌<◌, List, [], ◌∷◌, ◌++◌, length, replicate}
 use Rattle.plane_geom.specs.declared.point.Point.{Point}
 use Rattle.plane_geom.specs.declared.point.Dir.{Dir}
@@ -12,11 +12,11 @@ abbrev pub last_corner : Point → List Point → Point
 last_corner p [] = p
 last_corner p (q ∷ qs) = last_corner q qs
 
--- the walk with more steps
+-- the walk with more steps at its end
 abbrev pub further : Walk → List Dir → Walk
 further w ds = record { start = w.start; steps = w.steps ++ ds }
 
--- the walk goes through these points, which are its start and its corners, and then straight on in the heading to where it stands
+-- the walk goes through these points, which are its start and its corners, and then straight on in the heading to its present point
 pub record IsDrawn (points : List Point) (at : Point) (heading : Dir) (w : Walk) : Type 0 where
   pub corners : List Point
   pub all : points ≡ w.start ∷ corners

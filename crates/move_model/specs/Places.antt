@@ -8,14 +8,14 @@ use Rattle.line_arena.specs.Arena.{Arena, StandsAt, IsNearest}
 use Rattle.walk_model.specs.declared.task.Choice.{Choice}
 use Rattle.move_model.specs.declared.place.Place.{Place}
 
--- a walk with k checkpoints behind it that comes to the point p has j behind it there, and not one more
+-- a walk that has passed k checkpoints before the point p has passed exactly j at p
 pub record ComesTo (via : List Point) (k : ℕ) (p : Point) (j : ℕ) : Type 0 where
   pub from : k ≤ j
   pub within : j ≤ length via
   pub passed : (i : ℕ) → k ≤ i → i < j → slice_get via i ≡ Some p
   pub no_more : slice_get via j ≢ Some p
 
--- the straight segment from pin to port meets no solid but those of the choice's own node
+-- the straight segment from pin to port meets no solid except those of the choice's own node
 abbrev pub HasFreeStub : List Solid → Choice → Type 0
 HasFreeStub solids c = All (λ s. s.node ≢ c.node → Meets s.rect c.pin c.port → ⊥) solids
 
@@ -26,7 +26,7 @@ pub record IsEntry (solids : List Solid) (a : Arena) (via : List Point) (s : Cho
   pub heading : x.heading ≡ s.dir
   pub stage : ComesTo via 0 s.port x.stage
 
--- the move of n steps from the place to the nearest crossing in the heading of the other
+-- a move of n steps from the first place to the second, at the nearest crossing in its heading
 pub record IsMove (a : Arena) (via : List Point) (x : Place) (n : ℕ) (y : Place) : Type 0 where
   pub begin : Point
   pub end : Point
@@ -37,7 +37,7 @@ pub record IsMove (a : Arena) (via : List Point) (x : Place) (n : ℕ) (y : Plac
   pub some : 0 < n
   pub stage : ComesTo via x.stage end y.stage
 
--- with all checkpoints behind it a walk leaves the lines at the place, and arrives by the stub of the end choice, which is free
+-- after all checkpoints a walk leaves the lines at the place, and arrives by the stub of the end choice, which is free
 pub record IsEnding (solids : List Solid) (a : Arena) (via : List Point) (e : Choice) (x : Place) : Type 0 where
   pub free : HasFreeStub solids e
   pub here : StandsAt a x.crossing e.port

@@ -1,4 +1,4 @@
--- What a search for the first walk of a task is given.
+-- The input of a search for the first walk of a task.
 use Rattle.std.specs.Prelude.{◌≡◌, List}
 use Rattle.plane_geom.specs.declared.floor.Floor.{Floor}
 use Rattle.plane_geom.specs.declared.rect.Solid.{Solid}
@@ -9,7 +9,7 @@ use Rattle.walk_model.specs.declared.task.Task.{Task}
 use Rattle.walk_model.specs.Floors.{IsFloorOf}
 use Rattle.walk_model.specs.Legal.{IsTask}
 
--- the arena stands for a floor of the task, within the limits, and these are the floor's solids
+-- the arena represents a floor of the task, within the limits, and these are the floor's solids
 pub record IsProblem (floor : Floor) (a : Arena) (solids : List Solid) (task : Task) : Type 0 where
   pub same_solids : floor.solids ≡ solids
   pub stands : StandsFor floor a

@@ -13,12 +13,12 @@ use Rattle.walk_model.specs.Walk.{Walk}
 use Rattle.move_model.specs.declared.place.Place.{Place}
 use Rattle.move_model.specs.Places.{IsEntry, IsMove, IsEnding}
 
--- a move: how many steps it has, and the place to which it leads
+-- a move: its number of steps, and the place to which it leads
 pub record Leg : Type 0 where
   pub steps : ℕ
   pub to : Place
 
--- the legs lead by moves from the one place to the other
+-- the legs lead by moves from the first place to the second
 abbrev pub Leads : Arena → List Point → Place → List Leg → Place → Type 0
 Leads a via x [] y = x ≡ y
 Leads a via x (l ∷ ls) y = IsMove a via x l.steps l.to × Leads a via l.to ls y
@@ -38,11 +38,11 @@ abbrev pub steps_of_way : List Leg → Choice → List Dir
 steps_of_way [] e = replicate (stub_length e) (opposite e.dir)
 steps_of_way (l ∷ ls) e = replicate l.steps l.to.heading ++ steps_of_way ls e
 
--- the walk that leaves by the stub of the start choice and goes on along the way
+-- the walk that leaves by the stub of the start choice and continues along the way
 abbrev pub walk_along : Choice → List Leg → Choice → Walk
 walk_along s ls e = record { start = s.pin; steps = replicate (stub_length s) s.dir ++ steps_of_way ls e }
 
--- the walk with its choices enters the lines and goes along a way
+-- the walk with its choices enters the lines and follows a way
 pub record GoesAlongWay (solids : List Solid) (a : Arena) (task : Task) (t : Triple) : Type 0 where
   pub start : Choice
   pub end : Choice
@@ -54,7 +54,7 @@ pub record GoesAlongWay (solids : List Solid) (a : Arena) (task : Task) (t : Tri
   pub way : IsWay solids a task.via entry legs end
   pub walk : t.walk ≡ walk_along start legs end
 
--- some legs of the walk's way lead to the place, which stands at the point, and the rest goes on from there
+-- some legs of the walk's way lead to the place, which is at the point, and `rest` are the remaining legs
 pub record HasRest (solids : List Solid) (a : Arena) (task : Task) (t : Triple) (along : GoesAlongWay solids a task t) (y : Place) (q : Point) (rest : List Leg) : Type 0 where
   pub front : List Leg
   pub legs : along.legs ≡ front ++ rest

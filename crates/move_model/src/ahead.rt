@@ -1,4 +1,4 @@
-//! What a walk has ahead of it.
+//! The rest of a walk: its cost, runs and sum of run coordinates.
 ghost use Rattle.std.specs.Prelude.{◌≡◌, ◌≢◌, ◌+◌, ◌*◌, ◌<◌, ◌≤◌, ◌^◌, ◌+ℤ◌, unsigned_abs};
 ghost use Rattle.move_model.specs.Ahead.{with_stretch};
 ghost use Rattle.plane_geom.specs.Along.{across, way_of};
@@ -14,9 +14,10 @@ pub struct Stretch {
     pub steps: u64,
 }
 
-/// What is ahead of a walk, in the order of walks: by cost, by the number of runs that begin, and by lean.
+/// The rest of a walk, compared as walks are: by cost, by the number of runs that begin, and by the
+/// sum of their coordinates (`lean`).
 ///
-/// Costs and leans are in thousandths.
+/// `cost` and `lean` are in thousandths.
 #[derive(Clone, Copy, Debug, PartialEq, Eq, PartialOrd, Ord, Hash)]
 pub struct Ahead {
     pub cost: u64,
@@ -25,7 +26,7 @@ pub struct Ahead {
 }
 
 impl Ahead {
-    /// The same with one run more, at the coordinate across.
+    /// The same with one more run, at the coordinate `across`.
     fn with_run(self, across: i64) -> Ahead
         requires runs { self.runs + 1 < 2 ^ 32 }
         requires lean { unsigned_abs self.lean + unsigned_abs across < 2 ^ 63 }
@@ -40,7 +41,8 @@ impl Ahead {
         }
     }
 
-    /// The same with the stretch in front of it, for a walk that comes to the stretch in the heading.
+    /// The rest of a walk that enters the stretch with `heading`, where `self` is what remains
+    /// after the stretch.
     ///
     /// A turn costs the penalty once and a doubling back twice.
     pub fn behind(self, heading: Dir, stretch: Stretch, penalty: u64) -> Ahead
@@ -62,7 +64,7 @@ impl Ahead {
     }
 }
 
-/// The bends between two different directions.
+/// The number of bends between two different directions.
 fn bends_between(from: Dir, to: Dir) -> u64
     requires { from ≢ to }
     ensures bends { result ≡ turn from to }

@@ -30,14 +30,14 @@ ghost use Rattle.walk_model.specs.Walk.{Walk, end_of, straight_walk};
 ghost use Rattle.walk_model.specs.declared.task.Choice.{Choice};
 ghost use Rattle.walk_model.specs.declared.task.Task.{Task};
 
-/// A walk comes to a point with one number of checkpoints behind it.
+/// At a point, the number of checkpoints that a walk has passed is unique, and always exists.
 pub fn one_stage()
     ensures one { (via : List Point) (k i j : ℕ) (p : Point) → ComesTo via k p i → ComesTo via k p j → i ≡ j }
     ensures some { (via : List Point) (k : ℕ) (p : Point) → k ≤ length via → (j : ℕ) × ComesTo via k p j }
 {}
 
-/// From a place one move leads in a direction, and the nearest crossing in it has the first one nearest in the
-/// direction back.
+/// From a place at most one move leads in a direction. If one crossing is nearest to another in a
+/// direction, the second is nearest to the first in the direction back.
 pub fn moves_lead_back()
     ensures one { (a : Arena) (via : List Point) (x y z : Place) (m n : ℕ) → IsArena a → IsMove a via x m y →
         IsMove a via x n z → y.heading ≡ z.heading → (m ≡ n) × (y ≡ z) }
@@ -45,7 +45,8 @@ pub fn moves_lead_back()
         IsNearest a (opposite d) to from }
 {}
 
-/// To the nearest crossing in a direction leads a move, straight on, with as many steps as the two are apart.
+/// A move leads to the nearest crossing in a direction, straight on, with as many steps as the
+/// distance between the two.
 pub fn nearest_crossings_make_moves()
     ensures straight { (a : Arena) (d : Dir) (b c : ℕ) (p q : Point) → IsArena a → LiesFurther a d b c → StandsAt a b p →
         StandsAt a c q → (0 < distance p q) × (q ≡ forward d (distance p q) p) }
@@ -54,13 +55,14 @@ pub fn nearest_crossings_make_moves()
         IsMove a via x (distance p q) y }
 {}
 
-/// The crossings of an arena that stands for a floor are on the sheet.
+/// The crossings of an arena that represents a floor are on the sheet.
 pub fn crossings_are_on_sheet()
     ensures { (floor : Floor) (a : Arena) (c : ℕ) (p : Point) → IsArena a → StandsFor floor a → StandsAt a c p →
         PointIsOnSheet p }
 {}
 
-/// Legs and a way behind them are a way, with the steps of both; and behind the first legs of a way lies a way.
+/// Legs followed by a way are a way, with the steps of both; and what follows the first legs of a
+/// way is a way.
 pub fn ways_go_on()
     ensures way { (solids : List Solid) (a : Arena) (via : List Point) (x y : Place) (ls ms : List Leg) (e : Choice) →
         Leads a via x ls y → IsWay solids a via y ms e → IsWay solids a via x (ls ++ ms) e }
@@ -71,7 +73,7 @@ pub fn ways_go_on()
         IsWay solids a via x (ls ++ ms) e → Leads a via x ls y → IsWay solids a via y ms e }
 {}
 
-/// What is ahead of a stretch and the steps behind it is what is ahead of these, with the stretch in front; and a
+/// What is ahead before a stretch is what is ahead after it, with the stretch put in front; and a
 /// stretch in front keeps and reflects the order.
 pub fn stretches_in_front()
     ensures steps { (penalty : ℕ) (heading : Dir) (s : Stretch) (ds : List Dir) (more : ℕ) → 0 < s.steps →
@@ -84,7 +86,8 @@ pub fn stretches_in_front()
         ahead_cmp (with_stretch penalty heading s v) (with_stretch penalty heading s w) ≡ ahead_cmp v w }
 {}
 
-/// Legs in front keep and reflect the order of what is ahead, and lessen neither its cost nor its runs.
+/// Legs in front keep and reflect the order of what is ahead, and reduce neither its cost nor its
+/// runs.
 pub fn legs_in_front()
     ensures order { (a : Arena) (via : List Point) (x y : Place) (p q : Point) (ls : List Leg) → IsArena a →
         Leads a via x ls y → StandsAt a x.crossing p → StandsAt a y.crossing q →
@@ -103,8 +106,8 @@ pub fn legs_in_front()
         × ((ahead penalty y.heading q ds m).runs ≤ (ahead penalty x.heading p (steps_along ls ++ ds) m).runs) }
 {}
 
-/// A walk that leaves by the stub of its start choice is what is ahead at the port, with the stub in front; and a stub
-/// in front keeps and reflects the order.
+/// A walk that leaves by the stub of its start choice is compared by what is ahead at the port,
+/// with the stub in front; and a stub in front keeps and reflects the order.
 pub fn stubs_in_front()
     ensures steps { (task : Task) (t : Triple) (s : Choice) (ds : List Dir) → IsChoice s → t.walk.start ≡ s.pin →
         pin_cost task.starts t.start ≡ s.cost → t.walk.steps ≡ replicate (stub_length s) s.dir ++ ds →
@@ -112,8 +115,8 @@ pub fn stubs_in_front()
     ensures order { (s : Choice) (v w : Ahead) → ahead_cmp (with_start s v) (with_start s w) ≡ ahead_cmp v w }
 {}
 
-/// A walk that enters the lines by its start choice and goes along a way to its end choice is legal, and is what is
-/// ahead at the entry, with the stub in front.
+/// A walk that enters the lines by its start choice and follows a way to its end choice is legal,
+/// and is compared by what is ahead at the entry, with the stub in front.
 pub fn ways_are_legal()
     ensures legal { (floor : Floor) (a : Arena) (task : Task) (t : Triple) → IsArena a → StandsFor floor a → IsTask task →
         GoesAlongWay floor.solids a task t → IsLegalTriple floor.solids task t }
@@ -123,13 +126,14 @@ pub fn ways_are_legal()
         (ahead task.penalty along.start.dir along.start.port (steps_of_way along.legs along.end) along.end.cost) }
 {}
 
-/// A first walk enters the lines by its start choice and goes along a way to its end choice.
+/// A first walk enters the lines by its start choice and follows a way to its end choice.
 pub fn first_walks_are_ways()
     ensures { (floor : Floor) (a : Arena) (task : Task) (t : Triple) → IsArena a → StandsFor floor a → IsTask task →
         IsFloorOf floor task → IsFirst floor.solids task t → GoesAlongWay floor.solids a task t }
 {}
 
-/// A way has all its legs ahead at its entry, at each place a move and the rest behind it, and each rest is a way.
+/// At its entry a way has all its legs ahead. At each place a move leads on, with the remaining
+/// legs after it, and each rest is a way.
 pub fn rests_go_on()
     ensures begin { (solids : List Solid) (a : Arena) (task : Task) (t : Triple) (along : GoesAlongWay solids a task t) →
         HasRest solids a task t along along.entry along.start.port along.legs }
@@ -143,8 +147,8 @@ pub fn rests_go_on()
         IsWay solids a task.via y rest along.end }
 {}
 
-/// From a place on the way of a first walk no way has less ahead than the rest, and one that has as much has no
-/// earlier steps and end choice.
+/// From a place on the way of a first walk, no way has less ahead than the rest of the first walk;
+/// and a way with equally much ahead has no earlier steps and end choice.
 pub fn rests_are_first()
     ensures least { (floor : Floor) (a : Arena) (task : Task) (t : Triple) → IsArena a → StandsFor floor a → IsTask task →
         IsFirst floor.solids task t → (along : GoesAlongWay floor.solids a task t) →
@@ -161,8 +165,9 @@ pub fn rests_are_first()
         ordering_then (slice_cmp dir_cmp (steps_of_way rest along.end) (steps_of_way ls e)) (nat_cmp t.end n) ≢ Greater }
 {}
 
-/// No legal walk has less cost, runs and lean than the first one; with as much it has no earlier start choice, and
-/// then no earlier steps and end choice.
+/// No legal walk has less cost, runs and sum of run coordinates than the first one; where they are
+/// equal it has no earlier start choice, and with the same start choice no earlier steps and end
+/// choice.
 pub fn rivals_are_no_earlier()
     ensures least { (solids : List Solid) (task : Task) (t u : Triple) → IsFirst solids task t →
         IsLegalTriple solids task u → ahead_cmp (whole task t) (whole task u) ≢ Greater }
@@ -173,7 +178,7 @@ pub fn rivals_are_no_earlier()
         ordering_then (slice_cmp dir_cmp t.walk.steps u.walk.steps) (nat_cmp t.end u.end) ≢ Greater }
 {}
 
-/// Common steps in front leave the order of steps to those behind.
+/// Two lists of steps with a common beginning are ordered as what follows it.
 pub fn common_steps_compare_alike()
     ensures { (front xs ys : List Dir) → slice_cmp dir_cmp (front ++ xs) (front ++ ys) ≡ slice_cmp dir_cmp xs ys }
 {}
@@ -186,8 +191,8 @@ pub fn bends_are_a_metric()
     ensures triangle { (d e f : Dir) → turn d f ≤ turn d e + turn e f }
 {}
 
-/// Steps from the one point to the other take a walk no further from a rectangle or a point than they are many, and
-/// the bends that it has at least grow by no more than the bend before the steps.
+/// A number of steps changes the distance of a walk from a rectangle or a point by at most that
+/// number, and its least number of bends grows by at most the bend before the steps.
 pub fn bounds_grow_slowly()
     ensures begin { (d : Dir) (r : Rect) (p : Point) → HasWithin r p → (distance_from r p ≡ 0) × (fewest_bends d r p d ≡ 0) }
     ensures steps { (p : Point) (d : Dir) (n : ℕ) → distance p (forward d n p) ≡ n }
@@ -197,8 +202,8 @@ pub fn bounds_grow_slowly()
         fewest_bends from r (forward d n p) d ≤ fewest_bends from r p h + turn h d }
 {}
 
-/// Corners and the point where a walk stands behind them: they begin with a stretch, go on with it, turn, and end as the
-/// corners of the walk.
+/// Corners, and the point that a walk has reached after them: they begin with a stretch, continue
+/// with it, turn, and end as the corners of the walk.
 pub fn corners_draw_walks()
     ensures begin { (p : Point) (d : Dir) (n : ℕ) → 0 < n → IsDrawn (p ∷ []) (forward d n p) d (straight_walk p d n) }
     ensures straight { (points : List Point) (at : Point) (h : Dir) (w : Walk) (n : ℕ) → IsDrawn points at h w →

@@ -1,4 +1,5 @@
-//! Places and moves on the lines of a floor, and the laws that tie the ways along them to first walks.
+//! Places and moves on the lines of a floor, and the laws that relate the ways along them to first
+//! walks.
 //!
 //! Lengths and costs are in thousandths of a GML unit.
 #![tactic(auto)]

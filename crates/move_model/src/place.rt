@@ -3,7 +3,7 @@
 use line_arena::CrossId;
 use plane_geom::Dir;
 
-/// A crossing to which a walk has come in the heading, with so many checkpoints behind it.
+/// A crossing that a walk has reached with `heading`, after `stage` checkpoints.
 #[derive(Clone, Copy, Debug, PartialEq, Eq, PartialOrd, Ord, Hash)]
 pub struct Place {
     pub crossing: CrossId,

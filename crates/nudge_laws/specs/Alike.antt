@@ -1,4 +1,4 @@
--- Bundles and routes that say the same.
+-- Bundles and routes with the same contents.
 use Rattle.std.specs.Prelude.{◌≡◌, ℕ, ◌<◌, List, Some, length, slice_get, slice_index_or}
 use Rattle.channel_bundles.specs.declared.channel.RunBundle.{RunBundle}
 use Rattle.channel_bundles.specs.declared.route.PhaseRoute.{PhaseRoute}
@@ -10,7 +10,7 @@ pub record IsAlike (a b : RunBundle) : Type 0 where
   pub wanted : a.bundle.wanted ≡ b.bundle.wanted
   pub runs : a.runs.items ≡ b.runs.items
 
--- as many bundles, alike one by one
+-- the lists have the same length, and their bundles have the same contents one by one
 pub record AreAlike (found others : List RunBundle) : Type 0 where
   pub count : length found ≡ length others
   pub each : (k : ℕ) (d : RunBundle) → k < length found → IsAlike (slice_index_or found k d) (slice_index_or others k d)
@@ -24,7 +24,7 @@ pub record IsRouteAlike (a b : PhaseRoute) : Type 0 where
   pub target : a.anchors.target_port ≡ b.anchors.target_port
   pub via : a.anchors.via.items ≡ b.anchors.via.items
 
--- as many routes, alike one by one
+-- the lists have the same length, and their routes have the same contents one by one
 pub record AreRoutesAlike (routes others : List PhaseRoute) : Type 0 where
   pub count : length routes ≡ length others
   pub each : (k : ℕ) (r s : PhaseRoute) → slice_get routes k ≡ Some r → slice_get others k ≡ Some s → IsRouteAlike r s

@@ -1,4 +1,4 @@
--- What a phase owes two runs that keep their distance.
+-- The separations that a phase keeps.
 use Rattle.std.specs.Prelude.{◌≡◌, ℕ, ◌<◌, ℤ, ◌+ℤ◌, ◌≤ℤ◌, true, Some, None, List, slice_get}
 use Rattle.plane_geom.specs.declared.point.Way.{Way}
 use Rattle.plane_geom.specs.declared.rect.Solid.{Solid}
@@ -9,7 +9,7 @@ use Rattle.channel_bundles.specs.Bundles.{Standing}
 use Rattle.nudge_laws.specs.Moved.{IsPutAt}
 use Rattle.nudge_laws.specs.Phase.{IsPhase}
 
--- every separation is met: at the gap of their bundle where it links the two, at the wanted nudge where it does not
+-- every separation is met: by the gap of their bundle if it links the two, otherwise by the wanted nudge
 abbrev pub KeepsApart : {solids : List Solid} {before after : List PhaseRoute} {way : Way} {nudge : ℤ} {solutions : List Solution} → IsPhase solids before way nudge after solutions → Type 0
 KeepsApart {solids} {before} {after} {way} {nudge} {solutions} phase =
     (i j : ℕ) (a b : Standing) (y z : ℤ) → i < j → slice_get phase.bundles.all i ≡ Some a → slice_get phase.bundles.all j ≡ Some b →

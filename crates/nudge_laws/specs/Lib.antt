@@ -1,4 +1,4 @@
--- What both phases of nudging are, and what they keep.
+-- Both phases of nudging, and what they preserve.
 pub mod LegalRuns
 pub mod Ready
 pub mod Alike

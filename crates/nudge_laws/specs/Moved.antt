@@ -24,23 +24,23 @@ pub record IsPutAt (found : List RunBundle) (solutions : List Solution) (r : Run
   pub here : slice_get bundle.runs.items item ≡ Some r
   pub down : IsRoundedDown (int_at solution.pos.items item) (slice_index solution.den.items item) z
 
--- the run, drawn from the one coordinate along to the other
+-- the run, stretched along from the first coordinate to the second
 abbrev pub stretch : Dir → Run → ℤ → ℤ → Run
 stretch East r from to = record r { lo = from; hi = to }
 stretch South r from to = record r { lo = from; hi = to }
 stretch West r from to = record r { lo = to; hi = from }
 stretch North r from to = record r { lo = to; hi = from }
 
--- there is a run, and it is of the way
+-- the run exists, and is of the way
 abbrev pub runs_way : Way → Option Run → Bool
 runs_way way None = false
 runs_way way (Some r) = is_way r.way way
 
--- where the corner that run n makes with another now stands along that other: at the run's coordinate if it is of the way, else where it stood
+-- the coordinate, along another run, of the corner that run n makes with it: the coordinate of run n if that is of the way, otherwise as before
 abbrev pub corner : Way → List Run → List ℤ → ℕ → ℤ → ℤ
 corner way runs ats n old = if runs_way way (slice_get runs n) then int_at ats n else old
 
--- run k, counted from 0, where the runs of the way stand at these coordinates: those of the way move, the others follow with their corners
+-- run k, counted from 0, after the runs of the way moved to these coordinates: those of the way move, the others follow with their corners
 abbrev pub moved_run : Way → List Run → List ℤ → ℕ → Run
 moved_run way runs ats k =
     let r = run_at runs k in

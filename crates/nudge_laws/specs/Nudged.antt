@@ -14,7 +14,7 @@ use Rattle.channel_bundles.specs.declared.route.PhaseRoute.{PhaseRoute}
 use Rattle.nudge_laws.specs.Phase.{IsPhase}
 use Rattle.nudge_laws.specs.LegalRuns.{walk_along}
 
--- the line goes along the walk of the route, and has a point at each end and where a run of the walk begins, and no other
+-- the line goes along the walk of the route, and has points exactly at both ends and where a run of the walk begins
 pub record IsWrittenLine (route : PhaseRoute) (line : WrittenRoute) : Type 0 where
   pub edge : line.edge ≡ route.edge
   pub draws : Draws line.points (walk_along route.runs.items)
@@ -29,7 +29,7 @@ pub record IsNudged (solids : List Solid) (raw : List PhaseRoute) (nudge : ℤ) 
   pub count : length lines ≡ length after_y
   pub written : (k : ℕ) (route : PhaseRoute) (line : WrittenRoute) → slice_get after_y k ≡ Some route → slice_get lines k ≡ Some line → IsWrittenLine route line
 
--- where the walk of a raw route is legal with two choices at its ports, so is the walk that its line draws
+-- if the walk of a raw route is legal with two choices at its ports, so is the walk that its line draws
 abbrev pub KeepsLegal : List Solid → List PhaseRoute → List WrittenRoute → Type 0
 KeepsLegal solids raw lines = (k : ℕ) (route : PhaseRoute) (line : WrittenRoute) → slice_get raw k ≡ Some route → slice_get lines k ≡ Some line →
     (s e : Choice) → IsChoice s → IsChoice e → s.port ≡ route.anchors.source_port → e.port ≡ route.anchors.target_port →

@@ -1,4 +1,4 @@
--- What one phase is.
+-- One phase.
 use Rattle.std.specs.Prelude.{◌≡◌, ℕ, ℤ, List, length, slice_get, Some}
 use Rattle.plane_geom.specs.declared.point.Way.{Way}
 use Rattle.plane_geom.specs.declared.rect.Solid.{Solid}
@@ -18,7 +18,7 @@ pub record IsSolutionOf (b : Bundle) (s : Solution) : Type 0 where
   pub least : IsLeast b s.gap s.den.items s.pos.items
   pub shown : IsAccepted b s
 
--- the phase of the way: from each bundle of its input a solution, in their order, and the routes with their runs where these put them
+-- the phase of the way: for each bundle of its input a solution, in their order, and the routes with their runs where the solutions put them
 pub record IsPhase (solids : List Solid) (before : List PhaseRoute) (way : Way) (nudge : ℤ) (after : List PhaseRoute) (solutions : List Solution) : Type 0 where
   pub found : List RunBundle
   pub bundles : AreBundles solids before way nudge found

@@ -1,4 +1,4 @@
--- Routes that nudging begins with.
+-- The routes with which nudging begins.
 use Rattle.std.specs.Prelude.{◌≡◌, ◌≢◌, ◌-◌, ◌≤◌, ◌<ℤ◌, List, length, All, AllPairs}
 use Rattle.plane_geom.specs.declared.point.Way.{Way}
 use Rattle.plane_geom.specs.declared.rect.Solid.{Solid}
@@ -13,7 +13,7 @@ use Rattle.walk_model.specs.Choice.{IsChoice}
 use Rattle.walk_model.specs.Legal.{IsLegal}
 use Rattle.nudge_laws.specs.LegalRuns.{walk_along}
 
--- the runs of the way have some length, so that the runs beside them stand in the order of its heading
+-- the runs of the way have some length, so that the runs beside them are in the order of its heading
 abbrev pub HaveLength : Way → List Run → Type 0
 HaveLength way runs = All (λ r. r.way ≡ way → r.lo <ℤ r.hi) runs
 
@@ -43,11 +43,11 @@ pub record HasLegalWalk (solids : List Solid) (route : PhaseRoute) : Type 0 wher
   pub target : end.port ≡ route.anchors.target_port
   pub legal : IsLegal solids route.anchors.via.items start (walk_along route.runs.items) end
 
--- no more runs of each way than a bundle may have items
+-- at most the number of runs of each way that a bundle may have as items
 abbrev pub HaveFewRuns : List PhaseRoute → Type 0
 HaveFewRuns routes = (way : Way) → length (runs_of_way way routes) ≤ most_items
 
--- raw routes that nudging may be handed
+-- raw routes that nudging accepts
 pub record AreWalked (solids : List Solid) (routes : List PhaseRoute) : Type 0 where
   pub raw : AreRaw routes
   pub legal : All (HasLegalWalk solids) routes

@@ -1,4 +1,4 @@
-//! The laws of both phases, as functions with no body: a caller cites one by a call.
+//! The laws of both phases, as functions with an empty body: a caller cites one by a call.
 ghost use Rattle.std.specs.Prelude.{◌≡◌, ◌≢◌, ℕ, ◌+◌, ◌<◌, ◌≤◌, ℤ, ◌<ℤ◌, List, Some, length, All, AllPairs, slice_get};
 ghost use Rattle.plane_geom.specs.declared.point.Point.{Point};
 ghost use Rattle.plane_geom.specs.declared.point.Way.{Way};
@@ -27,7 +27,7 @@ ghost use Rattle.nudge_laws.specs.Nudged.{IsNudged, KeepsLegal};
 ghost use Rattle.nudge_laws.specs.Phase.{IsPhase};
 ghost use Rattle.nudge_laws.specs.Ready.{AreRaw, AreWalked, HoldsPorts, IsReady};
 
-/// A route that is legal along its runs may stand where it stands, in either phase.
+/// A route that is legal along its runs may stay as it is, in either phase.
 pub fn legal_routes_may_stay()
     ensures { (solids : List Solid) (route : PhaseRoute) (way : Way) (s e : Choice) →
         AreRunsOf route.edge route.runs.items → HoldsPorts route →
@@ -35,8 +35,8 @@ pub fn legal_routes_may_stay()
         MayMove solids way route }
 {}
 
-/// The runs through the corners of a line: the walk along them is the line's, and where neighbouring corners differ
-/// they all have some length.
+/// The runs through the corners of a line: the walk along them is the line's, and where
+/// neighbouring corners differ they all have some length.
 pub fn runs_go_along_lines()
     ensures walk { (edge : ℕ) (points : List Point) (w : Walk) →
         1 < length points → Draws points w → walk_along (runs_along edge 1 points) ≡ w }
@@ -45,7 +45,8 @@ pub fn runs_go_along_lines()
         All (λ (r : Run). r.lo <ℤ r.hi) (runs_along edge 1 points) }
 {}
 
-/// The ports of a legal walk along runs that all have some length lie on the first run and on the last one.
+/// The ports of a legal walk along runs that all have some length lie on the first run and on the
+/// last one.
 pub fn legal_walks_hold_ports()
     ensures { (solids : List Solid) (route : PhaseRoute) (s e : Choice) →
         AreRunsOf route.edge route.runs.items → IsChoice s → IsChoice e →
@@ -54,8 +55,9 @@ pub fn legal_walks_hold_ports()
         IsLegal solids route.anchors.via.items s (walk_along route.runs.items) e → HoldsPorts route }
 {}
 
-/// What phase x makes of raw routes may be handed to phase y: the routes are ready and of different edges (`ready`,
-/// `edges`), and where the walk of a raw route is legal, its runs may stand where they stand in both phases (`stay`).
+/// The result of phase x for raw routes is accepted by phase y: the routes are ready and of
+/// different edges (`ready`, `edges`), and where the walk of a raw route is legal, its runs may
+/// stay as they are in both phases (`stay`).
 pub fn phase_x_hands_on()
     ensures ready { (solids : List Solid) (raw : List PhaseRoute) (nudge : ℤ) (after : List PhaseRoute) (xs : List Solution) →
         IsPhase solids raw Vertical nudge after xs → AreRaw raw → All IsReady after }
@@ -83,7 +85,8 @@ pub fn nudged_lines_keep_apart()
         KeepsApart nudged.x × KeepsApart nudged.y }
 {}
 
-/// Routes of different edges have one list of bundles in a phase, where each of them may be handed to a solver.
+/// Routes of different edges have exactly one list of bundles in a phase, if a solver accepts each
+/// of them.
 pub fn one_list_of_bundles()
     ensures { (solids : List Solid) (routes : List PhaseRoute) (way : Way) (nudge : ℤ) (found others : List RunBundle) →
         AreBundles solids routes way nudge found → AreBundles solids routes way nudge others →
@@ -91,14 +94,15 @@ pub fn one_list_of_bundles()
         All (λ (b : RunBundle). IsBundle b.bundle) found → AreAlike found others }
 {}
 
-/// Both phases have one result: of raw routes that go along legal walks there is one list of written lines.
+/// Both phases have exactly one result: for raw routes that follow legal walks there is one list of
+/// written lines.
 pub fn one_nudged()
     ensures { (solids : List Solid) (raw : List PhaseRoute) (nudge : ℤ) (xs ys other_xs other_ys : List Solution) (lines others : List WrittenRoute) →
         IsNudged solids raw nudge xs ys lines → IsNudged solids raw nudge other_xs other_ys others →
         AreWalked solids raw → IsNudge nudge → lines ≡ others }
 {}
 
-/// The bundles of a phase may be handed to a solver, where its movable runs may stand where they stand.
+/// A solver accepts the bundles of a phase whose movable runs may stay as they are.
 pub fn bundles_may_be_solved()
     ensures { (solids : List Solid) (routes : List PhaseRoute) (way : Way) (nudge : ℤ) (found : List RunBundle) →
         AreBundles solids routes way nudge found → All IsPhaseRoute routes → All (MayMove solids way) routes →

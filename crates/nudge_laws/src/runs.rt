@@ -1,4 +1,4 @@
-//! The laws between a legal walk and what is legal run by run. No public clause cites this module.
+//! The laws that relate legal walks to legal runs. No public clause cites this module.
 ghost use Rattle.std.specs.Prelude.{ℕ, ◌-◌, ◌≤◌, ◌<ℤ◌, List, Some, length, All};
 ghost use Rattle.plane_geom.specs.declared.point.Point.{Point};
 ghost use Rattle.plane_geom.specs.declared.rect.Solid.{Solid};
@@ -9,14 +9,14 @@ ghost use Rattle.walk_model.specs.Choice.{IsChoice, stub_length};
 ghost use Rattle.walk_model.specs.Legal.{IsFree, IsLegal};
 ghost use Rattle.nudge_laws.specs.LegalRuns.{IsLegalAlong, walk_along};
 
-/// A legal walk along three runs or more that all have some length is legal along them.
+/// A legal walk along at least three runs that all have some length is legal along its runs.
 pub fn legal_walks_are_legal_along_runs()
     ensures { (solids : List Solid) (via : List Point) (s : Choice) (runs : List Run) (e : Choice) (edge : ℕ) →
         AreRunsOf edge runs → IsChoice s → IsChoice e → 3 ≤ length runs → All (λ (r : Run). r.lo <ℤ r.hi) runs →
         IsLegal solids via s (walk_along runs) e → IsLegalAlong solids via s runs e }
 {}
 
-/// The walk along runs that are legal is legal, where its stubs are free. A run may have no length.
+/// A walk along legal runs is legal, where its stubs are free. A run may have no length.
 pub fn legal_runs_make_legal_walks()
     ensures { (solids : List Solid) (via : List Point) (s : Choice) (runs : List Run) (e : Choice) (edge : ℕ) →
         AreRunsOf edge runs → IsChoice s → IsChoice e → IsLegalAlong solids via s runs e →

@@ -1,4 +1,4 @@
--- What right answers say of each route.
+-- The consequences of right answers for each route.
 use Rattle.std.proofs.Common.{◌≡◌, ◌≢◌, ℕ, suc, zero, ◌+◌, ◌<◌, ◌≤◌, Bool, true, false, not, Option, None, Some, List, [], ◌∷◌, ◌++◌, length, take, get_or, refl, sym, ap, subst, ◌∙◌, arith, cond, true≢false, append_assoc}
 use Rattle.std.specs.Prelude.{◌==◌, All, Contains, filter, find, slice_get}
 use Rattle.std.specs.List.{AllZip, AllByRecursion as Each}

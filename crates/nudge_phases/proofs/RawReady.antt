@@ -1,4 +1,4 @@
--- The raw routes of right answers may be handed to both phases.
+-- Both phases accept the raw routes of right answers.
 use Rattle.std.proofs.Common.{◌≡◌, ℕ, ◌*◌, ◌<◌, ◌≤◌, ◌^◌, ◌<ℤ◌, Some, List, [], ◌∷◌, map, length, sym, ap, subst, subst₂, ◌∙◌, arith}
 use Rattle.std.specs.Prelude.{All, slice_get}
 use Rattle.std.specs.List.{AllZip}

@@ -95,7 +95,7 @@ module _ (s : Scene) (answers : List Answer) (v : IsValid s) (are : AreAnswers s
   apart (Ok n) = λ p. nudged_is_apart (solids s) p.raw s.settings.nudge n.x_solutions.items n.y_solutions.items n.routes.items p.nudged (raw_are p.raw p.are_raw)
   apart (Err e) = tt
 
-  -- what is made of the raw routes is what is promised of the scene
+  -- the result for the raw routes is what is promised of the scene
   pub made : (r : Result Nudged AllocError) (floor : List Solid) (raw : List PhaseRoute) (nudge : ℤ) → floor ≡ solids s → nudge ≡ s.settings.nudge → AreRawRoutes s answers raw →
       IfOk r (λ n. IsNudged floor raw nudge n.x_solutions.items n.y_solutions.items n.routes.items) → IfOk r IsOf
   made (Ok n) floor raw nudge e f zip is = record {

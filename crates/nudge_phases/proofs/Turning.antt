@@ -21,7 +21,7 @@ use Rattle.walk_model.proofs.CornerByCorner.Shapes.{turn_differs}
 use Rattle.walk_laws.specs.Runs.{runs_of_way, runs_of_way_after, share_of_way}
 use Rattle.channel_bundles.specs.Route.{is_way, of_way}
 
--- behind a segment in the heading, each point that follows lies on, in another heading
+-- after a segment in the heading, each point that follows is further on, in another heading
 abbrev pub Turns : Dir → Point → List Point → Type 0
 Turns d p [] = Unit {0}
 Turns d p (q ∷ qs) = (heading p q ≢ d) × (0 < distance p q) × Turns (heading p q) q qs

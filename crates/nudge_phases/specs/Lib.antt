@@ -1,3 +1,3 @@
--- What nudging makes of the right answers of a scene.
+-- The result of nudging the right answers of a scene.
 pub mod Raw
 pub mod Nudged

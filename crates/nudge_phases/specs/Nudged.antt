@@ -1,4 +1,4 @@
--- What nudging makes of the raw routes of a scene, and what its lines are.
+-- The result of nudging the raw routes of a scene, and the properties of its lines.
 use Rattle.std.specs.Prelude.{◌≡◌, ℕ, List, Some}
 use Rattle.std.specs.List.{AllZip}
 use Rattle.separation_model.specs.declared.bundle.Solution.{Solution}
@@ -31,11 +31,11 @@ pub record IsLegalNudgedLine (s : Scene) (number : ℕ) (route : Route) (line : 
   pub draws : Draws line.points walk
   pub legal : IsLegalTriple (solids s) (task_of s edge) (record { start = route.start; walk = walk; end = route.end })
 
--- each line is legal for its answer, of those that have a route
+-- each line is legal for its answer, among those that have a route
 abbrev pub AreLegalNudgedLines : Scene → List Answer → List WrittenRoute → Type 0
 AreLegalNudgedLines s answers lines = AllZip (λ p line. IsLegalNudgedLine s p.0 p.1 line) (routed answers) lines
 
--- right answers of a scene have one list of nudged lines at most
+-- right answers of a scene have at most one list of nudged lines
 abbrev pub HaveOneNudged : Type 0
 HaveOneNudged = (s : Scene) (answers : List Answer) (xs ys other_xs other_ys : List Solution) (lines others : List WrittenRoute) →
     IsValid s → AreAnswers s answers → IsNudgedScene s answers xs ys lines → IsNudgedScene s answers other_xs other_ys others → lines ≡ others

@@ -20,7 +20,7 @@ abbrev pub routed : List Answer → List (ℕ × Route)
 routed [] = []
 routed (a ∷ answers) = with_number a.edge a.route ++ routed answers
 
--- the raw route of the edge with the number: the runs of its line, the ports of its choices, and what its edge says
+-- the raw route of the edge with the number: the runs of its line, the ports of its choices, and the weight and checkpoints of its edge
 pub record IsRawRoute (s : Scene) (number : ℕ) (route : Route) (raw : PhaseRoute) : Type 0 where
   pub edge : Edge
   pub is_edge : edge_with s number ≡ Some edge

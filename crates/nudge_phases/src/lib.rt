@@ -1,4 +1,4 @@
-//! Nudging of a scene: its right answers as lines that keep their distance, through both phases.
+//! Nudging of a scene: both phases, from its right answers to lines that keep their distance.
 //!
 //! Coordinates are whole thousandths of a GML unit.
 #![tactic(auto)]

@@ -11,17 +11,19 @@ use scene_store::Scene;
 use std::alloc::{AllocError, Global};
 use walk_model::Answer;
 
-/// Nudges the routes of a scene's right answers. Its only error is want of memory.
+/// Nudges the routes of a scene's right answers. The only error is out of memory.
 ///
-/// Phase x moves the vertical runs of the routes, and its result is rounded down to whole thousandths; phase y moves
-/// the horizontal runs of that result. In each phase the runs of a bundle go to the least positions for the bundle's own
-/// widest gap, up to the scene's wanted nudge, and the corners follow. Of the points after phase y, equal neighbours
-/// become one, and one at which the heading goes on is dropped.
+/// Phase x moves the vertical runs of the routes, and its result is rounded down to whole
+/// thousandths; phase y moves the horizontal runs of that result. In each phase the runs of a
+/// bundle move to the least positions for the bundle's own widest gap, up to the scene's wanted
+/// nudge, and the corners follow. After phase y, equal neighbouring points become one, and a point
+/// at which the heading continues is dropped.
 pub fn nudge(alloc: Global, scene: &Scene, answers: &[Answer]) -> Result<Nudged, AllocError>
     requires { AreAnswers scene.now answers.now }
     // The solutions of both phases and the lines are those of the raw routes.
     ensures nudged { IfOk result (λ n. IsNudgedScene scene.now answers.now n.x_solutions.items n.y_solutions.items n.routes.items) }
-    // Every separation of a phase is met, at its bundle's gap where it links two runs, else at the wanted nudge.
+    // Every separation of a phase is met: by its bundle's gap if it links two runs, otherwise by
+    // the wanted nudge.
     ensures apart { IfOk result (λ n. (p : IsNudgedScene scene.now answers.now n.x_solutions.items n.y_solutions.items n.routes.items) →
         KeepsApart p.nudged.x × KeepsApart p.nudged.y) }
     // Every line is a legal walk of its connector, with the choices of its route.

@@ -12,7 +12,7 @@ use segment_order::runs_of;
 use std::alloc::{AllocError, Global};
 use walk_model::{Answer, Route};
 
-/// The route of the connector with the number, as the first phase takes it.
+/// The route of the connector with the number, as the input of the first phase.
 fn raw_route(
     alloc: Global,
     scene: &Scene,
@@ -40,7 +40,7 @@ fn raw_route(
     })
 }
 
-/// The routes of the answers that have one, as the first phase takes them.
+/// The routes of the answers that have one, as the input of the first phase.
 pub(crate) fn raw_routes(
     alloc: Global,
     scene: &Scene,

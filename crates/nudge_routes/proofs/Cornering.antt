@@ -19,7 +19,7 @@ use Rattle.walk_model.proofs.Ranking.SomeRoute.{some_route}
 use Rattle.nudge_laws.specs.LegalRuns.{steps_along, steps_of_run}
 use Rattle.nudge_laws.proofs.AlongRuns.StepsAlong.{run_leads}
 
--- the corners of the steps that follow, from the point on, behind a step in the heading, if there is one
+-- the corners of the steps that follow, from the point on, after a step in the heading, if there is one
 abbrev pub corners_from : Option Dir → Point → List Dir → List Point
 corners_from None p ds = p ∷ corners p ds
 corners_from (Some d) p ds = corners_after d p ds

@@ -1,4 +1,4 @@
--- The steps of a phase make the phase, and its routes may be handed on.
+-- The steps of a phase are the phase, and its result is accepted by the next one.
 use Rattle.std.proofs.Common.{◌≡◌, ◌≢◌, ℕ, ◌+◌, ◌-◌, ◌<◌, ℤ, pos, ◌<ℤ◌, Some, List, length, get_or, inl, inr, sym, ap, subst, subst₂, ◌∙◌, arith, if◌then◌else◌, true≢false}
 use Rattle.std.specs.Prelude.{slice_get, All, AllPairs}
 use Rattle.std.proofs.lemmas.Bool.{cases_Bool, cases_lt}
@@ -126,7 +126,7 @@ module _ (solids : List Solid) (before : List PhaseRoute) (way : Way) (nudge : �
 pub rising_differ : (routes : List PhaseRoute) → EdgesRise routes → AllPairs (λ (r s : PhaseRoute). r.edge ≢ s.edge) routes
 rising_differ routes rise i j d h g same = omega (arith, rise i j d h g, same)
 
--- what is so of one route before a phase and after it is so of all
+-- what holds of one route before a phase and after it holds of all
 pub all_after : (P : PhaseRoute → Type 0) (before after : List PhaseRoute) → length after ≡ length before → ((k : ℕ) (r s : PhaseRoute) → slice_get before k ≡ Some r → slice_get after k ≡ Some s → P s) → All P after
 all_after P before after count each k d h =
     let r = some_read before k (omega (arith, h, count)) in

@@ -185,7 +185,7 @@ puts_same r z now new puts = record {
       cases_same {P = IsSameButRuns s u} s.edge r.edge (λ e. (put.own e).same) (λ ne. subst (IsSameButRuns s) (sym (put.others ne)) (same_runs s));
 }
 
--- with the runs put, the routes are put so much further
+-- moving these runs leads from routes with the runs done so far moved to routes with these runs moved as well
 abbrev pub CarriesOn : RunBundle → Solution → List Run → List PhaseRoute → List PhaseRoute → Type 0
 CarriesOn b solution runs old new = (way : Way) (found : List RunBundle) (solutions : List Solution) (place : ℕ) (done : List Run) (before : List PhaseRoute) →
     slice_get found place ≡ Some b → slice_get solutions place ≡ Some solution → All IsPhaseRoute before → EdgesRise before → All (IsRunIn before way) b.runs.items →

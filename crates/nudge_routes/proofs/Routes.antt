@@ -89,7 +89,7 @@ push_read (y ∷ ys) x a (suc k) e = elim (push_read ys x a k e) as (λ _. (slic
   | inr new ↦ inr (ap suc new.0, new.1)
 ]
 
--- a list is made that holds what is asked of another's things, one after another
+-- a list is built whose elements have the property for those of another list, one after another
 module _ {X Y : Type 0} (R : X → Y → Type 0) (xs : List X) where
   pub each_none : (ys : List Y) → ys ≡ [] → AreEach R (take 0 xs) ys
   each_none ys e = record { count = ap length e; each = λ k x y at_x at_y. absurd (let h = slice_get_within (take 0 xs) k x at_x in omega arith) }

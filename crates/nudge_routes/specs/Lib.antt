@@ -1,3 +1,3 @@
--- What both phases ask of the routes that they are handed, and what each step of a phase makes of them.
+-- The conditions of both phases on their routes, and the result of each step of a phase.
 pub mod Rising
 pub mod Steps

@@ -1,4 +1,4 @@
--- What the steps of a phase make of its routes: first the runs of the way move, then the others follow with their corners. No public clause cites this module.
+-- The steps of a phase: first the runs of the way move, then the others follow with their corners. No public clause cites this module.
 use Rattle.std.specs.Prelude.{◌≡◌, ◌≢◌, ℕ, ◌-◌, ◌<◌, ◌≤◌, ℤ, List, length, map, slice_get, slice_set, Option, Some, None, All, Contains, if◌then◌else◌}
 use Rattle.plane_geom.specs.declared.point.Way.{Way}
 use Rattle.segment_order.specs.declared.run.Run.{Run}
@@ -11,16 +11,16 @@ use Rattle.channel_bundles.specs.Route.{is_way}
 use Rattle.nudge_laws.specs.Moved.{IsPutAt, moved_run}
 use Rattle.nudge_laws.specs.Phase.{IsSolutionOf}
 
--- the lists are as long, and it holds of what stands at each place of the one and of the other
+-- the lists have the same length, and the relation holds for the two elements at each place
 pub record AreEach {X Y : Type 0} (holds : X → Y → Type 0) (before : List X) (after : List Y) : Type 0 where
   pub count : length after ≡ length before
   pub each : (k : ℕ) (x : X) (y : Y) → slice_get before k ≡ Some x → slice_get after k ≡ Some y → holds x y
 
--- from each bundle a solution, in their order
+-- for each bundle a solution, in their order
 abbrev pub AreSolutionsOf : List RunBundle → List Solution → Type 0
 AreSolutionsOf = AreEach (λ b s. IsSolutionOf b.bundle s)
 
--- the route may have other runs, and has all else as before
+-- the route may have other runs, and everything else is as before
 pub record IsSameButRuns (before after : PhaseRoute) : Type 0 where
   pub edge : after.edge ≡ before.edge
   pub weight : after.weight ≡ before.weight
@@ -54,7 +54,7 @@ pub record IsPutIfOwn (r : Run) (z : ℤ) (before after : PhaseRoute) : Type 0 w
   pub own : before.edge ≡ r.edge → IsPutTo (r.place - 1) z before after
   pub others : before.edge ≢ r.edge → after ≡ before
 
--- the route, with those of its runs that are done where the solutions put them; the runs of the other way stay
+-- the route, with the finished ones of its runs where the solutions put them; the runs of the other way stay
 pub record IsPutSoFar (way : Way) (found : List RunBundle) (solutions : List Solution) (done : List Run) (before after : PhaseRoute) : Type 0 where
   pub same : IsSameButRuns before after
   pub count : length after.runs.items ≡ length before.runs.items
@@ -77,7 +77,7 @@ pub record AreBundlesIn (routes : List PhaseRoute) (way : Way) (found : List Run
   pub own : All (λ b. All (IsRunIn routes way) b.runs.items) found
   pub whole : (r : Run) → IsRunIn routes way r → (b : RunBundle) × Contains found b × Contains b.runs.items r
 
--- where the corner with a neighbour stands along a run: at the neighbour's coordinate if that is of the way, else where it stood
+-- the coordinate of the corner with a neighbour along a run: the neighbour's coordinate if that is of the way, otherwise as before
 abbrev pub corner_at : Way → Option Run → ℤ → ℤ
 corner_at way None old = old
 corner_at way (Some r) old = if is_way r.way way then r.at else old
@@ -86,7 +86,7 @@ corner_at way (Some r) old = if is_way r.way way then r.at else old
 abbrev pub coordinates : List Run → List ℤ
 coordinates runs = map (λ r. r.at) runs
 
--- the runs of the other way are drawn to where their neighbours of the way stand
+-- the runs of the other way are stretched to their neighbours of the way
 pub record HaveFollowed (way : Way) (before after : List Run) : Type 0 where
   pub count : length after ≡ length before
   pub runs : (k : ℕ) → k < length before → run_at after k ≡ moved_run way before (coordinates before) k

@@ -10,7 +10,7 @@ use segment_order::Run;
 use std::alloc::{AllocError, Global};
 use walk_model::WrittenRoute;
 
-/// Whether a step in the direction goes on in the heading, if there is one.
+/// Whether a step in the direction `dir` continues straight on in `heading`, if there is one.
 fn goes_on(heading: Option<Dir>, dir: Dir) -> bool
     ensures { IsTrue result ↔ (heading ≡ Some dir) }
 {
@@ -27,8 +27,8 @@ fn has_length(run: &Run) -> bool
     run.lo < run.hi
 }
 
-/// The line through the corners of the route. A run without length has none, and where the heading goes on behind it
-/// there is none either.
+/// The line through the corners of the route. There is no corner at a run without length, nor where
+/// the next run with a length continues in the same heading.
 fn written(alloc: Global, route: &PhaseRoute) -> Result<WrittenRoute, AllocError>
     requires { AreRunsOf route.now.edge route.now.runs.items }
     ensures { IfOk result (IsWrittenLine route.now) }

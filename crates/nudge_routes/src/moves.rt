@@ -1,4 +1,5 @@
-//! How the runs of a phase move: those of its way to their coordinates, and the others with their corners.
+//! How the runs of a phase move: those of its way to their coordinates, and the others with their
+//! corners.
 ghost use Rattle.std.specs.Prelude.{◌≡◌, ℕ, ◌<◌, ◌-◌, ◌+◌, ◌++◌, List, Some, All, length, slice_get};
 ghost use Rattle.plane_geom.specs.declared.point.Way.{Way};
 ghost use Rattle.channel_bundles.specs.Route.{IsPhaseRoute, is_way};
@@ -25,7 +26,7 @@ fn put_run(route: &mut PhaseRoute, k: usize, at: i64)
     route.runs[k].at = at;
 }
 
-/// Moves a run to the coordinate. The run tells its edge, and its place in the route.
+/// Moves a run to the coordinate, in its route and at its place there.
 fn put(routes: &mut [PhaseRoute], run: &Run, at: i64)
     requires edges { EdgesRise routes.old }
     requires there { HasPlaceOf routes.old run.now }
@@ -36,7 +37,7 @@ fn put(routes: &mut [PhaseRoute], run: &Run, at: i64)
     }
 }
 
-/// Moves the runs of the bundle to where its solution has them, rounded down.
+/// Moves the runs of the bundle to the positions of its solution, rounded down.
 fn put_bundle(routes: &mut [PhaseRoute], run_bundle: &RunBundle, solution: &Solution)
     requires edges { EdgesRise routes.old }
     requires there { All (HasPlaceOf routes.old) run_bundle.now.runs.items }
@@ -54,7 +55,7 @@ fn put_bundle(routes: &mut [PhaseRoute], run_bundle: &RunBundle, solution: &Solu
     }
 }
 
-/// Moves the runs of all bundles to where their solutions have them, rounded down.
+/// Moves the runs of all bundles to the positions of their solutions, rounded down.
 pub(crate) fn put_all(routes: &mut [PhaseRoute], found: &[RunBundle], solutions: &[Solution])
     requires routes { All IsPhaseRoute routes.old }
     requires edges { EdgesRise routes.old }
@@ -67,7 +68,7 @@ pub(crate) fn put_all(routes: &mut [PhaseRoute], found: &[RunBundle], solutions:
     }
 }
 
-/// The run, drawn from the one coordinate along to the other, in its heading.
+/// The run, stretched along from one coordinate to the other, in its heading.
 fn stretched(run: &Run, from: i64, to: i64) -> Run
     ensures { result ≡ stretch run.now.heading run.now from to }
 {
@@ -85,8 +86,8 @@ fn is_of_way(run: &Run, way: Way) -> bool
     run.way == way
 }
 
-/// Where the corner with the run at the index stands along a neighbour of it: at the run's coordinate if there is one
-/// and it is of the way, else where it stood.
+/// The coordinate, along a neighbour, of the corner with the run at the index: the run's coordinate
+/// if there is such a run and it is of the way, otherwise `old`.
 fn corner(runs: &[Run], k: usize, way: Way, old: i64) -> i64
     ensures { result ≡ corner_at way (slice_get runs.now k) old }
 {
@@ -96,7 +97,7 @@ fn corner(runs: &[Run], k: usize, way: Way, old: i64) -> i64
     }
 }
 
-/// The run at the index, drawn to where its neighbours of the way stand, if it is of the other way.
+/// The run at the index, stretched to its neighbours of the way, if it is of the other way.
 fn followed(runs: &[Run], k: usize, way: Way) -> Run
     requires { k < length runs.now }
     ensures { result ≡ moved_run way runs.now (coordinates runs.now) k }
@@ -105,13 +106,13 @@ fn followed(runs: &[Run], k: usize, way: Way) -> Run
     if is_of_way(&run, way) {
         return run;
     }
-    // Before the first run stands none; it is taken itself, and is not of the way.
+    // There is no run before the first; the first itself is used instead, and is not of the way.
     let from = corner(runs, k.saturating_sub(1), way, run.start().along(run.way));
     let to = corner(runs, k + 1, way, run.end().along(run.way));
     stretched(&run, from, to)
 }
 
-/// Draws the runs of the other way to where their neighbours of the way stand.
+/// Stretches the runs of the other way to their neighbours of the way.
 fn follow(runs: &mut [Run], way: Way)
     ensures { HaveFollowed way runs.old runs.new }
 {
@@ -120,7 +121,7 @@ fn follow(runs: &mut [Run], way: Way)
     }
 }
 
-/// The same in all routes.
+/// The same for all routes.
 pub(crate) fn follow_all(routes: &mut [PhaseRoute], way: Way)
     ensures { AreEach (HasFollowed way) routes.old routes.new }
 {

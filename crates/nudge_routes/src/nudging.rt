@@ -18,7 +18,8 @@ use separation_solve::Solution;
 use std::alloc::{AllocError, Global};
 use walk_model::WrittenRoute;
 
-/// Nudged lines, in the order of their edges, and the solutions of both phases, each in the order of its bundles.
+/// Nudged lines, in the order of their edges, and the solutions of both phases, each in the order
+/// of its bundles.
 #[derive(Debug, Drop)]
 pub struct Nudged {
     pub x_solutions: Vec<Solution>,
@@ -26,12 +27,12 @@ pub struct Nudged {
     pub routes: Vec<WrittenRoute>,
 }
 
-/// Both phases: phase x moves the vertical runs of the raw routes, phase y the horizontal runs of its result, and then
-/// the lines are written. Its only error is want of memory.
+/// Both phases: phase x moves the vertical runs of the raw routes, phase y the horizontal runs of
+/// its result, and then the lines are written. The only error is out of memory.
 ///
-/// The raw routes are in the order of their edges, which differ. The walk of each is legal, its ports lie on its end
-/// runs, and all its runs have some length. There are at most 850,000,000 runs of each way, and the wanted nudge is
-/// from 0 to 1,000,000 thousandths.
+/// The raw routes are in the order of their edges, which differ. The walk of each is legal, its
+/// ports lie on its end runs, and all its runs have some length. There are at most 850,000,000 runs
+/// of each way, and the wanted nudge is from 0 to 1,000,000 thousandths.
 pub fn nudge_routes(
     alloc: Global,
     solids: &[Solid],

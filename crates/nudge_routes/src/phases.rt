@@ -15,19 +15,19 @@ use plane_geom::{Solid, Way};
 use separation_solve::Solution;
 use std::alloc::{AllocError, Global};
 
-/// What a phase makes of its routes, and the solutions of its bundles in their order.
+/// The routes after a phase, and the solutions of its bundles in their order.
 #[derive(Debug, Drop)]
 pub struct Moved {
     pub routes: Vec<PhaseRoute>,
     pub solutions: Vec<Solution>,
 }
 
-/// One phase: the runs of the way go to their least positions, rounded down, and the corners follow. Its only error is
-/// want of memory.
+/// One phase: the runs of the way go to their least positions, rounded down, and the corners
+/// follow. The only error is out of memory.
 ///
-/// The routes are in the order of their edges, which differ. All else is asked for by `channel_bundles::bundles`: there
-/// are at most 850,000,000 runs of the way, the wanted nudge is from 0 to 1,000,000 thousandths, and each movable run
-/// may stand where it stands.
+/// The routes are in the order of their edges, which differ. All other conditions are those of
+/// `channel_bundles::bundles`: there are at most 850,000,000 runs of the way, the wanted nudge is
+/// from 0 to 1,000,000 thousandths, and each movable run may stay at its coordinate.
 pub fn phase(
     alloc: Global,
     solids: &[Solid],

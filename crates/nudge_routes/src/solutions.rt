@@ -8,7 +8,8 @@ use channel_bundles::RunBundle;
 use separation_solve::{Bundle, Solution, solve, widest_gap};
 use std::alloc::{AllocError, Global};
 
-/// The least positions of the bundle for its widest gap, with what shows them to be least.
+/// The least positions of the bundle for its widest gap, with the multipliers that show them to be
+/// least.
 fn settle(alloc: Global, bundle: &Bundle) -> Result<Solution, AllocError>
     requires { IsBundle bundle.now }
     ensures { IfOk result (IsSolutionOf bundle.now) }

@@ -1,3 +1,3 @@
--- Bundles made of plain numbers, and what is looked at before bundles are asked for.
+-- Bundles made of plain numbers, and the conditions that are checked before bundles are computed.
 pub mod Small
 pub mod Phases

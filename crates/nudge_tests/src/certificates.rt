@@ -1,5 +1,5 @@
-//! Widest gaps, latest positions and multipliers that were worked by hand, roundings on both sides of 0, and each law
-//! once.
+//! Widest gaps, latest positions and multipliers that were worked by hand, roundings on both sides
+//! of 0, and each law once.
 ghost use Rattle.std.specs.Prelude.{pos, IfOk};
 ghost use Rattle.separation_model.specs.Bundle.{IsBundle, IsGapUpTo};
 
@@ -12,7 +12,7 @@ use separation_model::{
 use std::alloc::{AllocError, Global};
 use std::test::Fail;
 
-/// Two items that want to stand at 0 and may go left by so much.
+/// Two items wanted at 0, which may go left by `below`.
 fn two(alloc: Global, below: u16, spaced: bool, wanted: u16) -> Result<Bundle, AllocError>
     ensures { IfOk result IsBundle }
 {
@@ -65,7 +65,7 @@ fn finds_the_latest_positions(rt: HostRuntime) -> Result<(), Fail> {
     Ok(())
 }
 
-/// The item's coordinate, where the solution is accepted and has the item.
+/// The item's coordinate, if the solution is accepted and has the item.
 fn rounded(bundle: &Bundle, solution: &Solution, item: usize) -> Option<i64>
     requires { IsBundle bundle.now }
 {
@@ -86,7 +86,7 @@ fn rounded_halves(alloc: Global, bundle: &Bundle, item: usize) -> Result<Option<
     Ok(rounded(bundle, &halves, item))
 }
 
-/// Where the item stands in a bundle whose items want to stand at one place and go apart.
+/// The coordinate of the item in a bundle whose items are wanted at one place and have to be apart.
 fn rounded_apart(alloc: Global, item: usize) -> Result<Option<i64>, AllocError> {
     let far = small_item(0, 30000, 0, false);
     let right = small_item(0, 0, 30000, false);
@@ -104,8 +104,8 @@ fn rounds_down(rt: HostRuntime) -> Result<(), Fail> {
 /// An item by its want, how far it may go left and right, and whether it is heavy.
 type Plain = (i16, u16, u16, bool);
 
-/// Two items, the wanted gap, which is the solution's, its denominator and places, its multipliers of the rule and of
-/// the upper limits, and whether it is accepted.
+/// Two items, the wanted gap, which is also the solution's, its denominator and places, its
+/// multipliers of the rule and of the upper limits, and whether it is accepted.
 type Verified = (Plain, Plain, u16, u64, [i128; 2], i128, [i128; 2], bool);
 
 const EDGE: Plain = (-24000, 40000, 0, false);
@@ -151,7 +151,7 @@ fn accepts(alloc: Global, bundle: &Bundle, row: &Verified) -> Result<bool, Alloc
     Ok(verify(bundle, &solution))
 }
 
-/// Whether the row's solution is accepted, where its items are in order.
+/// Whether the row's solution is accepted, if its items are in order.
 fn accepts_row(alloc: Global, row: &Verified) -> Result<Option<bool>, AllocError> {
     let left = small_item(row.0.0, row.0.1, row.0.2, row.0.3);
     let right = small_item(row.1.0, row.1.1, row.1.2, row.1.3);

@@ -8,8 +8,8 @@ use std::test::Fail;
 /// The edge of a route, the index of one of its runs, and its corners by their coordinates.
 type Drawn = (u32, usize, [(i64, i64); 5]);
 
-/// Routes whose second run lies on one line, or whose third one does where the route comes from the other side, in
-/// their order on it: by coordinate, then by where they come from and go to, then by edge.
+/// Routes whose second run is on one line, or whose third one is if the route comes from the other
+/// side, in their order on it: by coordinate, then by where they come from and go to, then by edge.
 const HORIZONTAL: [Drawn; 11] = [
     (8, 1, [(0, -30), (0, 0), (100, 0), (100, -50), (50, -50)]),
     (9, 1, [(0, -30), (0, 0), (100, 0), (100, -50), (200, -50)]),
@@ -72,7 +72,7 @@ fn order_between(alloc: Global, a: &Drawn, b: &Drawn) -> Result<Option<Ordering>
     order_to(alloc, a_runs.as_slice(), a.1, b)
 }
 
-/// Whether each run stands where its line does.
+/// Whether each run comes in the order of its line.
 fn are_in_order(alloc: Global, lines: &[Drawn]) -> Result<bool, AllocError> {
     for (i, a) in lines.iter().enumerate() {
         for (j, b) in lines.iter().enumerate() {
@@ -91,7 +91,7 @@ fn orders_routes_on_a_line(rt: HostRuntime) -> Result<(), Fail> {
     Ok(())
 }
 
-/// A run without length in the place of the second one, with this heading.
+/// A run without length in place of the second one, with this heading.
 fn with_empty(edge: u32, heading: Dir) -> [Run; 3] {
     let before = Run {
         edge,
@@ -125,12 +125,12 @@ fn corners_with_empty(alloc: Global, edge: u32) -> Result<Vec<Run>, AllocError> 
     runs_of(alloc, edge, &corners)
 }
 
-/// Whether the runs are those of three corners of which two are one, but for the second one.
+/// Whether the runs, except the second one, are those of three corners of which two are equal.
 fn are_beside_empty(runs: &[Run], eastward: &[Run]) -> bool {
     runs.len() == 3 && runs.first() == eastward.first() && runs.last() == eastward.last()
 }
 
-/// Of a run without length its heading says which way its rays go.
+/// The heading of a run without length decides in which direction its rays go.
 #[test]
 fn heading_orders_runs_without_length(rt: HostRuntime) -> Result<(), Fail> {
     let (eastward, westward) = (with_empty(1, Dir::East), with_empty(2, Dir::West));
@@ -160,7 +160,7 @@ fn stair(alloc: Global) -> Result<Vec<Point>, AllocError> {
     Ok(points)
 }
 
-/// How many runs the corners make, and the last one.
+/// The number of runs that the corners make, and the last one.
 fn last_run(alloc: Global, points: &[Point]) -> Result<Option<(usize, Run)>, AllocError> {
     if points.len() != 100_000 {
         return Ok(None);
@@ -169,7 +169,7 @@ fn last_run(alloc: Global, points: &[Point]) -> Result<Option<(usize, Run)>, All
     Ok(runs.last().map(|last| (runs.len(), *last)))
 }
 
-/// A stair of many corners has as many runs, less one; each leads from its corner to the next.
+/// A stair of many corners has one run fewer than corners; each leads from its corner to the next.
 #[test]
 fn runs_along_many_corners(rt: HostRuntime) -> Result<(), Fail> {
     let points = stair(rt.alloc())?;

@@ -45,8 +45,8 @@ fn solids(alloc: Global, blocks: &[Block]) -> Result<Vec<Solid>, AllocError> {
     blocks.iter().map(|b| solid(*b)).collect(alloc)
 }
 
-/// The run of the edge, with its number, that goes from one point to the other. Where both are one, the row says
-/// whereto.
+/// The run of the edge, with its number, from one point to the other. If both are equal, the row
+/// gives the heading.
 fn run(edge: u32, place: u32, heading: Dir, from: Point, to: Point) -> Run {
     let way = heading.way();
     let (start, end) = (from.along(way), to.along(way));
@@ -161,7 +161,7 @@ fn are_ruled(rules: &[Rule], wanted: &[Ruled]) -> bool {
             .all(|(rule, want)| is_ruled(rule, want))
 }
 
-/// Whether the bundle has exactly these runs and rules, and asks for the gap.
+/// Whether the bundle has exactly these runs and rules, and wants the gap.
 fn is_as_wanted(found: &RunBundle, wanted: &Wanted, nudge: i64) -> bool {
     let Wanted(items, rules) = wanted;
     found.bundle.wanted == nudge
@@ -221,13 +221,13 @@ fn stands_between(
     stands_with_routes(rt, alloc, row, way, solids, &mut routes)
 }
 
-/// Whether the bundles of the row are as they have to be, of the runs of the way.
+/// Whether the bundles of the row, of the runs of the way, are as expected.
 fn row_stands(rt: &impl Abort, alloc: Global, row: &Row, way: Way) -> Result<bool, AllocError> {
     let solids = solids(alloc, row.solids)?;
     stands_between(rt, alloc, row, way, solids.as_slice())
 }
 
-/// Asserts that the bundles of each row are as they have to be, of either way.
+/// Asserts that the bundles of each row, of either way, are as expected.
 fn walk(rt: &impl Abort, alloc: Global, rows: &[Row]) -> Result<(), Fail> {
     for (place, row) in rows.iter().enumerate() {
         for way in [Way::Vertical, Way::Horizontal] {

@@ -7,8 +7,8 @@ ghost use Rattle.nudge_tests.specs.Small.{first_before_second};
 use separation_model::{Bundle, Item, Rule, Solution};
 use std::alloc::{AllocError, Global};
 
-/// An item that wants to stand at `want` and may go left by `below` and right by `above`, all in thousandths of a GML
-/// unit. It weighs 3 where it is heavy, and else 1.
+/// An item that is wanted at `want` and may go left by `below` and right by `above`, all in
+/// thousandths of a GML unit. Its weight is 3 if it is heavy, and otherwise 1.
 pub(crate) fn small_item(want: i16, below: u16, above: u16, heavy: bool) -> Item
     ensures want { result.want ≡ want }
     ensures lo { result.lo ≡ want -ℤ pos below }
@@ -25,10 +25,11 @@ pub(crate) fn small_item(want: i16, below: u16, above: u16, heavy: bool) -> Item
     }
 }
 
-/// Two items, the rule that the left one stays before the right one, and the wanted gap in thousandths of a GML unit.
+/// Two items, the rule that the left one stays before the right one, and the wanted gap in
+/// thousandths of a GML unit.
 ///
-/// Both items are as `Item` says, and the right one wants to stand at the left one's want or to the right of it. The
-/// rule asks for the gap where it is spaced. The only error is want of memory.
+/// Both items are as described at `Item`, and the right one's want is at least that of the left
+/// one. The rule asks for the gap if it is spaced. The only error is out of memory.
 pub(crate) fn small_bundle(
     alloc: Global,
     left: Item,
@@ -60,8 +61,9 @@ pub(crate) fn small_bundle(
 
 /// Two positions over one denominator, with the multipliers of the rule and of the limits.
 ///
-/// The gap is in thousandths of a GML unit, and each item stands at its number of `places` over `den` thousandths. Any
-/// numbers may be handed in: `verify` tells whether they solve a bundle. The only error is want of memory.
+/// The gap is in thousandths of a GML unit, and each item is at its number of `places` over `den`
+/// thousandths. Any numbers are accepted: `verify` decides whether they solve a bundle. The only
+/// error is out of memory.
 pub(crate) fn small_solution(
     alloc: Global,
     gap: i64,

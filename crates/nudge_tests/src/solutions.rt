@@ -1,4 +1,5 @@
-//! Least positions that were worked by hand, with all multipliers, and those of rows of items alike.
+//! Least positions that were worked by hand, with all multipliers, and those of rows of equal
+//! items.
 ghost use Rattle.std.specs.Prelude.{◌≤◌, pos, ◌≤ℤ◌, IfOk, All};
 ghost use Rattle.separation_solve.specs.Start.{IsForward};
 ghost use Rattle.separation_model.specs.Bundle.{IsBundle, IsItem};
@@ -19,8 +20,9 @@ fn solved(alloc: Global, bundle: &Bundle) -> Result<Solution, AllocError>
 /// An item by its want, how far it may go left and right, and whether it is heavy.
 type Plain = (i16, u16, u16, bool);
 
-/// Two items, whether they are spaced, and the wanted gap; then the gap, the denominator and places, and the multipliers
-/// of the rule and of the upper limits. Those of the lower limits are 0.
+/// Two items, whether they are spaced, and the wanted gap; then the gap, the denominator and
+/// places, and the multipliers of the rule and of the upper limits. Those of the lower limits are
+/// 0.
 type Solved = (
     Plain,
     Plain,
@@ -154,7 +156,7 @@ fn solves_between_limits(rt: HostRuntime) -> Result<(), Fail> {
     Ok(())
 }
 
-/// Rules from each of so many items to the next, all spaced.
+/// Rules from each item to the next, all spaced.
 fn chain(alloc: Global, count: u32) -> Result<Vec<Rule>, AllocError>
     ensures { IfOk result (λ rules. All (IsForward count) rules.items) }
 {
@@ -169,7 +171,7 @@ fn chain(alloc: Global, count: u32) -> Result<Vec<Rule>, AllocError>
     Ok(rules)
 }
 
-/// So many items like this one, each two in turn apart.
+/// `count` items like this one, with a spaced rule from each to the next.
 fn row(alloc: Global, item: Item, count: u32, wanted: i64) -> Result<Bundle, AllocError>
     requires item { IsItem item }
     requires count { count ≤ 1000 }
@@ -214,7 +216,7 @@ fn solves_a_row(rt: HostRuntime) -> Result<(), Fail> {
     Ok(())
 }
 
-/// Whether the solution is that of a thousand items round 0.
+/// Whether the solution is that of a thousand items around 0.
 fn is_of_thousand(solution: &Solution) -> bool {
     solution.gap == 60
         && solution.den.iter().all(|den| *den == 1)

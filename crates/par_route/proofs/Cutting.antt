@@ -16,7 +16,7 @@ pub record IsPieceAt (tasks count place : ℕ) (p : Piece) : Type 0 where
   pub len : length p.tasks.now ≡ piece_length tasks count place
   pub idle : p.tally ≡ 0
 
--- the first pieces are cut, and the rest is to be cut into as many as are wanting
+-- the first pieces are cut, and the rest is to be cut into the remaining number of pieces
 pub record AreCutSoFar (all rest : List Task) (count done : ℕ) (pieces : List Piece) : Type 0 where
   pub small : length all % count ≤ count
   pub within : done ≤ count
@@ -25,7 +25,7 @@ pub record AreCutSoFar (all rest : List Task) (count done : ℕ) (pieces : List 
   pub left : length rest ≡ (count - done) * (length all / count) + (length all % count - done)
   pub each : (i : ℕ) (d : Piece) → i < done → IsPieceAt (length all) count i (get_or pieces i d)
 
--- the one task more of a longer piece
+-- the one additional task of a longer piece
 abbrev longer : ℕ → ℕ → ℕ
 longer place extra = if nat_lt place extra then 1 else 0
 
@@ -45,7 +45,7 @@ mod_small n (suc k) none = omega (arith, mod-lt n {m = suc k} (omega arith))
 product_more : (k q : ℕ) → (k + 1) * q ≡ q + k * q
 product_more k q = omega arith
 
--- what is left is the next piece and what is left behind it
+-- what is left is the next piece and what is left after it
 left_more : (n count place : ℕ) → place < count →
     (count - place) * (n / count) + (n % count - place) ≡ piece_length n count place + ((count - (place + 1)) * (n / count) + (n % count - (place + 1)))
 left_more n count place lt =

@@ -3,7 +3,7 @@ use Rattle.std.proofs.Common.{ℕ, ◌≡◌, ◌+◌, ◌<◌, List, [], ◌∷
 use Rattle.std.specs.List.{All, AllZip}
 use Rattle.std.proofs.lemmas.List.{length-append, take_more, get_or_append_left, get_or-append-add}
 
--- two pairs of lists, one behind the other
+-- two pairs of lists, one after the other
 pub zip_append : {X Y : Type 0} (R : X → Y → Type 0) (xs : List X) (ys : List Y) (us : List X) (vs : List Y) → AllZip R xs ys → AllZip R us vs → AllZip R (xs ++ us) (ys ++ vs)
 zip_append R [] [] us vs front back = back
 zip_append R [] (y ∷ ys) us vs front back = absurd front

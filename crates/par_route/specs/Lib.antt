@@ -1,3 +1,3 @@
--- How searches go side by side.
+-- Searches that run side by side.
 pub mod Pieces
 pub mod Routes

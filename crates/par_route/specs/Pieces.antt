@@ -1,4 +1,4 @@
--- How tasks are cut into pieces, and what comes of each. No public clause cites this module.
+-- How tasks are cut into pieces, and the result of each. No public clause cites this module.
 use Rattle.std.specs.Prelude.{◌≡◌, ℕ, ◌+◌, ◌/◌, ◌%◌, ◌<◌, ◌≤◌, List, [], Result, Ok, Err, Option, if◌then◌else◌, nat_lt, length, slice_index_or}
 use Rattle.std.specs.List.{flat_map}
 use Rattle.std.specs.declared.alloc.AllocError.{AllocError}
@@ -14,11 +14,11 @@ use Rattle.par_route.specs.Routes.{AreAnswers}
 abbrev pub all_tasks : List Piece → List Task
 all_tasks pieces = flat_map (λ p. p.tasks.now) pieces
 
--- how many of the tasks the piece with this place, from 0, of `count` pieces has
+-- the number of tasks in the piece with this place, from 0, of `count` pieces
 abbrev pub piece_length : ℕ → ℕ → ℕ → ℕ
 piece_length tasks count place = tasks / count + (if nat_lt place (tasks % count) then 1 else 0)
 
--- the tasks are cut in order, into so many pieces with numbers from 1; longer pieces come first, by one task at most
+-- the tasks are cut in order, into `many` pieces with numbers from 1; longer pieces come first, by one task at most
 pub record AreCut (all : List Task) (many : ℕ) (pieces : List Piece) : Type 0 where
   pub count : length pieces ≡ many
   pub tasks : all_tasks pieces ≡ all
@@ -32,7 +32,7 @@ pub record IsSearched (solids : List Solid) (piece : Piece) (searched : Searched
   pub answers : AreAnswers solids piece.tasks.now searched.answers.items
   pub tally : searched.tally ≡ counted_by (length piece.tasks.now) piece.tally
 
--- what a piece answers, and how often it searched, where memory sufficed
+-- the result of a piece and the number of its searches, unless out of memory
 abbrev pub answers_in : Result Searched AllocError → List (Option Route)
 answers_in (Ok s) = s.answers.items
 answers_in (Err e) = []

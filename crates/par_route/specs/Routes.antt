@@ -9,7 +9,7 @@ use Rattle.walk_model.specs.declared.task.Task.{Task}
 use Rattle.walk_model.specs.declared.route.Route.{Route}
 use Rattle.walk_model.specs.Answers.{IsAnswer}
 
--- the task may be searched on the arena beside the solids
+-- the task may be searched on the arena with the solids
 abbrev pub MayBeSearched : Arena → List Solid → Task → Type 0
 MayBeSearched arena solids task = (floor : Floor) × IsProblem floor arena solids task
 
@@ -17,7 +17,7 @@ MayBeSearched arena solids task = (floor : Floor) × IsProblem floor arena solid
 abbrev pub AreAnswers : List Solid → List Task → List (Option Route) → Type 0
 AreAnswers solids tasks answers = AllZip (IsAnswer solids) tasks answers
 
--- two lists of right answers of the tasks are one
+-- any two lists of right answers of the tasks are equal
 abbrev pub HaveOneList : Type 0
 HaveOneList =
     (solids : List Solid) (tasks : List Task) (these those : List (Option Route))

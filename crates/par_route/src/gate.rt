@@ -1,14 +1,14 @@
-//! What each piece passes before it searches.
+//! The gate that each piece passes before it searches.
 
-/// What each piece of the tasks passes once, before its first search.
+/// A gate that each piece of the tasks passes once, before its first search.
 ///
-/// A gate may hold a piece up, as a test does to see that another one is under way.
+/// A gate may delay a piece; a test does so to see that another piece runs at the same time.
 pub trait Gate: Sync {
-    /// Lets the piece with this number, from 1, pass.
+    /// Returns when the piece with this number, from 1, may pass.
     fn pass(&self, piece: u32);
 }
 
-/// The gate that holds no piece up.
+/// The gate that delays no piece.
 #[derive(Clone, Copy, Debug)]
 pub struct OpenGate;
 

@@ -1,4 +1,4 @@
-//! Pieces of the tasks, each of which is searched in one go.
+//! Pieces of the list of tasks, each searched by one thread.
 ghost use Rattle.std.specs.Prelude.{◌≡◌, ◌<◌, ◌≤◌, All, IfOk, OnErr, OnOk, IsOk, length, min};
 ghost use Rattle.std.specs.List.{flat_map, sum_by};
 ghost use Rattle.line_arena.specs.Count.{counted_by};
@@ -12,7 +12,7 @@ use route_search::{Finder, Tally};
 use std::alloc::{AllocError, Global};
 use walk_model::{Route, Task};
 
-/// Tasks that stand in a row, with the piece's number from 1 and a tally of its own.
+/// Consecutive tasks, with the number of their piece, from 1, and a tally of its own.
 #[derive(Drop)]
 pub(crate) struct Piece<'a> {
     pub number: u32,
@@ -20,14 +20,15 @@ pub(crate) struct Piece<'a> {
     pub tally: Tally,
 }
 
-/// The answers of a piece, and how often it searched.
+/// The answers of a piece, and the number of its searches.
 #[derive(Drop)]
 pub(crate) struct Searched {
     pub answers: Vec<Option<Route>>,
     pub tally: Tally,
 }
 
-/// How many of so many tasks the piece has before which so many of the `count` pieces stand.
+/// The number of tasks in the piece after the first `before` of `count` pieces, where there are
+/// `tasks` tasks in all.
 fn piece_len(tasks: usize, count: usize, before: usize) -> usize
     requires { before < count }
     ensures { result ≡ piece_length tasks count before }
@@ -36,7 +37,7 @@ fn piece_len(tasks: usize, count: usize, before: usize) -> usize
     tasks / count + usize::from(longer)
 }
 
-/// The tasks in as many pieces as the lesser of `workers` and their number.
+/// The tasks, cut into `workers` pieces, or one piece for each task if there are fewer tasks.
 pub(crate) fn cut<'a>(
     alloc: Global,
     tasks: &'a [Task],
@@ -63,7 +64,7 @@ pub(crate) fn cut<'a>(
 }
 
 impl<'a> Piece<'a> {
-    /// Searches for each task of the piece, once the gate has let it pass.
+    /// Searches for each task of the piece, after the gate has let it pass.
     pub(crate) fn search<G: Gate>(
         self,
         alloc: Global,
@@ -89,7 +90,7 @@ impl<'a> Piece<'a> {
     }
 }
 
-/// The answers of all pieces, in order, with all tallies joined to this one.
+/// The answers of all pieces, in order; all their tallies are joined to this one.
 pub(crate) fn join(
     alloc: Global,
     pieces: Vec<Result<Searched, AllocError>>,

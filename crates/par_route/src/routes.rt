@@ -16,7 +16,8 @@ use walk_model::{Route, Task};
 
 /// The right answers of the tasks, in order, by at most `workers` searches side by side.
 ///
-/// The tally rises by the number of tasks. The only error is want of memory, where it stays.
+/// The tally rises by the number of tasks. The only error is out of memory, which leaves the tally
+/// as it was.
 pub fn route_all<R: Threads + Sync, G: Gate>(
     rt: &R,
     alloc: Global,
@@ -46,7 +47,8 @@ pub fn route_all<R: Threads + Sync, G: Gate>(
     join(alloc, searched, tally)
 }
 
-/// The law that tasks have one list of right answers: so whatever `workers` is, the answer is that of one worker.
+/// The law that tasks have exactly one list of right answers, so that the result does not depend on
+/// `workers`.
 pub fn one_list()
     ensures { HaveOneList }
 {}

@@ -1,4 +1,5 @@
-//! Gates that count pieces and hold them, for tests. What they tell no clause says, since atomics have none.
+//! Gates for tests that count and delay pieces. No clause says what they report, since atomics have
+//! no clauses.
 
 use crate::gate::Gate;
 use std::sync::atomic::{AtomicBool, AtomicU32, Ordering};
@@ -11,7 +12,7 @@ pub struct CountGate {
 }
 
 impl CountGate {
-    /// A gate that no piece has passed.
+    /// A gate that no piece has passed yet.
     pub fn new() -> CountGate {
         CountGate {
             pieces: AtomicU32::new(0),
@@ -19,12 +20,12 @@ impl CountGate {
         }
     }
 
-    /// How many pieces have passed.
+    /// The number of pieces that have passed.
     pub fn pieces(&self) -> u32 {
         self.pieces.load(Ordering::SeqCst)
     }
 
-    /// The sum of their numbers.
+    /// The sum of the numbers of the pieces that have passed.
     pub fn numbers(&self) -> u32 {
         self.numbers.load(Ordering::SeqCst)
     }
@@ -37,10 +38,10 @@ impl Gate for CountGate {
     }
 }
 
-// For how many turns piece 1 is held at most.
+// The greatest number of turns for which piece 1 is delayed.
 const MOST_TURNS: u32 = 100_000_000;
 
-/// Holds piece 1 until piece 2 has passed, for at most 10^8 turns.
+/// Delays piece 1 until piece 2 has passed, for at most 10^8 turns.
 #[derive(Drop)]
 pub struct HoldGate {
     second: AtomicBool,
@@ -48,7 +49,7 @@ pub struct HoldGate {
 }
 
 impl HoldGate {
-    /// A gate that no piece has passed.
+    /// A gate that no piece has passed yet.
     pub fn new() -> HoldGate {
         HoldGate {
             second: AtomicBool::new(false),
@@ -56,7 +57,7 @@ impl HoldGate {
         }
     }
 
-    /// Whether piece 2 passed while piece 1 was held.
+    /// Whether piece 2 passed while piece 1 was delayed.
     pub fn has_seen_both(&self) -> bool {
         self.seen.load(Ordering::SeqCst)
     }

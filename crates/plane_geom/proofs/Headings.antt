@@ -18,7 +18,7 @@ not_less a b h = grind (arith, ints)
 pub same_point : (p q : Point) → p.x ≡ q.x → p.y ≡ q.y → p ≡ q
 same_point p q x y = ap (λ (a : ℤ). record { x = a; y = p.y }) x ∙ ap (λ (b : ℤ). record { x = q.x; y = b }) y
 
--- a straight segment leads from the one point to the other
+-- a straight segment leads from the first point to the second
 pub straight_end : (p q : Point) → IsStraight p q → forward (heading p q) (distance p q) p ≡ q
 straight_end p q (inl x) = by_lt_z p.y q.y
     (λ l. rw (not_less p.x q.x (omega (arith, ints)), not_less q.x p.x (omega (arith, ints)), less _ _ l) (same_point _ q x (omega (arith, ints))))

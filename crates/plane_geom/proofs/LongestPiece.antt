@@ -47,7 +47,7 @@ barred_meets r Horizontal at lo hi o m =
     let y = overlap_ends r.top r.bottom at at m.y in
     (record { low = omega (arith, ints, clamps, y.2); high = omega (arith, ints, clamps, y.1); some = x.0 }, omega (arith, ints, clamps, x.1), omega (arith, ints, clamps, x.2))
 
--- where it comes from the one side and goes on to the other, up to the nearest rectangles that bar it
+-- the low end and the high end of the piece, at the nearest rectangles that bar it
 record LowEnd (way : Way) (at z : ℤ) (solids : List Solid) (a : ℤ) : Type 0 where
   coordinate : negsuc 1999999999 ≤ℤ a
   within : a ≤ℤ z

@@ -13,7 +13,7 @@ coordinate_fits z h = omega (arith, ints, h.low, h.high)
 -- what opens the bits of a coordinate
 pub ruleset signed = (ints, to_z-of_z, coordinate_fits)
 
--- what a failed test says
+-- the consequence of a failed test
 pub not_below : {a b : ℤ} → lt_z a b ≡ false → b ≤ℤ a
 not_below {a} {b} h = grind (arith, ints)
 

@@ -11,7 +11,7 @@ use Rattle.plane_geom.specs.Point.{IsCoordinate, PointIsOnSheet}
 use Rattle.plane_geom.specs.Along.{across}
 use Rattle.plane_geom.specs.Rect.{RectIsOnSheet, Meets}
 
--- the point of a whole line, which runs this way at this coordinate, that stands at z along it
+-- the point at z on the whole line of this way at this coordinate
 abbrev pub point_on : Way → ℤ → ℤ → Point
 point_on Vertical at z = record { x = at; y = z }
 point_on Horizontal at z = record { x = z; y = at }
@@ -30,7 +30,7 @@ pub record Holds (l : Line) (p : Point) : Type 0 where
   pub to : along ≤ℤ l.hi
   pub here : p ≡ point_on l.way l.at along
 
--- the two lines are pieces of one whole line
+-- the two lines are pieces of the same whole line
 pub record AreOnOneWholeLine (l m : Line) : Type 0 where
   pub way : l.way ≡ m.way
   pub at : l.at ≡ m.at
@@ -48,7 +48,7 @@ pub record IsLongestFreePiece (floor : Floor) (l : Line) : Type 0 where
   pub piece : IsFreePiece floor l
   pub longest : (m : Line) → IsFreePiece floor m → AreOnOneWholeLine l m → m.lo ≤ℤ l.lo → l.hi ≤ℤ m.hi → m ≡ l
 
--- the whole line at the coordinate has a closed side of the rectangle on it, from the one number to the other
+-- the whole line at the coordinate has a closed side of the rectangle on it, from the first number to the second
 abbrev pub SideOn : Rect → Way → ℤ → ℤ → ℤ → Type 0
 SideOn r Vertical at lo hi = ((r.left ≡ at) ⊎ (r.right ≡ at)) × (r.top ≡ lo) × (r.bottom ≡ hi)
 SideOn r Horizontal at lo hi = ((r.top ≡ at) ⊎ (r.bottom ≡ at)) × (r.left ≡ lo) × (r.right ≡ hi)
@@ -79,7 +79,7 @@ pub record IsSolid (s : Solid) : Type 0 where
   pub wide : s.rect.left <ℤ s.rect.right
   pub high : s.rect.top <ℤ s.rect.bottom
 
--- the coordinates at which the two sides of the rectangle run that lie this way
+-- the coordinates of the two sides of the rectangle that lie this way
 abbrev pub first_side : Way → Rect → ℤ
 first_side Vertical r = r.left
 first_side Horizontal r = r.top
@@ -88,13 +88,13 @@ abbrev pub last_side : Way → Rect → ℤ
 last_side Vertical r = r.right
 last_side Horizontal r = r.bottom
 
--- among the coordinates are those of all sides that lie this way, and those across of all anchors
+-- the coordinates include those of all sides that lie this way, and those across of all anchors
 pub record HasCoordinates (floor : Floor) (way : Way) (coordinates : List ℤ) : Type 0 where
   pub first_sides : All (λ s. Contains coordinates (first_side way s.rect)) floor.solids
   pub last_sides : All (λ s. Contains coordinates (last_side way s.rect)) floor.solids
   pub anchors : All (λ p. Contains coordinates (across way p)) floor.anchors
 
--- a floor that a call may be handed: on the sheet, with at most 256 solids, and with lines at no more than 1280 coordinates each way
+-- a floor that calls accept: on the sheet, with at most 256 solids, and with lines at no more than 1280 coordinates each way
 pub record IsFloor (floor : Floor) : Type 0 where
   pub solids : All IsSolid floor.solids
   pub anchors : All PointIsOnSheet floor.anchors

@@ -1,10 +1,10 @@
--- Points, directions and the sheet on which all is drawn.
+-- Points, directions and the sheet on which everything is drawn.
 use Rattle.std.specs.Prelude.{◌≡◌, Bool, not, ◌&&◌, ℕ, ◌+◌, ◌⊎◌, ℤ, pos, negsuc, ◌+ℤ◌, ◌-ℤ◌, ◌≤ℤ◌, unsigned_abs, int_lt, if◌then◌else◌}
 use Rattle.plane_geom.specs.declared.point.Point.{Point}
 use Rattle.plane_geom.specs.declared.point.Dir.{Dir}
 use Rattle.plane_geom.specs.declared.point.Dir.TheVariants.{East, South, West, North}
 
--- the least coordinate of the sheet on which all is drawn
+-- the least coordinate of the sheet on which everything is drawn
 abbrev pub sheet_start : ℤ
 sheet_start = negsuc 1999999999
 
@@ -37,14 +37,14 @@ opposite South = North
 opposite West = East
 opposite North = South
 
--- the point n unit steps on
+-- the point n unit steps away in the direction
 abbrev pub forward : Dir → ℕ → Point → Point
 forward East n p = record { x = p.x +ℤ pos n; y = p.y }
 forward South n p = record { x = p.x; y = p.y +ℤ pos n }
 forward West n p = record { x = p.x -ℤ pos n; y = p.y }
 forward North n p = record { x = p.x; y = p.y -ℤ pos n }
 
--- how many unit steps lead from one point to the other
+-- the number of unit steps from one point to the other
 abbrev pub distance : Point → Point → ℕ
 distance a b = unsigned_abs (a.x -ℤ b.x) + unsigned_abs (a.y -ℤ b.y)
 

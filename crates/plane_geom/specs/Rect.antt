@@ -73,7 +73,7 @@ pub record IsNearestPoint (r : Rect) (p nearest : Point) : Type 0 where
   pub x : IsOnTheWay r.left p.x r.right nearest.x
   pub y : IsOnTheWay r.top p.y r.bottom nearest.y
 
--- a way from the one point through the closed rectangle to the other has this length, and none is shorter
+-- a way from one point through the closed rectangle to the other has this length, and none is shorter
 pub record IsLeastThrough (r : Rect) (a b : Point) (length : ℤ) : Type 0 where
   pub through : Point
   pub within : HasWithin r through

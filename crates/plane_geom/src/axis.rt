@@ -1,11 +1,12 @@
-//! The two ways of lines behind one trait.
+//! The two ways of lines, vertical and horizontal, under one trait.
 ghost use Rattle.std.specs.Prelude.{◌≡◌};
 
 use crate::point::{Point, Way};
 
-/// One of the two ways of lines, so that what is done for the one is written once for both.
+/// One of the two ways of lines, so that code for both is written once.
 ///
-/// Of a line, `across` is the coordinate at which it runs, and `along` goes from its one end to the other.
+/// For a line, `across` is the coordinate at which it runs, and `along` is the coordinate that
+/// varies from one end to the other.
 pub trait Axis {
     ghost use Rattle.std.specs.Prelude.{◌≡◌, ℤ};
     ghost use Rattle.plane_geom.specs.declared.point.Point.{Point};
@@ -26,11 +27,11 @@ pub trait Axis {
     fn way() -> Way
         ensures { result ≡ way_of };
 
-    /// The coordinate at which a line runs through the point.
+    /// The coordinate `across` of the line through the point.
     fn across(p: Point) -> i64
         ensures { result ≡ across_of p };
 
-    /// Where on that line the point stands.
+    /// The coordinate `along` of the point on that line.
     fn along(p: Point) -> i64
         ensures { result ≡ along_of p };
 
@@ -38,25 +39,25 @@ pub trait Axis {
     fn point(across: i64, along: i64) -> Point
         ensures { result ≡ point_of across along };
 
-    /// The coordinates are those of the way.
+    /// The coordinates are those that the way defines.
     ghost across_by_way: { (p : Point) → across_of p ≡ across way_of p };
 
     ghost along_by_way: { (p : Point) → along_of p ≡ along way_of p };
 
     ghost point_by_way: { (a b : ℤ) → point_of a b ≡ point_on way_of a b };
 
-    /// A point is that of its own coordinates.
+    /// The point with the coordinates of a point is that point.
     ghost point_again: { (p : Point) → point_of (across_of p) (along_of p) ≡ p };
 
     ghost across_again: { (a b : ℤ) → across_of (point_of a b) ≡ a };
 
     ghost along_again: { (a b : ℤ) → along_of (point_of a b) ≡ b };
 
-    /// To exchange the two coordinates twice changes nothing.
+    /// Exchanging the two coordinates twice changes nothing.
     ghost swapped_twice: { (p : Point) →
         let swapped = λ (q : Point). point_of (along_of q) (across_of q) in swapped (swapped p) ≡ p };
 
-    /// To exchange the two coordinates keeps lengths.
+    /// Exchanging the two coordinates keeps distances.
     ghost swapped_lengths: { (p q : Point) →
         distance (point_of (along_of p) (across_of p)) (point_of (along_of q) (across_of q)) ≡ distance p q };
 }

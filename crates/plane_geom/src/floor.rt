@@ -10,7 +10,7 @@ use crate::list::{Points, Solids};
 use crate::point::Way;
 use std::alloc::{AllocError, Global};
 
-/// A piece of a whole vertical or horizontal line, which runs at the coordinate `at` from `lo` to `hi`.
+/// A piece of a whole vertical or horizontal line, at the coordinate `at`, from `lo` to `hi`.
 ///
 /// In thousandths of a GML unit. `lo` is at most `hi`; where both are equal, it is a single point.
 #[derive(Clone, Copy, Debug, PartialEq, Eq, Hash)]
@@ -22,7 +22,8 @@ pub struct Line {
 }
 
 impl Line {
-    /// Whether the line stands before the other one: vertical lines first, then by coordinate, then by begin.
+    /// Whether the line comes before the other one: vertical lines first, then by coordinate, then
+    /// by begin.
     pub fn stands_before(&self, other: &Line) -> bool
         ensures { result ≡ stands_before self.now other.now }
     {
@@ -33,7 +34,7 @@ impl Line {
         }
     }
 
-    /// Whether the lines are one.
+    /// Whether the two lines are equal.
     pub fn is_same(&self, other: &Line) -> bool
         ensures { IsTrue result ↔ (self.now ≡ other.now) }
     {
@@ -41,8 +42,8 @@ impl Line {
     }
 }
 
-/// What the lines of a visibility graph are drawn on: the solids, and as anchors the ports of all pins
-/// of all nodes and the checkpoints of all connectors.
+/// The input of a visibility graph: the solids, and as anchors the ports of all pins of all nodes
+/// and the checkpoints of all connectors.
 #[derive(Debug, Drop)]
 pub struct Floor {
     pub solids: Solids,
@@ -52,7 +53,7 @@ pub struct Floor {
 impl Floor {
     ghost use Rattle.std.specs.Prelude.{◌≡◌, IfOk};
 
-    /// The same floor once more. Its only error is want of memory.
+    /// A copy of the floor. The only error is out of memory.
     pub fn copy(&self, alloc: Global) -> Result<Floor, AllocError>
         ensures { IfOk result (λ f. f ≡ self.now) }
     {
@@ -63,7 +64,7 @@ impl Floor {
     }
 }
 
-/// Two kept lines of one whole line that share a point are one line.
+/// Two kept lines of one whole line that share a point are equal.
 pub fn kept_lines_apart()
     ensures { (floor : Floor) (l m : Line) (p : Point) → IsKept floor l → IsKept floor m →
         AreOnOneWholeLine l m → Holds l p → Holds m p → l ≡ m }

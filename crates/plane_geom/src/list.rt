@@ -1,4 +1,4 @@
-//! Lists of points and of solids, which contracts see as lists.
+//! Lists of points and of solids, which are plain lists in contracts.
 ghost use Rattle.std.specs.Prelude.{◌≡◌, IfOk};
 
 use crate::point::Point;
@@ -27,7 +27,7 @@ impl Points {
         &self.0
     }
 
-    /// The same points once more. Its only error is want of memory.
+    /// A copy of the points. The only error is out of memory.
     pub fn copy(&self, alloc: Global) -> Result<Points, AllocError>
         ensures { IfOk result (λ p. p ≡ self.now) }
     {
@@ -56,7 +56,7 @@ impl Solids {
         &self.0
     }
 
-    /// The same solids once more. Its only error is want of memory.
+    /// A copy of the solids. The only error is out of memory.
     pub fn copy(&self, alloc: Global) -> Result<Solids, AllocError>
         ensures { IfOk result (λ s. s ≡ self.now) }
     {

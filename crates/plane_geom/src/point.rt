@@ -8,7 +8,7 @@ pub const SHEET_START: i64 = -2_000_000_000;
 /// The greatest coordinate of the sheet.
 pub const SHEET_END: i64 = 2_000_000_000;
 
-/// Whether the number is a coordinate of the sheet.
+/// Whether `z` is a coordinate of the sheet.
 pub fn is_coordinate(z: i64) -> bool
     ensures test { result ≡ is_coordinate z }
     ensures meaning { IsTrue result ↔ IsCoordinate z }
@@ -32,7 +32,7 @@ pub enum Dir {
     North,
 }
 
-/// How a straight line runs.
+/// The way of a straight line: vertical or horizontal.
 #[derive(Clone, Copy, Debug, PartialEq, Eq, PartialOrd, Ord, Hash)]
 pub enum Way {
     Vertical,
@@ -43,7 +43,7 @@ impl Dir {
     ghost use Rattle.plane_geom.specs.Along.{way_of};
     ghost use Rattle.plane_geom.specs.Point.{opposite};
 
-    /// The direction back.
+    /// The opposite direction.
     pub fn opposite(self) -> Dir
         ensures { result ≡ opposite self }
     {
@@ -55,7 +55,7 @@ impl Dir {
         }
     }
 
-    /// The way of the lines along which one travels in the direction.
+    /// The way of the lines along which one travels in this direction.
     pub fn way(self) -> Way
         ensures { result ≡ way_of self }
     {
@@ -77,7 +77,7 @@ impl Point {
         is_coordinate(self.x) && is_coordinate(self.y)
     }
 
-    /// The sum of the distances across and along: how many unit steps lead to the other point.
+    /// The sum of the distances along both axes: the number of unit steps to the other point.
     ///
     /// Both points lie on the sheet.
     pub fn distance(self, other: Point) -> u64
@@ -88,7 +88,8 @@ impl Point {
         self.x.abs_diff(other.x) + self.y.abs_diff(other.y)
     }
 
-    /// The direction in which the straight segment to the other point runs, and North where both are one point.
+    /// The direction of the straight segment to the other point, and North if the two points are
+    /// equal.
     pub fn heading(self, other: Point) -> Dir
         ensures heading { result ≡ heading self other }
         ensures leads { IsStraight self other → forward (heading self other) (distance self other) self ≡ other }
@@ -104,7 +105,8 @@ impl Point {
         }
     }
 
-    /// The coordinate at which a line of this way runs through the point: x of a vertical one, y of a horizontal one.
+    /// The coordinate of the line of this way through the point: x for a vertical line, y for a
+    /// horizontal one.
     pub fn across(self, way: Way) -> i64
         ensures { result ≡ across way self }
     {
@@ -114,7 +116,7 @@ impl Point {
         }
     }
 
-    /// Where the point stands on that line: y on a vertical one, x on a horizontal one.
+    /// The position of the point on that line: y on a vertical line, x on a horizontal one.
     pub fn along(self, way: Way) -> i64
         ensures { result ≡ along way self }
     {
@@ -124,7 +126,7 @@ impl Point {
         }
     }
 
-    /// The point so many unit steps on. Both points lie on the sheet.
+    /// The point `steps` unit steps away in the direction. Both points lie on the sheet.
     pub fn forward(self, dir: Dir, steps: u64) -> Point
         requires within { PointIsOnSheet self }
         requires ends_within { PointIsOnSheet (forward dir steps self) }

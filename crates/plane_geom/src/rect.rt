@@ -10,7 +10,8 @@ use crate::point::Point;
 
 /// A rectangle with sides along the axes, in thousandths of a GML unit.
 ///
-/// `left` is the lesser x and `top` the lesser y; where a side is not less than the one across, it is empty.
+/// `left` is the lesser x and `top` the lesser y; the rectangle is empty where `left` is not less
+/// than `right`, or `top` not less than `bottom`.
 #[derive(Clone, Copy, Debug, PartialEq, Eq, Hash)]
 pub struct Rect {
     pub left: i64,
@@ -19,7 +20,8 @@ pub struct Rect {
     pub bottom: i64,
 }
 
-/// The open inside of a node's buffered box, which no route may enter but by a stub of that node.
+/// The open inside of a node's buffered box, which no route may enter except by a stub of that
+/// node.
 #[derive(Clone, Copy, Debug, PartialEq, Eq, Hash)]
 pub struct Solid {
     pub node: i64,
@@ -30,7 +32,8 @@ impl Rect {
     ghost use Rattle.plane_geom.specs.Rect.{HasInside, IsLeastThrough, IsNearestPoint, RectIsOnSheet, Meets, grown};
     ghost use Rattle.plane_geom.specs.Point.{IsStraight, PointIsOnSheet};
 
-    /// The rectangle with each side moved out by `by` thousandths. Both rectangles lie on the sheet.
+    /// The rectangle with each side moved out by `by` thousandths. Both rectangles lie on the
+    /// sheet.
     pub fn grow(&self, by: i64) -> Rect
         requires within { RectIsOnSheet self.now }
         requires grown_within { RectIsOnSheet (grown self.now by) }
@@ -63,10 +66,11 @@ impl Rect {
         is_between(left, p.x, right) && is_between(top, p.y, bottom)
     }
 
-    /// The least length of a way from `a` to `b` through a point of the closed rectangle, in thousandths.
+    /// The least length of a way from `a` to `b` that passes through a point of the closed
+    /// rectangle, in thousandths.
     ///
-    /// The point of the rectangle that is nearest to `a` is on such a way. All lie on the sheet, and the rectangle
-    /// has a point: `left` is at most `right` and `top` at most `bottom`.
+    /// The point of the rectangle that is nearest to `a` is on such a way. All lie on the sheet,
+    /// and the rectangle has a point: `left` is at most `right` and `top` at most `bottom`.
     pub fn l1_through(&self, a: Point, b: Point) -> i64
         requires within { RectIsOnSheet self.now }
         requires from_within { PointIsOnSheet a }
@@ -102,7 +106,7 @@ impl Rect {
 
     /// Whether the closed straight segment from `a` to `b` has a point inside the open rectangle.
     ///
-    /// To walk along a side meets nothing, and neither does any segment where the rectangle is empty.
+    /// A walk along a side meets nothing, and neither does any segment if the rectangle is empty.
     /// All lie on the sheet, and the segment is vertical, horizontal or a single point.
     pub fn meets(&self, a: Point, b: Point) -> bool
         requires within { RectIsOnSheet self.now }
@@ -114,7 +118,8 @@ impl Rect {
         self.overlaps_area(a, b)
     }
 
-    /// Whether the closed rectangle with the corners `a` and `b` has a point inside the open rectangle.
+    /// Whether the closed rectangle with the corners `a` and `b` has a point inside the open
+    /// rectangle.
     pub fn overlaps_area(&self, a: Point, b: Point) -> bool
         ensures { IsTrue result ↔ Meets self.now a b }
     {
@@ -134,7 +139,8 @@ pub fn meets_by_steps()
         Meets r p (forward d n p) ↔ SomeStepMeets r p d n }
 {}
 
-/// The number from `low` to `high` that is nearest to `z`. It is on the way from `z` to each other of them.
+/// The number from `low` to `high` that is nearest to `z`. It is between `z` and every other number
+/// from `low` to `high`.
 fn nearest(low: i64, z: i64, high: i64) -> i64
     requires { low ≤ℤ high }
     ensures { IsOnTheWay low z high result }
@@ -142,7 +148,7 @@ fn nearest(low: i64, z: i64, high: i64) -> i64
     z.max(low).min(high)
 }
 
-/// Whether the number is above the one and below the other.
+/// Whether `z` is greater than `low` and less than `high`.
 fn is_between(low: i64, z: i64, high: i64) -> bool
     ensures { IsTrue result ↔ (low <ℤ z) × (z <ℤ high) }
 {

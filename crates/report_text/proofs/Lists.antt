@@ -1,8 +1,8 @@
--- Texts of the elements of a list, one behind the other.
+-- Texts of the elements of a list, one after the other.
 use Rattle.std.proofs.Common.{◌≡◌, ℕ, suc, ◌+◌, ◌<◌, List, ◌++◌, length, drop, get_or, sym, ap, ◌∙◌, append_assoc, add-one, drop-cons}
 use Rattle.std.specs.List.{flat_map}
 
--- what is told so far and what is left are the whole, also one element on
+-- what is written so far and what is left are the whole, also one element further on
 pub told_on : {X : Type 0} (f : X → List ℕ) (whole out new : List ℕ) (xs : List X) (i : ℕ) (d : X) → i < length xs → out ++ flat_map f (drop i xs) ≡ whole → new ≡ out ++ f (get_or xs i d)
     → new ++ flat_map f (drop (i + 1) xs) ≡ whole
 told_on f whole out new xs i d within told told_more =

@@ -1,4 +1,4 @@
--- What is said of a diagram that is refused.
+-- The texts for a diagram that is refused.
 use Rattle.std.specs.Prelude.{ℕ, List, [], ◌++◌, codes, decimal}
 use Rattle.gml_text.specs.declared.fault.GmlFault.{GmlFault}
 use Rattle.gml_text.specs.declared.fault.GmlFault.TheVariants as gml
@@ -16,18 +16,18 @@ part_text Edge = codes "edge"
 part_text Pin = codes "pin"
 part_text Via = codes "via"
 
--- a part with its place; there is one router, and its place is not told
+-- a part with its place; there is only one router, so its place is not printed
 abbrev pub place_text : Part → ℕ → List ℕ
 place_text Router place = part_text Router
 place_text part place = part_text part ++ codes " " ++ decimal place
 
--- why bytes are no document; that memory is wanting is not told
+-- why bytes are not valid GML; out of memory is not printed
 abbrev pub gml_fault_text : GmlFault → List ℕ
 gml_fault_text (gml.Syntax at) = codes "Syntax at " ++ decimal at
 gml_fault_text (gml.TooDeep at) = codes "TooDeep at " ++ decimal at
 gml_fault_text gml.Memory = []
 
--- why a document is no diagram, or why an edge of it has no line that can be read
+-- why a document is not a valid diagram, or why a line of an edge cannot be read
 abbrev pub fault_text : DiagramFault → List ℕ
 fault_text NoGraph = codes "NoGraph"
 fault_text (BadId place) = codes "BadId " ++ place_text Node place
@@ -42,7 +42,7 @@ fault_text (BadVia place) = codes "BadVia " ++ place_text Edge place
 fault_text (BadWeight place) = codes "BadWeight " ++ place_text Edge place
 fault_text Memory = []
 
--- the line of bytes that are no document, and that of a document that is no diagram
+-- the line for bytes that are not valid GML, and the line for a document that is not a valid diagram
 abbrev pub gml_fault_line : GmlFault → List ℕ
 gml_fault_line fault = line (codes "diagram: " ++ gml_fault_text fault)
 

@@ -1,8 +1,8 @@
--- What is said where nothing is read of a diagram.
+-- The lines for runs that read nothing of a diagram.
 use Rattle.std.specs.Prelude.{ℕ, List, ◌++◌, codes, decimal}
 use Rattle.report_text.specs.Lines.{line}
 
--- the words are of no form
+-- the line for arguments that are not valid
 abbrev pub words_line : List ℕ
 words_line = line (codes "words: not understood")
 
@@ -10,6 +10,6 @@ words_line = line (codes "words: not understood")
 abbrev pub read_fault_line : List ℕ → List ℕ
 read_fault_line name = line (codes "read fault: " ++ name)
 
--- the file with this name has more bytes than are read
+-- the file with this name has more bytes than the limit
 abbrev pub too_long_line : List ℕ → ℕ → List ℕ
 too_long_line name limit = line (codes "too long: " ++ name ++ codes " limit " ++ decimal limit)

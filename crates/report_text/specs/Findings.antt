@@ -1,4 +1,4 @@
--- What is said of the line that a diagram draws for an edge.
+-- The line for the check of an edge.
 use Rattle.std.specs.Prelude.{ℕ, List, ◌++◌, Result, Ok, Err, codes, decimal}
 use Rattle.std.specs.List.{flat_map}
 use Rattle.std.specs.Fmt.{signed_decimal}
@@ -19,13 +19,13 @@ verdict_text (Err EndOff) = codes "EndOff"
 verdict_text (Err (Hits segment node)) = codes "Hits " ++ decimal segment ++ codes " node " ++ signed_decimal node
 verdict_text (Err (MissesVia place)) = codes "MissesVia " ++ decimal place
 
--- what is found of an edge
+-- the result of checking an edge
 abbrev pub finding_text : Finding → List ℕ
 finding_text Loop = codes "loop"
 finding_text NoLine = codes "no line"
 finding_text (Judged verdict) = verdict_text verdict
 
--- the line of an edge, and those of many in order
+-- the line of an edge, and the lines of many in order
 abbrev pub finding_line : EdgeFinding → List ℕ
 finding_line f = line (codes "edge " ++ decimal f.edge ++ codes ": " ++ finding_text f.finding)
 

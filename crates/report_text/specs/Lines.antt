@@ -1,6 +1,6 @@
 -- The lines of an output.
 use Rattle.std.specs.Prelude.{ℕ, List, [], ◌∷◌, ◌++◌}
 
--- a text with what ends a line
+-- a text with the end of a line
 abbrev pub line : List ℕ → List ℕ
 line text = text ++ 10 ∷ []

@@ -8,7 +8,7 @@ use Rattle.scene_model.specs.declared.fault.SessionFault.TheVariants as session
 use Rattle.report_text.specs.declared.refusal.Refusal.{Refusal}
 use Rattle.report_text.specs.declared.refusal.Refusal.TheVariants.{Syntax, Command, Unfinished}
 
--- why an edit is refused; that memory is wanting is not told
+-- why an edit is refused; out of memory is not printed
 abbrev pub edit_text : SceneFault → List ℕ
 edit_text (scene.UnknownNode id) = codes "X4 UnknownNode " ++ signed_decimal id
 edit_text (scene.UnknownEdge number) = codes "X5 UnknownEdge " ++ decimal number

@@ -1,4 +1,4 @@
--- What the report of a replay says of the opening, of each command and of the end of the script.
+-- The lines in the report of a replay for the opening, for each command and for the end of the script.
 use Rattle.std.specs.Prelude.{ℕ, Bool, List, [], ◌++◌, codes, decimal, if◌then◌else◌}
 use Rattle.std.specs.List.{flat_map}
 use Rattle.report_text.specs.declared.refusal.Refusal.TheVariants.{Unfinished}
@@ -8,11 +8,11 @@ use Rattle.report_text.specs.declared.reply.LineReply.{LineReply}
 use Rattle.report_text.specs.Lines.{line}
 use Rattle.report_text.specs.Refusals.{refusal_text}
 
--- how many connectors are searched at the opening, where searches are told
+-- the number of connectors that are searched at the opening, if `count` asks for it
 abbrev pub open_line : Bool → ℕ → List ℕ
 open_line count searched = if count then line (codes "# open: searched " ++ decimal searched) else []
 
--- of a command that is kept nothing is said but how many connectors it searched, where that is told
+-- the line of a command: none if it searched nothing, the number of connectors that it searched if `count` asks for it, or its refusal
 abbrev pub reply_text : Bool → ℕ → Reply → List ℕ
 reply_text count number Kept = []
 reply_text count number (Searched searched) =

@@ -1,4 +1,4 @@
--- What the report of a replay says of the route of an edge.
+-- The lines in the report of a replay for the routes of the edges.
 use Rattle.std.specs.Prelude.{ℕ, List, ◌++◌, codes, decimal}
 use Rattle.std.specs.List.{flat_map}
 use Rattle.fixed_milli.specs.Milli.{size_text}
@@ -13,7 +13,7 @@ routed_text Loop = codes "loop"
 routed_text NoRoute = codes "no route"
 routed_text (Cost cost) = codes "cost " ++ size_text cost
 
--- the line of an edge, and those of many in order
+-- the line of an edge, and the lines of many in order
 abbrev pub routed_line : EdgeRouted → List ℕ
 routed_line r = line (codes "# edge " ++ decimal r.edge ++ codes ": " ++ routed_text r.routed)
 

@@ -1,4 +1,4 @@
-//! The lines of diagrams that are refused.
+//! The lines for input that is refused.
 ghost use Rattle.std.specs.Prelude.{◌≡◌, ◌++◌, OnOk};
 ghost use Rattle.report_text.specs.Faults.{fault_line, fault_text, gml_fault_line, gml_fault_text, part_text, place_text};
 
@@ -7,7 +7,7 @@ use diagram_read::{DiagramFault, Part};
 use gml_text::GmlFault;
 use std::alloc::AllocError;
 
-/// Appends the line of bytes that are no document.
+/// Appends the line for bytes that are not valid GML.
 pub fn push_gml_fault_line(out: &mut Vec<u8>, fault: &GmlFault) -> Result<(), AllocError>
     ensures { OnOk result (out.new.items ≡ out.old.items ++ gml_fault_line fault.now) }
 {
@@ -27,7 +27,8 @@ fn push_gml_fault(out: &mut Vec<u8>, fault: &GmlFault) -> Result<(), AllocError>
     }
 }
 
-/// Appends the line of a document that is no diagram, or of a line in it that cannot be read.
+/// Appends the line for a document that is not a valid diagram, or that has a line which cannot be
+/// read.
 pub fn push_fault_line(out: &mut Vec<u8>, fault: &DiagramFault) -> Result<(), AllocError>
     ensures { OnOk result (out.new.items ≡ out.old.items ++ fault_line fault.now) }
 {
@@ -59,7 +60,7 @@ fn push_fault(out: &mut Vec<u8>, fault: &DiagramFault) -> Result<(), AllocError>
     }
 }
 
-/// Appends a text and a part with its place behind it.
+/// Appends a text, followed by a part with its place.
 fn push_placed(out: &mut Vec<u8>, text: &[u8], part: Part, place: u32) -> Result<(), AllocError>
     ensures { OnOk result (out.new.items ≡ out.old.items ++ (text.now ++ place_text part place)) }
 {

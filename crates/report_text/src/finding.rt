@@ -1,4 +1,4 @@
-//! What is found of the line that a diagram draws for an edge.
+//! The result of checking the line that a diagram has for an edge.
 ghost use Rattle.std.specs.Prelude.{◌≡◌, ◌++◌, OnOk, Err};
 ghost use Rattle.route_check.specs.declared.verdict.Breach.TheVariants.{Hits};
 ghost use Rattle.report_text.specs.Findings.{finding_line, finding_lines, finding_text, verdict_text};
@@ -7,10 +7,10 @@ use crate::number::{push_cost, push_numbered, push_signed};
 use route_check::Breach;
 use std::alloc::AllocError;
 
-/// What is found of the line that a diagram draws for an edge.
+/// The result of checking the line that a diagram has for an edge.
 #[derive(Clone, Copy, Debug, PartialEq, Eq)]
 pub enum Finding {
-    /// The edge leads from a node to itself, and its line is not looked at.
+    /// The edge leads from a node to itself, and its line is not checked.
     Loop,
     /// The edge has no line.
     NoLine,
@@ -18,7 +18,7 @@ pub enum Finding {
     Judged(Result<u64, Breach>),
 }
 
-/// What is found of the edge with this number.
+/// The result for the edge with this number.
 #[derive(Clone, Copy, Debug, PartialEq, Eq)]
 pub struct EdgeFinding {
     pub edge: u32,

@@ -1,8 +1,8 @@
 //! The lines of outputs, each appended to a text.
 //!
-//! Costs are whole thousandths of a GML unit, and are written in units with three digits behind the point.
-//! Each call appends its line, or lines, to `out`. Its only error is want of memory; `out` then has what it had and
-//! perhaps a part of the line behind it.
+//! Costs are whole thousandths of a GML unit, and are written in units with three digits after the
+//! decimal point. Each call appends its line, or lines, to `out`. The only error is out of memory;
+//! `out` then has its former contents, perhaps followed by a part of the line.
 #![tactic(auto)]
 
 mod fault;

@@ -14,7 +14,7 @@ pub(crate) fn push_number(out: &mut Vec<u8>, number: u64) -> Result<(), AllocErr
     out.extend_from_slice(buffer.format(number).as_bytes())
 }
 
-/// Appends a number with its sign, where that is a minus.
+/// Appends a number, with a minus sign if it is negative.
 pub(crate) fn push_signed(out: &mut Vec<u8>, number: i64) -> Result<(), AllocError>
     ensures { OnOk result (out.new.items ≡ out.old.items ++ signed_decimal number) }
 {
@@ -35,7 +35,7 @@ fn push_three_digits(out: &mut Vec<u8>, number: u64) -> Result<(), AllocError>
     out.extend_from_slice(&digits)
 }
 
-/// Appends so many thousandths in units, with three digits behind the point.
+/// Appends `size` thousandths in units, with three digits after the decimal point.
 fn push_milli(out: &mut Vec<u8>, size: u64) -> Result<(), AllocError>
     ensures { OnOk result (out.new.items ≡ out.old.items ++ size_text size) }
 {
@@ -44,7 +44,7 @@ fn push_milli(out: &mut Vec<u8>, size: u64) -> Result<(), AllocError>
     push_three_digits(out, size % 1000)
 }
 
-/// Appends a text and the digits of a number behind it.
+/// Appends a text, followed by the digits of a number.
 pub(crate) fn push_numbered(out: &mut Vec<u8>, text: &[u8], number: u64) -> Result<(), AllocError>
     ensures { OnOk result (out.new.items ≡ out.old.items ++ (text.now ++ decimal number)) }
 {

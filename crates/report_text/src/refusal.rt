@@ -10,7 +10,7 @@ use std::alloc::AllocError;
 /// Why a line of a script, or its end, is refused.
 #[derive(Clone, Copy, Debug, PartialEq, Eq)]
 pub enum Refusal {
-    /// The line has no form.
+    /// The line is not a valid command.
     Syntax,
     /// The command or its edit is refused.
     Command(SessionFault),
@@ -61,14 +61,14 @@ fn push_edit(out: &mut Vec<u8>, fault: &SceneFault) -> Result<(), AllocError>
     }
 }
 
-/// Appends a text and a value behind it.
+/// Appends a text, followed by a value.
 fn push_with(out: &mut Vec<u8>, text: &[u8], value: u32) -> Result<(), AllocError>
     ensures { OnOk result (out.new.items ≡ out.old.items ++ (text.now ++ decimal value)) }
 {
     push_numbered(out, text, u64::from(value))
 }
 
-/// Appends a text and an id behind it.
+/// Appends a text, followed by an id.
 fn push_with_id(out: &mut Vec<u8>, text: &[u8], id: &i64) -> Result<(), AllocError>
     ensures { OnOk result (out.new.items ≡ out.old.items ++ (text.now ++ signed_decimal id.now)) }
 {

@@ -1,4 +1,5 @@
-//! What the report of a replay says of the opening, of each command and of the end of the script.
+//! The lines in the report of a replay for the opening, for each command and for the end of the
+//! script.
 ghost use Rattle.std.specs.Prelude.{◌≡◌, ◌++◌, OnOk, true};
 ghost use Rattle.report_text.specs.Replies.{end_line, open_line, reply_lines, reply_text};
 
@@ -6,25 +7,26 @@ use crate::number::push_numbered;
 use crate::refusal::{Refusal, push_refusal};
 use std::alloc::AllocError;
 
-/// What comes of a command.
+/// The result of a command.
 #[derive(Clone, Copy, Debug, PartialEq, Eq)]
 pub enum Reply {
-    /// It is done, and searches nothing.
+    /// It succeeded, and searched nothing.
     Kept,
-    /// It is a commit, an undo or a redo, is done, and searched so many connectors.
+    /// It was a commit, an undo or a redo, succeeded, and searched this number of connectors.
     Searched(u64),
-    /// It is refused.
+    /// It was refused.
     Refused(Refusal),
 }
 
-/// What comes of the command on this line of the script, counted from 1.
+/// The result of the command on this line of the script, counted from 1.
 #[derive(Clone, Copy, Debug, PartialEq, Eq)]
 pub struct LineReply {
     pub line: u64,
     pub reply: Reply,
 }
 
-/// Appends the line of the opening, which searched so many connectors; only where searches are told.
+/// Appends the line of the opening, which searched `searched` connectors, if `count` asks for the
+/// numbers of searches.
 pub fn push_open_line(out: &mut Vec<u8>, count: bool, searched: u64) -> Result<(), AllocError>
     ensures { OnOk result (out.new.items ≡ out.old.items ++ open_line count searched) }
 {
@@ -36,7 +38,7 @@ pub fn push_open_line(out: &mut Vec<u8>, count: bool, searched: u64) -> Result<(
     Ok(())
 }
 
-/// Appends the lines of commands: of those that are refused, and where searches are told of those that searched.
+/// Appends the lines of the commands that were refused and, if `count`, of those that searched.
 pub fn push_reply_lines(
     out: &mut Vec<u8>,
     count: bool,
@@ -80,7 +82,7 @@ fn push_refused(out: &mut Vec<u8>, line: u64, why: &Refusal) -> Result<(), Alloc
     Ok(())
 }
 
-/// Appends the line of a transaction that is still open at the end of the script, if one is.
+/// Appends the line for a transaction that is still open at the end of the script, if there is one.
 pub fn push_end_line(out: &mut Vec<u8>, open_still: bool) -> Result<(), AllocError>
     ensures { OnOk result (out.new.items ≡ out.old.items ++ end_line open_still) }
 {

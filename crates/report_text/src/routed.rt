@@ -1,22 +1,22 @@
-//! What the report of a replay says of the routes at its end.
+//! The lines in the report of a replay for the routes at its end.
 ghost use Rattle.std.specs.Prelude.{◌≡◌, ◌++◌, OnOk};
 ghost use Rattle.report_text.specs.Routed.{routed_line, routed_lines, routed_text};
 
 use crate::number::{push_cost, push_numbered};
 use std::alloc::AllocError;
 
-/// How an edge is routed.
+/// The route of an edge, as far as the report gives it.
 #[derive(Clone, Copy, Debug, PartialEq, Eq)]
 pub enum Routed {
     /// The edge leads from a node to itself, and has no route.
     Loop,
-    /// No walk is legal.
+    /// There is no legal walk.
     NoRoute,
     /// The cost of the first legal walk.
     Cost(u64),
 }
 
-/// How the edge with this number is routed.
+/// The route of the edge with this number, as far as the report gives it.
 #[derive(Clone, Copy, Debug, PartialEq, Eq)]
 pub struct EdgeRouted {
     pub edge: u32,

@@ -1,13 +1,13 @@
-//! The words after the program's name.
+//! The arguments after the program's name.
 
 use std::alloc::{AllocError, Global};
 use std::env::FillError;
 use std::rt::Env;
 
-/// How many bytes are tried first for a word. Where it has more, twice as many are tried next.
+/// The number of bytes that are tried first for an argument, doubled while it has more.
 const FIRST_SIZE: usize = 256;
 
-/// The word with this number, if there is one.
+/// The argument with this number, if there is one.
 fn word_at(rt: &impl Env, alloc: Global, number: usize) -> Result<Option<String>, AllocError> {
     let mut size = FIRST_SIZE;
     for _ in 0..usize::BITS {
@@ -25,10 +25,10 @@ fn word_at(rt: &impl Env, alloc: Global, number: usize) -> Result<Option<String>
     Err(AllocError)
 }
 
-/// All words after the program's name, in order.
+/// All arguments after the program's name, in order.
 ///
-/// A word that is not UTF-8 counts as an empty word, so that those behind it keep their places. Words
-/// may have any number of bytes. The only error is want of memory.
+/// An argument that is not UTF-8 counts as an empty one, so that those after it keep their places.
+/// Arguments may have any number of bytes. The only error is out of memory.
 pub(crate) fn all_words(rt: &impl Env, alloc: Global) -> Result<Vec<String>, AllocError> {
     let mut words = Vec::new(alloc);
     for number in 1..usize::MAX {
@@ -45,7 +45,8 @@ mod tests {
     use super::*;
     use std::test::Fail;
 
-    /// An environment in which this was typed, each word on a line and the program's name first.
+    /// An environment in which this was typed, one argument a line, beginning with the program's
+    /// name.
     #[derive(Drop)]
     struct Typed<'a> {
         lines: &'a [u8],
@@ -71,7 +72,7 @@ mod tests {
         }
     }
 
-    /// The words that are taken, each with a bar behind it.
+    /// The arguments that are read, each followed by a bar.
     fn taken(alloc: Global, lines: &[u8]) -> Result<String, AllocError> {
         let mut text = String::new(alloc);
         for word in &all_words(&Typed { lines }, alloc)? {

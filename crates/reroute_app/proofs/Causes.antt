@@ -166,7 +166,7 @@ no_last old new last same gains =
 gains_one : (old new : List Note) (n : Note) → new ≡ old ++ n ∷ [] → GainsLast old new n
 gains_one old new n noted = record { front = []; gained = noted }
 
--- what is gained behind a note is gained behind those before it
+-- what is added after a note is added after those before it
 gains_behind : (old middle new : List Note) (n last : Note) → middle ≡ old ++ n ∷ [] → GainsLast middle new last → GainsLast old new last
 gains_behind old middle new n last noted gains = record {
   front = n ∷ gains.front;
@@ -478,7 +478,7 @@ module _ (words : List (List ℕ)) (files : Option ToldFiles) (old new : List No
     only_make seed f same e status.WriteFault cause = absurd cause
     only_make seed f same e status.NoMemory cause = absurd cause
 
-    -- a cause that asks for a whole last read, or for words without files, is none of these
+    -- a cause that asks for a whole last read, or for arguments without files, is none of these
     unread : (s : Status) → HasFiles (form_of words) → (IsLastWhole old new → ⊥) → Cause s → (s ≡ status.ReadFault) ⊎ (s ≡ status.TooLong)
     unread status.Words has never cause = absurd (subst HasFiles cause has)
     unread status.ReadFault has never cause = inl refl

@@ -1,4 +1,4 @@
--- How many workers words ask for.
+-- The number of workers that arguments ask for.
 use Rattle.std.proofs.Common.{◌≡◌, ℕ, ◌≤◌, Bool, true, false, List, [], ◌∷◌, Option, Some, None, refl, sym, ap, subst, ◌∙◌, arith}
 use Rattle.std.specs.Prelude.{◌&&◌, IfSome, codes, bytes_eq, option_and_then, option_map, if◌then◌else◌}
 use Rattle.command_words.specs.declared.form.Form.{Form as Read}
@@ -71,10 +71,10 @@ form_crew : (words : List (List ℕ)) → IfSome (form_of words) HasCrew
 form_crew [] = tt
 form_crew (command ∷ words) = words_crew command words
 
--- words of a route ask for one to four
+-- arguments of a route ask for one to four
 pub crew_of : (words : List (List ℕ)) (diagram script : List ℕ) (workers : ℕ) (count : Bool) → Some (route diagram script workers count) ≡ form_of words → IsCrew workers
 crew_of words diagram script workers count is = subst (λ o. IfSome o HasCrew) (sym is) (form_crew words)
 
--- what was read is the form of the words
+-- what was read is the subcommand of the arguments
 pub told_form : (words : List (List ℕ)) (o : Option Read) (f form : Read) → o ≡ Some f → f ≡ form → option_map view o ≡ form_of words → Some (view form) ≡ form_of words
 told_form words o f form is same told = ap (option_map view) (sym (is ∙ ap (λ (r : Read). Some r) same)) ∙ told

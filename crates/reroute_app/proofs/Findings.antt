@@ -109,7 +109,7 @@ zipped_more R xs ys k x y at so_far here =
     let lt = at.within in
     rw (take_more xs k x lt, ← at.here) (AllZip-more R (take k xs) ys x y so_far here)
 
--- ---- faults that are handed on
+-- ---- faults that are passed
 
 fault_moves : (f : DiagramFault) (a b : Option DiagramFault) → ((g : DiagramFault) → a ≡ Some g → b ≡ Some g) → IsLineFault a f → IsLineFault b f
 fault_moves faults.NoGraph a b moves is = moves faults.NoGraph is
@@ -142,9 +142,9 @@ take-all (x ∷ xs) (suc k) long = ap (λ ys. x ∷ ys) (take-all xs k (omega (a
 pub all_found : {X Y : Type 0} (R : X → Y → Type 0) (xs : List X) (ys : List Y) (k : ℕ) → slice_get xs k ≡ None → AllZip R (take k xs) ys → AllZip R xs ys
 all_found R xs ys k none zipped = subst (λ zs. AllZip R zs ys) (take-all xs k (beyond xs k none)) zipped
 
--- ---- what is said
+-- ---- the outcome
 
--- what is found is what a check says
+-- what is found is the outcome of a check
 pub said : (tree : Pairs) (s : Scene) (fs : List EdgeFinding) (status : Status) (text : List ℕ) → AllZip (IsFinding tree s) s.edges fs → status ≡ status_of fs → text ≡ finding_lines fs
     → Checks tree s (unsearched status text)
 said tree s fs status text zipped is_status is_text =

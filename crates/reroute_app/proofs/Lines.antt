@@ -43,7 +43,7 @@ point_fits n pairs =
       y = coordinate_of (in_range y) on_y (there (OutOfRange part.Edge n) (option_and_then on_sheet (in_range y)) on_y c);
     })))
 
--- so many points on the sheet
+-- `count` points on the sheet
 record AreFit (count : ℕ) (points : List Point) : Type 0 where
   within : All PointIsOnSheet points
   counted : length points ≡ count

@@ -1,4 +1,4 @@
--- For given words, told files and notes there is one outcome.
+-- For given arguments, exposed files and notes there is one outcome.
 use Rattle.std.proofs.Common.{◌≡◌, ℕ, Bool, true, false, List, [], ◌∷◌, Option, Some, None, Result, Ok, Err, refl, sym, ap, ◌∙◌}
 use Rattle.std.specs.Prelude.{IsSome}
 use Rattle.std.specs.List.{AllZip}
@@ -79,7 +79,7 @@ module _ (replays : ComesToOne) (seeds : SeedsComeToOne) where
       let same = seeds seed p.text q.text p.searched q.searched p.makes q.makes in
       p.outcome ∙ (λ i. record { status = Done; text = same.0 i; searched = Some (same.1 i) }) ∙ sym q.outcome
 
-  -- the course of a form, where the files are told
+  -- the course of a subcommand, where the files are exposed
   pub course_form : (form : Option Form) (files : Option ToldFiles) → IsSome files → IsCourse (IsFormOutcome form files)
   course_form None files some = course_ends_with _
   course_form (Some (check diagram)) files some =

@@ -36,7 +36,7 @@ pub stops_as : (P Q : Outcome → Type 0) → ((o : Outcome) → P o → Q o) �
 stops_as P Q weaker (Ended made) is = weaker (view made) is
 stops_as P Q weaker Memory is = tt
 
--- the fault of bytes that are no document is what they are read with
+-- the fault of bytes that are not valid GML is that of their reading
 pub read_with : (bytes : List ℕ) (fault : GmlFault) (r : Result Doc GmlFault) → r ≡ Err fault → fault ≢ gml.Memory
     → ((at : ℕ) → r ≡ Err (gml.Syntax at) → IsSyntaxAt bytes at) → ((at : ℕ) → r ≡ Err (gml.TooDeep at) → IsTooDeepAt bytes at) → ParsesAs bytes (Err fault)
 read_with bytes (gml.Syntax at) r is told syntax too_deep = syntax at is
@@ -82,12 +82,12 @@ diagram_goes_on files name next old middle new o tree scene has later =
     goes_on has.bytes middle has.read
     (Ok tree, has.diagram.document, subst (λ (r : Result Scene DiagramFault). TakesScene (next tree) r middle new o) (sym has.diagram.is_scene) later)
 
--- what comes of what goes on comes of the whole
+-- the outcome of the continuation is the outcome of the whole
 pub comes_as : (P Q : Outcome → Type 0) → ((o : Outcome) → P o → Q o) → (r : Result Made Stop) → Comes P r → Comes Q r
 comes_as P Q weaker (Ok made) is = weaker (view made) is
 comes_as P Q weaker (Err s) is = stops_as P Q weaker s is
 
--- what a check of a diagram comes to
+-- the result of a check of a diagram
 pub checked : (files : Option ToldFiles) (name : List ℕ) (old new : List Note) (tree : Pairs) (scene : Scene) (r : Result Made Stop) → HasDiagram files name old new tree scene → Comes (Checks tree scene) r
     → Comes (IsFormOutcome (Some (check name)) files old new) r
 checked files name old new tree scene r has is =
@@ -102,20 +102,20 @@ module _ (files : Option ToldFiles) (diagram script : List ℕ) (workers : ℕ) 
   goes : (o : Outcome) → Goes tree scene middle new o → IsFormOutcome (Some (route diagram script workers count)) files old new o
   goes o later = diagram_goes_on files diagram Goes old middle new o tree scene has later
 
-  -- what a replay of the script's commands comes to
+  -- the result of a replay of the script's commands
   pub replayed : (list : List (ℕ × Command)) (r : Result Made Stop) → HasCommands files script middle new list → Comes (Replays tree scene list count) r
       → Comes (IsFormOutcome (Some (route diagram script workers count)) files old new) r
   replayed list r read is =
       comes_as (Replays tree scene list count) (IsFormOutcome (Some (route diagram script workers count)) files old new)
       (λ o said. goes o (goes_on read.bytes new read.read (refl, subst (λ (cs : List (ℕ × Command)). Replays tree scene cs count o) read.are_commands said))) r is
 
-  -- and what a script that is not read comes to
+  -- and the result for a script that is not read
   pub script_stops : (s : Stop) → StopsAt (ReadsFile files script most_script_bytes never middle new) s → StopsAt (IsFormOutcome (Some (route diagram script workers count)) files old new) s
   script_stops s is =
       stops_as (ReadsFile files script most_script_bytes never middle new) (IsFormOutcome (Some (route diagram script workers count)) files old new)
       (λ o stopped. goes o (file_ends files script most_script_bytes (λ bytes. Ends (Replays tree scene (commands bytes) count)) middle new o stopped)) s is
 
--- a stop that is handed on
+-- a stop that is passed
 pub stop_on : {T : Type 0} (P : Outcome → Type 0) (s : Stop) (r : Result T Stop) → StopsAt P s → IsErrAnd r (λ e. e ≡ s) → IfErr r (StopsAt P)
 stop_on P s (Ok x) is handed = tt
 stop_on P s (Err e) is handed = subst (StopsAt P) (sym handed) is
@@ -125,11 +125,11 @@ pub comes_on : (P : Outcome → Type 0) (s : Stop) (r : Result Made Stop) → St
 comes_on P s (Ok x) is handed = absurd handed
 comes_on P s (Err e) is handed = subst (StopsAt P) (sym handed) is
 
--- what a stopped read of a file comes to, where a diagram was asked for
+-- the result of a stopped read of a file, where a diagram was asked for
 pub file_stops : (files : Option ToldFiles) (name : List ℕ) (old new : List Note) (s : Stop) → StopsAt (ReadsFile files name most_bytes never old new) s → StopsAt (ReadsDiagram files name never_two old new) s
 file_stops files name old new s is = stops_as _ _ (file_ends files name most_bytes (TakesDiagram never_two) old new) s is
 
--- and what bytes that are no diagram come to
+-- and the result for bytes that are not a valid diagram
 pub bytes_stop : {T : Type 0} (files : Option ToldFiles) (name bytes : List ℕ) (old new : List Note) (r : Result T Stop) → HasRead files name most_bytes old new bytes
     → IfErr r (StopsAt (TakesDiagram never_two bytes new new)) → IfErr r (StopsAt (ReadsDiagram files name never_two old new))
 bytes_stop files name bytes old new (Ok x) read is = tt
@@ -140,7 +140,7 @@ answer_comes P (Ok m) made comes is = subst (λ (n : Made). P (view n)) (same_So
 answer_comes P (Err (Ended m)) made comes is = subst (λ (n : Made). P (view n)) (same_Some m made is) comes
 answer_comes P (Err Memory) made comes is = absurd (none-some made is)
 
--- what comes of the form comes of the words that have it
+-- the outcome of the subcommand is the outcome of the arguments that ask for it
 pub words_come : (words : List (List ℕ)) (form : Option Form) (files : Option ToldFiles) (old new : List Note) (r : Result Made Stop) (a : Result Made AllocError) → form ≡ form_of words
     → Comes (IsFormOutcome form files old new) r → IfOk a (λ o. answer_in r ≡ Some o) → IfOk a (λ o. IsOutcome words files old new (view o))
 words_come words form files old new r (Err e) same comes is = tt
@@ -152,7 +152,7 @@ pub none_in_order : (words : List (List ℕ)) (files : Option ToldFiles) (old : 
 none_in_order words files old = record { gained = []; grown = sym (append-nil old); in_order = tt; second = λ two. absurd (omega (arith, two)) }
 
 module _ (words : List (List ℕ)) (form : Option Form) (files : Option ToldFiles) (old new : List Note) (same : form ≡ form_of words) where
-  -- notes of the files that the form names are of those that the words name
+  -- notes of the files that the subcommand names are of those that the arguments name
   in_order : (gained : List Note) → new ≡ old ++ gained → AreNotesOf (files_of form) gained → (1 < length gained → ReadsFirstAsDiagram files (files_of form) old gained) → ReadsInOrder words files old new
   in_order gained grown are second = record {
     gained = gained;
@@ -168,11 +168,11 @@ module _ (words : List (List ℕ)) (form : Option Form) (files : Option ToldFile
       let n = note name most_bytes one.0 one.1 in
       in_order (n ∷ []) one.2 (first n refl refl) (λ two. absurd (omega (arith, two)))
 
--- the one note that was gained, if one was, is of the file that the words name
+-- the one note that was added, if one was, is of the file that the arguments name
 pub one_in_order : (words : List (List ℕ)) (files : Option ToldFiles) (name : List ℕ) (old new : List Note) → Some (check name) ≡ form_of words → NotesOne name most_bytes old new → ReadsInOrder words files old new
 one_in_order words files name old new same notes = alone words (Some (check name)) files old new same name (λ n named limited. (named, limited, tt)) notes
 
--- the notes that were gained, if they were, are of the diagram, and of the script behind a diagram
+-- the notes that were added, if there were any, are of the diagram, and of the script after a diagram
 pub two_in_order : (words : List (List ℕ)) (files : Option ToldFiles) (diagram script : List ℕ) (workers : ℕ) (count : Bool) (old new : List Note) → Some (route diagram script workers count) ≡ form_of words
     → NotesTwo files diagram script old new → ReadsInOrder words files old new
 two_in_order words files diagram script workers count old new same (of_diagram notes) =

@@ -20,7 +20,7 @@ use Rattle.reroute_app.specs.Diagram.{most_bytes, IsDiagram}
 use Rattle.reroute_app.specs.Check.{first_line_fault}
 use Rattle.reroute_app.specs.Replay.{most_script_bytes}
 
--- this is the last note that was gained
+-- this is the last note that was added
 pub record GainsLast (old new : List Note) (last : Note) : Type 0 where
   pub front : List Note
   pub gained : new ≡ old ++ (front ++ last ∷ [])
@@ -33,14 +33,14 @@ LastFailed old new = (last : Note) × GainsLast old new last × (last.failed ≡
 abbrev pub LastTookMore : List Note → List Note → Type 0
 LastTookMore old new = (last : Note) × GainsLast old new last × (last.failed ≡ false) × (last.limit < last.taken)
 
--- the diagram that the form names was read, and has these bytes
+-- the diagram that the arguments name was read, and has these bytes
 abbrev pub HasReadDiagram : Option Form → Option ToldFiles → List Note → List Note → List ℕ → Type 0
 HasReadDiagram None files old new bytes = ⊥
 HasReadDiagram (Some (check diagram)) files old new bytes = HasRead files diagram most_bytes old new bytes
 HasReadDiagram (Some (route diagram script workers count)) files old new bytes = HasRead files diagram most_bytes old new bytes
 HasReadDiagram (Some (make seed)) files old new bytes = ⊥
 
--- the bytes are no diagram
+-- the bytes are not a valid diagram
 abbrev pub IsNoDiagram : List ℕ → Type 0
 IsNoDiagram bytes = (tree : Pairs) (scene : Scene) → IsDiagram bytes tree scene → ⊥
 
@@ -51,7 +51,7 @@ pub record HasNoLine (bytes : List ℕ) : Type 0 where
   pub diagram : IsDiagram bytes tree scene
   pub fault : IsSome (first_line_fault tree scene.edges)
 
--- why the form refuses the bytes: a check asks for the lines too
+-- why the subcommand refuses the bytes: a check reads the lines too
 abbrev pub IsRefusedBy : Option Form → List ℕ → Type 0
 IsRefusedBy None bytes = ⊥
 IsRefusedBy (Some (check diagram)) bytes = IsNoDiagram bytes ⊎ HasNoLine bytes
@@ -99,7 +99,7 @@ pub record FindsLegalLines (words : List (List ℕ)) (files : Option ToldFiles) 
   pub found : FindsLines words files old new tree scene
   pub legal : All (HasNoBadLine tree scene) scene.edges
 
--- diagram and script were read, and this says whether a command of the script, or its end, is refused
+-- diagram and script were read, and `refused` says whether a command of the script, or its end, is refused
 pub record FindsReplay (words : List (List ℕ)) (files : Option ToldFiles) (old new : List Note) (refused : Bool) : Type 0 where
   pub diagram : List ℕ
   pub script : List ℕ
@@ -122,7 +122,7 @@ pub record FindsReplay (words : List (List ℕ)) (files : Option ToldFiles) (old
 abbrev pub FindsRefusal : List (List ℕ) → Option ToldFiles → List Note → List Note → Type 0
 FindsRefusal words files old new = FindsReplay words files old new true
 
--- nothing is found that another status tells of
+-- there is no cause for any other status
 pub data FindsNothing (words : List (List ℕ)) (files : Option ToldFiles) (old new : List Note) : Type 0 where
   lines_are_legal : FindsLegalLines words files old new → FindsNothing words files old new
   nothing_is_refused : FindsReplay words files old new false → FindsNothing words files old new

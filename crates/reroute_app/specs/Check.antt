@@ -1,4 +1,4 @@
--- What a check says of the edges of a diagram.
+-- The outcome of a check of a diagram.
 use Rattle.std.specs.Prelude.{◌≡◌, ℕ, Bool, true, false, if◌then◌else◌, List, [], ◌∷◌, Option, Some, None, Result, Ok, Err}
 use Rattle.std.specs.Option.{option_or}
 use Rattle.std.specs.Result.{result_err}
@@ -22,46 +22,46 @@ use Rattle.reroute_app.specs.declared.status.Status.{Status}
 use Rattle.reroute_app.specs.declared.status.Status.TheVariants.{Diagram, BadLine, Done}
 use Rattle.reroute_app.specs.Outcome.{Outcome, unsearched}
 
--- the fault of an edge's line, if it has one; of a loop no line is read
+-- the fault of an edge's line, if it has one; the line of a loop is not read
 abbrev pub line_fault : Pairs → Edge → Option DiagramFault
 line_fault tree e = if is_loop e then None else result_err (line_of tree e)
 
--- the first of these
+-- the first of these faults
 abbrev pub first_line_fault : Pairs → List Edge → Option DiagramFault
 first_line_fault tree [] = None
 first_line_fault tree (e ∷ es) = option_or (line_fault tree e) (first_line_fault tree es)
 
--- what is found of a line of a connector: the verdict on it, for the task that the connector asks, which may be judged
+-- the result for a line of a connector: the verdict on it, for the task of the connector, if it can be judged
 pub record IsJudged (s : Scene) (e : Edge) (points : List Point) (f : Finding) : Type 0 where
   pub verdict : Result ℕ Breach
   pub task : IsTask (task_of s e)
   pub is_verdict : IsVerdict (solids s) (task_of s e) points verdict
   pub finding : f ≡ Judged verdict
 
--- what is found of a connector whose line is read so
+-- the result for a connector with this reading of its line
 abbrev pub IsLineFinding : Scene → Edge → Result (Option (List Point)) DiagramFault → Finding → Type 0
 IsLineFinding s e (Ok None) finding = finding ≡ NoLine
 IsLineFinding s e (Ok (Some points)) finding = IsJudged s e points finding
 IsLineFinding s e (Err fault) finding = ⊥
 
--- what is found of an edge that is a loop or not, and whose line is read so
+-- the result for an edge that is a loop or not, and with this reading of its line
 abbrev pub IsFindingOf : Bool → Scene → Edge → Result (Option (List Point)) DiagramFault → Finding → Type 0
 IsFindingOf true s e line finding = finding ≡ Loop
 IsFindingOf false s e line finding = IsLineFinding s e line finding
 
--- what is found of an edge
+-- the result for an edge
 pub record IsFinding (tree : Pairs) (s : Scene) (e : Edge) (f : EdgeFinding) : Type 0 where
   pub edge : f.edge ≡ e.number
   pub finding : IsFindingOf (is_loop e) s e (line_of tree e) f.finding
 
--- a line breaks a rule
+-- the line breaks a rule
 abbrev pub is_breach : Finding → Bool
 is_breach Loop = false
 is_breach NoLine = false
 is_breach (Judged (Ok cost)) = false
 is_breach (Judged (Err breach)) = true
 
--- some line does
+-- some line breaks a rule
 abbrev pub status_of : List EdgeFinding → Status
 status_of findings = if list_any (λ f. is_breach f.finding) findings then BadLine else Done
 
@@ -71,11 +71,11 @@ pub record SaysFindings (tree : Pairs) (s : Scene) (o : Outcome) : Type 0 where
   pub found : AllZip (IsFinding tree s) s.edges findings
   pub outcome : o ≡ unsearched (status_of findings) (finding_lines findings)
 
--- what is said where the lines have this first fault, if they have one
+-- the outcome if the lines have this first fault, if they have one
 abbrev pub ChecksUnless : Pairs → Scene → Option DiagramFault → Outcome → Type 0
 ChecksUnless tree s None o = SaysFindings tree s o
 ChecksUnless tree s (Some fault) o = o ≡ unsearched Diagram (fault_line fault)
 
--- what a check of the diagram says
+-- the outcome of a check of the diagram
 abbrev pub Checks : Pairs → Scene → Outcome → Type 0
 Checks tree s = ChecksUnless tree s (first_line_fault tree s.edges)

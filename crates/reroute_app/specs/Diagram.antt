@@ -21,7 +21,7 @@ pub record IsDiagram (bytes : List ℕ) (tree : Pairs) (scene : Scene) : Type 0 
   pub document : IsDocument tree bytes
   pub is_scene : scene_of tree ≡ Ok scene
 
--- a tree has a scene, with which the course goes on, or a fault
+-- a tree has a scene, with which the course continues, or a fault
 abbrev pub TakesScene : (Scene → Course) → Result Scene DiagramFault → Course
 TakesScene next (Ok scene) = next scene
 TakesScene next (Err fault) = EndsWith (unsearched Diagram (fault_line fault))
@@ -31,10 +31,10 @@ abbrev pub TakesTree : (Pairs → Scene → Course) → Result Pairs GmlFault �
 TakesTree next (Ok tree) = TakesScene (next tree) (scene_of tree)
 TakesTree next (Err fault) = EndsWith (unsearched Diagram (gml_fault_line fault))
 
--- what the bytes are read as decides
+-- what the bytes are read as decides how the course continues
 abbrev pub TakesDiagram : (Pairs → Scene → Course) → List ℕ → Course
 TakesDiagram next bytes old new o = (read : Result Pairs GmlFault) × ParsesAs bytes read × TakesTree next read old new o
 
--- the file with the name is read as a diagram, and the course goes on with its tree and its scene
+-- the file with the name is read as a diagram, and the course continues with its tree and its scene
 abbrev pub ReadsDiagram : Option ToldFiles → List ℕ → (Pairs → Scene → Course) → Course
 ReadsDiagram files name next = ReadsFile files name most_bytes (TakesDiagram next)

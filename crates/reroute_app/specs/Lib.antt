@@ -1,4 +1,4 @@
--- What the words and the files lead to, form by form, and what is answered.
+-- The outcome of the arguments and the files, subcommand by subcommand.
 pub mod Status
 pub mod Outcome
 pub mod Reads

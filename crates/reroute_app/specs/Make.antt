@@ -1,10 +1,10 @@
--- What is said of a number.
+-- The outcome for a seed.
 use Rattle.std.specs.Prelude.{◌≡◌, ℕ, List, Some}
 use Rattle.form_make.specs.Makes.{Makes}
 use Rattle.reroute_app.specs.declared.status.Status.TheVariants.{Done}
 use Rattle.reroute_app.specs.Outcome.{Outcome}
 
--- the summary of what is made from the seed
+-- the summary of what is generated from the seed
 pub record Summarizes (seed : ℕ) (o : Outcome) : Type 0 where
   pub text : List ℕ
   pub searched : ℕ

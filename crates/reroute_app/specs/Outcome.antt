@@ -1,9 +1,9 @@
--- What is answered, and the courses that lead to it.
+-- Outcomes, and the courses that lead to them.
 use Rattle.std.specs.Prelude.{◌≡◌, ℕ, List, Option, Some}
 use Rattle.host_edge.specs.Note.{Note}
 use Rattle.reroute_app.specs.declared.status.Status.{Status}
 
--- the status, the whole output, and how many connectors were searched, where that is defined
+-- the status, the whole output, and the number of connectors that were searched, if that is defined
 pub record Outcome : Type 0 where
   pub status : Status
   pub text : List ℕ
@@ -13,14 +13,14 @@ pub record Outcome : Type 0 where
 abbrev pub unsearched : Status → List ℕ → Outcome
 unsearched status text = record { status = status; text = text; searched = Some 0 }
 
--- a course relates the notes before it and those after it with what is answered
+-- a course relates the notes before it and those after it to an outcome
 abbrev pub Course : Type 1
 Course = List Note → List Note → Outcome → Type 0
 
--- no more is read, and this holds of what is answered
+-- nothing more is read, and this holds of the outcome
 abbrev pub Ends : (Outcome → Type 0) → Course
 Ends P old new o = (new ≡ old) × P o
 
--- no more is read, and this is answered
+-- nothing more is read, and this is the outcome
 abbrev pub EndsWith : Outcome → Course
 EndsWith outcome = Ends (λ o. o ≡ outcome)

@@ -24,7 +24,7 @@ pub record HasMore (files : Option ToldFiles) (name : List ℕ) (limit : ℕ) (o
   pub noted : GainsNote old new name limit taken false
   pub told : IfSome files (λ named. IsSomeAnd (file_named named name) (λ bytes. limit < length bytes))
 
--- a file is read: that fails, or it is too long, or the course goes on with its bytes
+-- a file is read: that fails, or it is too long, or the course continues with its bytes
 pub data ReadsFile (files : Option ToldFiles) (name : List ℕ) (limit : ℕ) (next : List ℕ → Course) (old new : List Note) (o : Outcome) : Type 0 where
   fails : HasFailed name limit old new → o ≡ unsearched status.ReadFault (read_fault_line name) → ReadsFile files name limit next old new o
   is_too_long : HasMore files name limit old new → o ≡ unsearched status.TooLong (too_long_line name limit) → ReadsFile files name limit next old new o

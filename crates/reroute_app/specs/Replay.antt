@@ -1,4 +1,4 @@
--- What a replay of a script on a diagram says.
+-- The outcome of a replay of a script on a diagram.
 use Rattle.std.specs.Prelude.{◌≡◌, ℕ, Bool, true, false, List, Some}
 use Rattle.gml_text.specs.Tree.{Pairs}
 use Rattle.scene_model.specs.declared.edit.Command.{Command}
@@ -12,12 +12,12 @@ use Rattle.reroute_app.specs.Outcome.{Outcome}
 abbrev pub most_script_bytes : ℕ
 most_script_bytes = 4194304
 
--- how a replay ends in which something was refused, or nothing was
+-- the status of a replay in which something was refused, or nothing was
 abbrev pub replay_status : Bool → Status
 replay_status true = Refused
 replay_status false = Done
 
--- what a replay of the commands on the diagram says
+-- the outcome of a replay of the commands on the diagram
 pub record Replays (tree : Pairs) (s : Scene) (commands : List (ℕ × Command)) (count : Bool) (o : Outcome) : Type 0 where
   pub text : List ℕ
   pub refused : Bool

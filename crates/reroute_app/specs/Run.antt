@@ -1,4 +1,4 @@
--- What comes of the words and of the files that they name.
+-- The outcome of the arguments and of the files that they name.
 use Rattle.std.specs.Prelude.{◌≡◌, ℕ, ◌<◌, List, [], ◌∷◌, ◌++◌, length, slice_get, Option, Some, None, IfSome}
 use Rattle.std.specs.Io.KnownBytes.{append_known}
 use Rattle.host_edge.specs.Folder.{ToldFiles}
@@ -19,7 +19,7 @@ use Rattle.reroute_app.specs.Check.{Checks}
 use Rattle.reroute_app.specs.Replay.{most_script_bytes, Replays}
 use Rattle.reroute_app.specs.Make.{Summarizes}
 
--- the course of a form, where the files are told or not
+-- the course of a subcommand, whether the files are exposed or not
 abbrev pub IsFormOutcome : Option Form → Option ToldFiles → Course
 IsFormOutcome None files = EndsWith (unsearched Words words_line)
 IsFormOutcome (Some (check diagram)) files = ReadsDiagram files diagram (λ tree s. Ends (Checks tree s))
@@ -27,11 +27,11 @@ IsFormOutcome (Some (route diagram script workers count)) files =
     ReadsDiagram files diagram (λ tree s. ReadsFile files script most_script_bytes (λ bytes. Ends (Replays tree s (commands bytes) count)))
 IsFormOutcome (Some (make seed)) files = Ends (Summarizes seed)
 
--- what comes of the words, of the files where they are told, and of the reads of which the notes tell
+-- the outcome of the arguments, of the files if they are exposed, and of the reads in the notes
 abbrev pub IsOutcome : List (List ℕ) → Option ToldFiles → Course
 IsOutcome words = IsFormOutcome (form_of words)
 
--- one outcome at most comes of these
+-- these have at most one outcome
 abbrev pub HasOneOutcome : List (List ℕ) → Option ToldFiles → List Note → List Note → Type 0
 HasOneOutcome words files old new = (a b : Outcome) → IsOutcome words files old new a → IsOutcome words files old new b → a ≡ b
 
@@ -48,7 +48,7 @@ pub record WritesPart (words : List (List ℕ)) (files : Option ToldFiles) (old 
   pub is_outcome : IsOutcome words files old new outcome
   pub part : AppendsPart before after outcome.text
 
--- the files that a form names, each with its limit, in order
+-- the files that a subcommand names, each with its limit, in order
 abbrev pub files_of : Option Form → List (List ℕ × ℕ)
 files_of None = []
 files_of (Some (check diagram)) = (diagram, most_bytes) ∷ []
@@ -74,14 +74,14 @@ pub record ReadsFirstAsDiagram (files : Option ToldFiles) (named : List (List �
   pub scene : Scene
   pub diagram : IsDiagram bytes tree scene
 
--- what was read are the first of the files that the words name, each once and with its limit; a second one only behind a diagram
+-- the files that were read are the first of those that the arguments name, each once and with its limit; a second one only after a valid diagram
 pub record ReadsInOrder (words : List (List ℕ)) (files : Option ToldFiles) (old new : List Note) : Type 0 where
   pub gained : List Note
   pub grown : new ≡ old ++ gained
   pub in_order : AreNotesOf (files_of (form_of words)) gained
   pub second : 1 < length gained → ReadsFirstAsDiagram files (files_of (form_of words)) old gained
 
--- the count rose by the searches of the outcome, where their number is defined
+-- the count rose by the searches of the outcome, if their number is defined
 pub record Tallies (words : List (List ℕ)) (files : Option ToldFiles) (old new : List Note) (before after : ℕ) : Type 0 where
   pub outcome : Outcome
   pub is_outcome : IsOutcome words files old new outcome

@@ -1,4 +1,4 @@
--- The exit status for each end of a run.
+-- The exit status for each status of a run.
 use Rattle.std.specs.Prelude.{◌≢◌, ℕ}
 use Rattle.reroute_app.specs.declared.status.Status.{Status}
 use Rattle.reroute_app.specs.declared.status.Status.TheVariants.{Done, Refused, Words, Diagram, ReadFault, WriteFault, NoMemory, TooLong, BadLine}

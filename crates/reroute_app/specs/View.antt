@@ -1,4 +1,4 @@
--- What the code's own types stand for. No public clause cites this module.
+-- The models of the code's own types. No public clause cites this module.
 use Rattle.std.specs.Prelude.{◌≡◌, ◌⊎◌, ℕ, suc, ◌+◌, ◌≤◌, Bool, List, Some, None, Option, Result, Ok, Err}
 use Rattle.host_edge.specs.Folder.{ToldFiles, GainsNote}
 use Rattle.host_edge.specs.Note.{Note}
@@ -16,27 +16,27 @@ use Rattle.reroute_app.specs.Reads.{HasRead}
 use Rattle.reroute_app.specs.Diagram.{most_bytes, IsDiagram}
 use Rattle.reroute_app.specs.Replay.{most_script_bytes}
 
--- an outcome without where its output lies in memory
+-- an outcome of the code as an outcome of the definitions
 abbrev pub view : Made → Outcome
 view made = record { status = made.status; text = made.text.items; searched = Some made.tally }
 
--- a run that stops early ends with this, unless memory is wanting
+-- a run that stops early ends with this, unless out of memory
 abbrev pub StopsAt : (Outcome → Type 0) → Stop → Type 0
 StopsAt P (Ended made) = P (view made)
 StopsAt P Memory = Unit {0}
 
--- what comes of the course, unless memory is wanting
+-- the outcome of the course, unless out of memory
 abbrev pub Comes : (Outcome → Type 0) → Result Made Stop → Type 0
 Comes P (Ok made) = P (view made)
 Comes P (Err stop) = StopsAt P stop
 
--- what a run answers, unless memory is wanting
+-- the result of a run, unless out of memory
 abbrev pub answer_in : Result Made Stop → Option Made
 answer_in (Ok made) = Some made
 answer_in (Err (Ended made)) = Some made
 answer_in (Err Memory) = None
 
--- what goes on is told elsewhere
+-- the course does not continue here
 abbrev pub never : {X : Type 0} → X → Course
 never x old new o = ⊥
 
@@ -49,11 +49,11 @@ pub record HasDiagram (files : Option ToldFiles) (name : List ℕ) (old new : Li
   pub read : HasRead files name most_bytes old new bytes
   pub diagram : IsDiagram bytes tree scene
 
--- one note at most was gained, of a read of this file
+-- at most one note was added, of a read of this file
 abbrev pub NotesOne : List ℕ → ℕ → List Note → List Note → Type 0
 NotesOne name limit old new = (new ≡ old) ⊎ ((taken : ℕ) × (failed : Bool) × GainsNote old new name limit taken failed)
 
--- the diagram alone was read, if it was, or the script too, behind a diagram
+-- only the diagram was read, if it was; or also the script, after a valid diagram
 pub data NotesTwo (files : Option ToldFiles) (diagram script : List ℕ) (old new : List Note) : Type 0 where
   of_diagram : NotesOne diagram most_bytes old new → NotesTwo files diagram script old new
   of_both : (middle : List Note) (tree : Pairs) (scene : Scene) → HasDiagram files diagram old middle tree scene → NotesOne script most_script_bytes middle new → NotesTwo files diagram script old new
@@ -64,18 +64,18 @@ pub record HasCommands (files : Option ToldFiles) (name : List ℕ) (old new : L
   pub read : HasRead files name most_script_bytes old new bytes
   pub are_commands : list ≡ commands bytes
 
--- the fault is the first of the lines, or memory is wanting, which no line tells
+-- the fault is the first of the lines, or out of memory, on which the lines have no influence
 abbrev pub IsLineFault : Option DiagramFault → DiagramFault → Type 0
 IsLineFault told faults.Memory = Unit {0}
 IsLineFault told fault = told ≡ Some fault
 
 abbrev mutual
-  -- how many pairs there are, at all depths
+  -- the number of pairs, at all depths
   pub pair_count : Pairs → ℕ
   pair_count no_pairs = 0
   pair_count (pair key value rest) = suc (value_count value + pair_count rest)
 
-  -- how many there are in a value
+  -- the number of pairs in a value
   pub value_count : Content → ℕ
   value_count (number bytes) = 0
   value_count (text bytes) = 0

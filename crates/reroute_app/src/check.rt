@@ -21,7 +21,7 @@ use scene_model::Edge;
 use scene_store::Scene;
 use std::alloc::{AllocError, Global};
 
-/// What is found of the line of a connector, if it has one.
+/// The result for the line of a connector, if it has one.
 fn line_finding(
     scene: &Scene,
     solids: &[Solid],
@@ -44,7 +44,7 @@ fn line_finding(
     }
 }
 
-/// What is found of an edge.
+/// The result for an edge.
 fn finding_of(
     alloc: Global,
     doc: &Doc,
@@ -71,7 +71,7 @@ fn finding_of(
     })
 }
 
-/// What is found of each edge, in order, or the first fault of their lines.
+/// The results for the edges, in order, or the first fault of their lines.
 fn findings_of(alloc: Global, doc: &Doc, scene: &Scene) -> Result<Vec<EdgeFinding>, DiagramFault>
     requires { HasFewPairs (tree doc.now) }
     ensures ok { IfOk result (λ fs. AllZip (IsFinding (tree doc.now) scene.now) scene.now.edges fs.items) }
@@ -100,7 +100,7 @@ fn has_breach(findings: &[EdgeFinding]) -> bool
     findings.iter().any(|found| is_breach(&found.finding))
 }
 
-/// How a check with these findings ends.
+/// The status of a check with these results.
 fn status_of(findings: &[EdgeFinding]) -> Status
     ensures { result ≡ status_of findings.now }
 {
@@ -111,7 +111,7 @@ fn status_of(findings: &[EdgeFinding]) -> Status
     }
 }
 
-/// What a check of the diagram says.
+/// The output and the status of a check of the diagram.
 pub(crate) fn check_diagram(alloc: Global, diagram: &Diagram) -> Result<Outcome, Stop>
     requires { HasFewPairs (tree diagram.now.doc) }
     ensures { Comes (Checks (tree diagram.now.doc) diagram.now.scene) result }

@@ -1,4 +1,4 @@
-//! What comes of the words and of the files that they name, form by form.
+//! The outcome of the arguments and of the files that they name, subcommand by subcommand.
 ghost use Rattle.std.specs.Prelude.{◌≡◌, IfOk, Some, map, string_bytes};
 ghost use Rattle.command_words.specs.Words.{check};
 ghost use Rattle.reroute_app.specs.Run.{IsFormOutcome, IsOutcome, ReadsInOrder};
@@ -28,7 +28,7 @@ fn check_file<F: Folder>(alloc: Global, name: &str, folder: &mut F) -> Result<Ou
     check_diagram(alloc, &diagram)
 }
 
-/// What is answered by a run that came to its end, or stopped before.
+/// The outcome of a run that finished, or that stopped early.
 fn answer_of(answered: Result<Outcome, Stop>) -> Result<Outcome, AllocError>
     ensures { IfOk result (λ o. answer_in answered ≡ Some o) }
 {
@@ -39,7 +39,7 @@ fn answer_of(answered: Result<Outcome, Stop>) -> Result<Outcome, AllocError>
     }
 }
 
-/// What comes of the words, unless memory is wanting.
+/// The outcome of the arguments, unless out of memory.
 pub(crate) fn outcome_of<R: Threads + Sync, F: Folder, G: Gate>(
     rt: &R,
     alloc: Global,

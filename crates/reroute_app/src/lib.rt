@@ -1,4 +1,4 @@
-//! The program's runs, from the words to the bytes that are written.
+//! The program's runs, from the arguments to the bytes that are written.
 #![tactic(auto)]
 
 ghost use Rattle.std.specs.Prelude.{◌≡◌, ◌≢◌, ◌≤◌, ◌↔◌, ℕ, List, Option, None, map, string_bytes, IsSome};
@@ -30,17 +30,18 @@ pub use status::Status;
 use std::alloc::Global;
 use std::thread::Threads;
 
-/// Does what the words after the program's name ask for, by a gate that each piece of searches passes.
+/// Does what the arguments after the program's name ask for, with a gate that each piece of
+/// searches passes.
 ///
-/// The forms of the words are those of `command_words::read_words`:
+/// The subcommands are those of `command_words::read_words`:
 ///
-/// - `check FILE` reads the file as a diagram in GML, and says of the line of each edge what it costs or which rule it
-///   breaks first.
-/// - `route FILE FILE`, with `--workers N` and `--count`, reads a diagram and a script, replays the script, and writes
-///   the report of that and the diagram of the scene at the end, with its nudged lines.
-/// - `make SEED` makes a diagram and a script from a number, routes them, and writes a summary.
+/// - `check FILE` reads the file as a diagram in GML, and writes for the line of each edge its cost
+///   or the first rule that it breaks.
+/// - `route FILE FILE`, with `--workers N` and `--count`, reads a diagram and a script, replays the
+///   script, and writes the report and the diagram of the scene at the end, with its nudged lines.
+/// - `make SEED` generates a diagram and a script from a seed, routes them, and writes a summary.
 ///
-/// The whole output is made first, and then written. `tally` counts the searches that were made.
+/// The whole output is made first, and then written. `tally` counts the searches.
 pub fn run_gated<R: Threads + Sync, F: Folder, O: Sink, G: Gate>(
     rt: &R,
     alloc: Global,
@@ -50,7 +51,8 @@ pub fn run_gated<R: Threads + Sync, F: Folder, O: Sink, G: Gate>(
     gate: &G,
     tally: &mut Tally,
 ) -> Status
-    // The bytes that the sink got are the output, and all of it unless the sink or memory failed.
+    // The bytes that the sink got are the output, and all of it unless the sink failed or memory
+    // ran out.
     ensures output { IsOutputWritten result → Writes (map string_bytes words.now) (F.files folder.old)
         (F.notes folder.old) (F.notes folder.new) (O.held out.old) (O.held out.new) result }
     ensures part { result ≡ Status.WriteFault → WritesPart (map string_bytes words.now)
@@ -58,7 +60,7 @@ pub fn run_gated<R: Threads + Sync, F: Folder, O: Sink, G: Gate>(
     ensures nothing { result ≡ Status.NoMemory
         → (O.held out.new ≡ O.held out.old) × (O.faults out.new ≡ O.faults out.old) }
 
-    // Each status comes exactly where its cause holds, unless the sink or memory failed.
+    // Each status is returned exactly if its cause holds, unless the sink failed or memory ran out.
     ensures words { IsOutputWritten result → (result ≡ Status.Words) ↔ (form_of (map string_bytes words.now) ≡ None) }
     ensures read_fault { IsOutputWritten result → (result ≡ Status.ReadFault)
         ↔ LastFailed (F.notes folder.old) (F.notes folder.new) }
@@ -74,12 +76,13 @@ pub fn run_gated<R: Threads + Sync, F: Folder, O: Sink, G: Gate>(
         ↔ FindsNothing (map string_bytes words.now) (F.files folder.old) (F.notes folder.old) (F.notes folder.new) }
     ensures write_fault { result ≡ Status.WriteFault → Rose (O.faults out.old) (O.faults out.new) }
 
-    // The files that the words name are read in order, each once at most and with its limit, and no others are.
+    // The files that the arguments name are read in order, each at most once and with its limit,
+    // and no other files are.
     ensures notes { ReadsInOrder (map string_bytes words.now) (F.files folder.old) (F.notes folder.old) (F.notes folder.new) }
     ensures files_kept { F.files folder.new ≡ F.files folder.old }
     ensures never_falls { NeverFalls (O.faults out.old) (O.faults out.new) }
 
-    // The searches that were made, and no others, are counted.
+    // The counted searches are exactly those that were made.
     ensures tally { IsSome (F.files folder.old) → result ≢ Status.NoMemory → Tallies (map string_bytes words.now)
         (F.files folder.old) (F.notes folder.old) (F.notes folder.new) tally.old tally.new }
     ensures tally_never_falls { tally.old ≤ tally.new }
@@ -100,10 +103,10 @@ pub fn run_gated<R: Threads + Sync, F: Folder, O: Sink, G: Gate>(
     }
 }
 
-/// The same by a gate that holds no piece of searches up.
+/// The same with a gate that delays no piece of searches.
 ///
-/// The forms of the words are those of `run_gated`. The whole output is made first, and then written. `tally` counts the
-/// searches that were made.
+/// The subcommands are those of `run_gated`. The whole output is made first, and then written.
+/// `tally` counts the searches.
 pub fn run<R: Threads + Sync, F: Folder, O: Sink>(
     rt: &R,
     alloc: Global,
@@ -112,7 +115,8 @@ pub fn run<R: Threads + Sync, F: Folder, O: Sink>(
     out: &mut O,
     tally: &mut Tally,
 ) -> Status
-    // The bytes that the sink got are the output, and all of it unless the sink or memory failed.
+    // The bytes that the sink got are the output, and all of it unless the sink failed or memory
+    // ran out.
     ensures output { IsOutputWritten result → Writes (map string_bytes words.now) (F.files folder.old)
         (F.notes folder.old) (F.notes folder.new) (O.held out.old) (O.held out.new) result }
     ensures part { result ≡ Status.WriteFault → WritesPart (map string_bytes words.now)
@@ -120,7 +124,7 @@ pub fn run<R: Threads + Sync, F: Folder, O: Sink>(
     ensures nothing { result ≡ Status.NoMemory
         → (O.held out.new ≡ O.held out.old) × (O.faults out.new ≡ O.faults out.old) }
 
-    // Each status comes exactly where its cause holds, unless the sink or memory failed.
+    // Each status is returned exactly if its cause holds, unless the sink failed or memory ran out.
     ensures words { IsOutputWritten result → (result ≡ Status.Words) ↔ (form_of (map string_bytes words.now) ≡ None) }
     ensures read_fault { IsOutputWritten result → (result ≡ Status.ReadFault)
         ↔ LastFailed (F.notes folder.old) (F.notes folder.new) }
@@ -136,12 +140,13 @@ pub fn run<R: Threads + Sync, F: Folder, O: Sink>(
         ↔ FindsNothing (map string_bytes words.now) (F.files folder.old) (F.notes folder.old) (F.notes folder.new) }
     ensures write_fault { result ≡ Status.WriteFault → Rose (O.faults out.old) (O.faults out.new) }
 
-    // The files that the words name are read in order, each once at most and with its limit, and no others are.
+    // The files that the arguments name are read in order, each at most once and with its limit,
+    // and no other files are.
     ensures notes { ReadsInOrder (map string_bytes words.now) (F.files folder.old) (F.notes folder.old) (F.notes folder.new) }
     ensures files_kept { F.files folder.new ≡ F.files folder.old }
     ensures never_falls { NeverFalls (O.faults out.old) (O.faults out.new) }
 
-    // The searches that were made, and no others, are counted.
+    // The counted searches are exactly those that were made.
     ensures tally { IsSome (F.files folder.old) → result ≢ Status.NoMemory → Tallies (map string_bytes words.now)
         (F.files folder.old) (F.notes folder.old) (F.notes folder.new) tally.old tally.new }
     ensures tally_never_falls { tally.old ≤ tally.new }
@@ -149,7 +154,8 @@ pub fn run<R: Threads + Sync, F: Folder, O: Sink>(
     run_gated(rt, alloc, words, folder, out, &OpenGate, tally)
 }
 
-/// For given words, told files and notes there is one outcome, and so one output and one status, whatever is in the files.
+/// For given arguments, exposed files and notes there is exactly one outcome, and so one output and
+/// one status, whatever the files contain.
 pub fn one_outcome()
     ensures { (words : List (List ℕ)) (files : Option ToldFiles) (old new : List Note) → IsSome files →
         HasOneOutcome words files old new }

@@ -1,4 +1,4 @@
-//! What is made from a number.
+//! The summary of what is generated from a seed.
 ghost use Rattle.std.specs.Prelude.{IfOk};
 ghost use Rattle.reroute_app.specs.Make.{Summarizes};
 ghost use Rattle.reroute_app.specs.View.{view};
@@ -10,7 +10,7 @@ use par_route::Gate;
 use std::alloc::{AllocError, Global};
 use std::thread::Threads;
 
-/// The summary of what is made from the seed.
+/// The summary of what is generated from the seed.
 pub(crate) fn summary_of<R: Threads + Sync, G: Gate>(
     rt: &R,
     alloc: Global,

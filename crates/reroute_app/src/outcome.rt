@@ -1,4 +1,4 @@
-//! What is answered, and why a run stops early.
+//! The outcome of a run, and why a run stops early.
 ghost use Rattle.std.specs.Prelude.{◌≡◌, IfOk};
 ghost use Rattle.report_text.specs.Faults.{fault_line, gml_fault_line};
 ghost use Rattle.report_text.specs.Files.{read_fault_line, too_long_line, words_line};
@@ -14,7 +14,7 @@ use report_text::{
 use route_search::Tally;
 use std::alloc::{AllocError, AllocFailed, Global};
 
-/// What is answered: how the run ends, the whole output, and the searches that were made for it.
+/// The outcome of a run: its status, the whole output, and the searches that were made for it.
 #[derive(Drop)]
 pub(crate) struct Outcome {
     pub(crate) status: Status,
@@ -22,12 +22,12 @@ pub(crate) struct Outcome {
     pub(crate) tally: Tally,
 }
 
-/// Why a run goes no further.
+/// Why a run stops early.
 #[derive(Drop)]
 pub(crate) enum Stop {
-    /// This is answered.
+    /// It ends with this outcome.
     Ended(Outcome),
-    /// Memory is wanting.
+    /// Out of memory.
     Memory,
 }
 
@@ -51,7 +51,7 @@ impl<T: Drop> From<AllocFailed<T>> for Stop {
     }
 }
 
-/// What is answered without a search.
+/// An outcome without a search.
 pub(crate) fn unsearched(status: Status, text: Vec<u8>) -> Outcome
     ensures { view result ≡ unsearched status text.items }
 {
@@ -62,7 +62,7 @@ pub(crate) fn unsearched(status: Status, text: Vec<u8>) -> Outcome
     }
 }
 
-/// The words are of no form.
+/// The arguments are not valid.
 pub(crate) fn not_understood(alloc: Global) -> Result<Outcome, AllocError>
     ensures { IfOk result (λ o. view o ≡ unsearched Status.Words words_line) }
 {
@@ -89,7 +89,7 @@ pub(crate) fn too_long(alloc: Global, name: &str, limit: u64) -> Result<Outcome,
     Ok(unsearched(Status::TooLong, text))
 }
 
-/// The bytes are no document.
+/// The bytes are not valid GML.
 pub(crate) fn no_document(alloc: Global, fault: &GmlFault) -> Result<Outcome, AllocError>
     ensures { IfOk result (λ o. view o ≡ unsearched Status.Diagram (gml_fault_line fault.now)) }
 {
@@ -98,7 +98,7 @@ pub(crate) fn no_document(alloc: Global, fault: &GmlFault) -> Result<Outcome, Al
     Ok(unsearched(Status::Diagram, text))
 }
 
-/// The document is no diagram, or a line of it cannot be read.
+/// The document is not a valid diagram, or a line of it cannot be read.
 pub(crate) fn no_diagram(alloc: Global, fault: &DiagramFault) -> Result<Outcome, AllocError>
     ensures { IfOk result (λ o. view o ≡ unsearched Status.Diagram (fault_line fault.now)) }
 {

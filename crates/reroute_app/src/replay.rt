@@ -23,7 +23,7 @@ use scene_store::Scene;
 use std::alloc::Global;
 use std::thread::Threads;
 
-/// How a replay ends in which something was refused, or nothing was.
+/// The status of a replay in which something was refused, or nothing was.
 fn status_of(is_refused: bool) -> Status
     ensures { result ≡ replay_status is_refused }
 {
@@ -51,7 +51,7 @@ fn read_commands<F: Folder>(
     Ok(commands(alloc, &bytes)?)
 }
 
-/// What a replay of the commands on the document with this scene says.
+/// The outcome of a replay of the commands on the document with this scene.
 fn replay_diagram<R: Threads + Sync, G: Gate>(
     rt: &R,
     alloc: Global,

@@ -1,4 +1,4 @@
--- Which answers are kept, what changes of a book are seen as, and what the parts of a comparison say.
+-- Which answers are kept, the model of the changes of a book, and the meaning of the parts of a comparison.
 pub mod Exchange
 pub mod Kept
 pub mod Search

@@ -1,4 +1,4 @@
--- How near ways come to a rectangle. No public clause cites this module.
+-- The distances of ways from a rectangle. No public clause cites this module.
 use Rattle.std.specs.Prelude.{ℕ, ◌+◌, ◌≤◌, ◌≤ℤ◌, unsigned_abs, List, [], ◌∷◌, ◌++◌, length, All, Contains}
 use Rattle.plane_geom.specs.declared.point.Point.{Point}
 use Rattle.plane_geom.specs.declared.rect.Rect.{Rect}
@@ -17,21 +17,21 @@ pub record IsBox (r : Rect) : Type 0 where
   pub wide : r.left ≤ℤ r.right
   pub high : r.top ≤ℤ r.bottom
 
--- the nodes stand on the field, and the checkpoints on the sheet, of which there are few
+-- the nodes are on the field, and the checkpoints, of which there are few, on the sheet
 pub record AreParts (source target : Node) (e : Edge) : Type 0 where
   pub is_source : IsNode source
   pub is_target : IsNode target
   pub few_via : length e.via ≤ 4
   pub via : All PointIsOnSheet e.via
 
--- the way from the point through the others may go by the closed rectangle with this length, and with no lesser one
+-- the way from the point through the others may pass the closed rectangle with this length, and with no lesser one
 pub record IsShortestBy (r : Rect) (p : Point) (qs : List Point) (n : ℕ) : Type 0 where
   pub by : Point
   pub within : HasWithin r by
   pub is_length : IsLengthBy by p qs n
   pub least : (other : Point) (m : ℕ) → HasWithin r other → IsLengthBy other p qs m → n ≤ m
 
--- within the cost a way from the one pin through the checkpoints to the other may touch the closed rectangle
+-- within the cost, a way from one pin through the checkpoints to the other may touch the closed rectangle
 pub record IsNear (source target : Node) (e : Edge) (cost : ℕ) (r : Rect) (start end : Pin) : Type 0 where
   pub by : Point
   pub within : HasWithin r by
@@ -45,7 +45,7 @@ pub record IsNearFrom (source target : Node) (e : Edge) (cost : ℕ) (r : Rect) 
   pub is_end : Contains (pins_of_class target e.to_class) end
   pub near : IsNear source target e cost r start end
 
--- and one that begins at some pin of the class too
+-- so may one that also begins at some pin of the class
 pub record IsNearBetween (source target : Node) (e : Edge) (cost : ℕ) (r : Rect) : Type 0 where
   pub start : Pin
   pub is_start : Contains (pins_of_class source e.from_class) start

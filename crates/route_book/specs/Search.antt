@@ -1,4 +1,4 @@
--- Which connectors are searched, and what is found for them. No public clause cites this module.
+-- Which connectors are searched, and the answers that are found. No public clause cites this module.
 use Rattle.std.specs.Prelude.{◌≡◌, ◌≢◌, ◌<◌, ℕ, List, AllPairs, Option, IsSomeAnd}
 use Rattle.std.specs.Option.{option_or}
 use Rattle.walk_model.specs.declared.task.Task.{Task}
@@ -24,6 +24,6 @@ IsAnswerWith s number a = IsSomeAnd (edge_with s number) (λ e. IsAnswerOf s e a
 abbrev pub AreRising : List ℕ → Type 0
 AreRising numbers = AllPairs (λ m n. m < n) numbers
 
--- what was found for the connector with the number, or else what is kept for it
+-- the answer that was found for the connector with the number, or otherwise the one that is kept
 abbrev pub newer : List Answer → List Answer → ℕ → Option Answer
 newer found kept number = option_or (answer_of found number) (answer_of kept number)

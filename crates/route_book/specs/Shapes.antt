@@ -1,4 +1,4 @@
--- What a task takes of a node. No public clause cites this module.
+-- The data of a node that a task uses. No public clause cites this module.
 use Rattle.std.specs.Prelude.{◌≡◌}
 use Rattle.scene_model.specs.declared.node.Node.{Node}
 use Rattle.scene_model.specs.declared.edge.Edge.{Edge}

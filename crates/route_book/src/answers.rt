@@ -1,4 +1,4 @@
-//! Answers in the order of their connectors' numbers, which are found by them.
+//! Answers in the order of their connectors' numbers, and found by those numbers.
 ghost use Rattle.std.specs.Prelude.{◌≡◌, All, IfOk, IsSome, Some, length, map, option_copied};
 ghost use Rattle.std.specs.List.{AllZip};
 ghost use Rattle.scene_model.specs.Stale.{answer_of};
@@ -28,7 +28,7 @@ impl Model for AnswerList {
 impl AnswerList {
     ghost use Rattle.route_book.specs.Search.{AreRising, newer};
 
-    /// The routes as the answers of the connectors with these numbers.
+    /// The routes as answers of the connectors with these numbers.
     pub(crate) fn of_routes(
         alloc: Global,
         numbers: &[u32],
@@ -70,7 +70,8 @@ impl AnswerList {
         }
     }
 
-    /// What was found for the connector with the number, or else what is kept for it.
+    /// The answer in `found` for the connector with the number, or otherwise the answer in this
+    /// list.
     fn newer<'a>(&'a self, found: &'a AnswerList, number: u32) -> Option<&'a Answer>
         ensures { option_copied result ≡ newer found.now self.now number }
     {
@@ -80,7 +81,7 @@ impl AnswerList {
         }
     }
 
-    /// For each of the connectors what was found, or else what is kept for it.
+    /// For each of the connectors the answer in `found`, or otherwise the answer in this list.
     pub(crate) fn merged(
         &self,
         alloc: Global,
@@ -99,7 +100,7 @@ impl AnswerList {
         Ok(AnswerList { items })
     }
 
-    /// The same answers once more.
+    /// A copy of the answers.
     pub(crate) fn copy(&self, alloc: Global) -> Result<AnswerList, AllocError>
         ensures { IfOk result (λ a. a ≡ self.now) }
     {

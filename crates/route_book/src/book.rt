@@ -1,4 +1,4 @@
-//! The saved answers of a scene, and their change with the scene.
+//! The current routes of a scene, and how they change with the scene.
 ghost use Rattle.std.specs.Prelude.{◌≡◌, ◌≤◌, IfOk, OnOk, length, option_copied};
 ghost use Rattle.line_arena.specs.Count.{counted_by};
 ghost use Rattle.route_book.specs.Exchange.{CountsStale, turned};
@@ -20,18 +20,19 @@ use std::thread::Threads;
 use visibility_graph::Graph;
 use walk_model::Answer;
 
-/// The answers of a scene's connectors, in scene order. Contracts see it as their list.
+/// The answers of a scene's connectors, in scene order. Its model is the list of answers.
 ///
-/// It is right for a scene where each answer is the route of the first legal walk, or none where no walk is legal.
+/// It is right for a scene if each answer is the route of the first legal walk, or no route where
+/// no walk is legal.
 #[derive(Drop)]
 pub struct Book {
     alloc: Global,
     answers: AnswerList,
 }
 
-/// The answers of the scene at hand and those of the scene that is to come. Contracts see it as these two lists.
+/// The answers of the present scene and those of another scene. The model is these two lists.
 ///
-/// The latter are kept twice, so that `Book::swap` takes no memory.
+/// The second list is kept twice, so that `Book::swap` takes no memory.
 #[derive(Drop)]
 pub struct Changes {
     here: AnswerList,
@@ -60,9 +61,11 @@ impl Model for Changes {
 }
 
 impl Book {
-    /// The right answers of the scene, of which the graph is, by at most `workers` searches side by side.
+    /// The right answers of the scene, whose graph is `graph`, by at most `workers` searches side
+    /// by side.
     ///
-    /// The tally rises by the number of connectors. The only error is want of memory, where it may have risen too.
+    /// The tally rises by the number of connectors. The only error is out of memory, in which case
+    /// the tally may have risen as well.
     pub fn build<R: Threads + Sync, G: Gate>(
         rt: &R,
         alloc: Global,
@@ -90,8 +93,8 @@ impl Book {
         Ok(Book { alloc, answers })
     }
 
-    /// The numbers of the connectors of the new scene that are searched again, in order, where the book is right for
-    /// the old one. The only error is want of memory.
+    /// The numbers of the connectors of the new scene that have to be searched again, in order, if
+    /// the book is right for the old scene. The only error is out of memory.
     pub fn stale(&self, old: &Scene, new: &Scene) -> Result<Vec<u32>, AllocError>
         requires right { AreAnswers old.now self.now }
         ensures { IfOk result (λ numbers. AreStale old.now self.now new.now numbers.items) }
@@ -99,11 +102,13 @@ impl Book {
         Comparison::between(self.alloc, old, new)?.stale(&self.answers)
     }
 
-    /// What is to be exchanged where the new scene, of which the graph is, takes the place of the old one, for which
-    /// the book is right. The stale connectors alone are searched, by at most `workers` searches side by side.
+    /// The exchange of answers for the step from the old scene, for which the book is right, to the
+    /// new one, whose graph is `graph`. Only the stale connectors are searched, by at most
+    /// `workers` searches side by side.
     ///
-    /// The book stays, and `swap` will take no memory. The tally rises by the number of stale connectors. The only
-    /// error is want of memory, where it may have risen too.
+    /// The book stays as it is, and `swap` will take no memory. The tally rises by the number of
+    /// stale connectors. The only error is out of memory, in which case the tally may have risen as
+    /// well.
     pub fn follow<R: Threads + Sync, G: Gate>(
         &mut self,
         rt: &R,
@@ -142,8 +147,8 @@ impl Book {
         })
     }
 
-    /// Exchanges the book's answers, which are those of the scene at hand, with those of the scene that is to come;
-    /// the changes are turned round, so a second `swap` brings the former answers back. It takes no memory.
+    /// Exchanges the book's answers with those of the other scene in `changes`, which are reversed,
+    /// so that a second `swap` restores the former answers. Takes no memory.
     pub fn swap(&mut self, changes: &mut Changes)
         requires { self.old ≡ changes.old.here }
         ensures book { self.new ≡ changes.old.there }
@@ -153,22 +158,22 @@ impl Book {
         mem::swap(&mut changes.here, &mut changes.there);
     }
 
-    /// The answer of the connector with the number; none exactly where the book has no such connector. It takes no
-    /// memory.
+    /// The answer of the connector with the number; `None` exactly if the book has no such
+    /// connector. Takes no memory.
     pub fn answer(&self, edge: u32) -> Option<&Answer>
         ensures { option_copied result ≡ answer_of self.now edge }
     {
         self.answers.get(edge)
     }
 
-    /// The answers, in scene order. It takes no memory.
+    /// The answers, in scene order. Takes no memory.
     pub fn answers(&self) -> &[Answer]
         ensures { result.now ≡ self.now }
     {
         self.answers.as_slice()
     }
 
-    /// The same book once more. Its only error is want of memory.
+    /// A copy of the book. The only error is out of memory.
     pub fn copy(&self) -> Result<Book, AllocError>
         ensures { IfOk result (λ b. b ≡ self.now) }
     {

@@ -1,4 +1,4 @@
-//! Which connectors an edit makes stale.
+//! The connectors that an edit makes stale.
 ghost use Rattle.std.specs.Prelude.{◌≡◌, ◌↔◌, Any, IfOk, IsTrue, Some};
 ghost use Rattle.std.specs.Bool.{OnFalse, OnTrue};
 ghost use Rattle.route_book.specs.Solids.{AreCompared};
@@ -17,7 +17,7 @@ use scene_store::{Edge, Scene};
 use std::alloc::{AllocError, Global};
 use walk_model::Answer;
 
-/// An old scene beside a new one, with the solids that went and those that came.
+/// An old scene and a new one, with the solids that were removed and those that were added.
 #[derive(Drop)]
 pub(crate) struct Comparison<'a> {
     alloc: Global,
@@ -87,7 +87,7 @@ impl<'a> Comparison<'a> {
         self.is_open(was, answer)
     }
 
-    /// Whether a search takes the same of the old edge as of the new one.
+    /// Whether a search uses the same data of the old edge as of the new one.
     fn looks_same(&self, was: &Edge, edge: &Edge) -> bool
         ensures { IsTrue result ↔ (looks self.now.old.now was.now ≡ looks self.now.new.now edge.now) }
     {
@@ -100,7 +100,8 @@ impl<'a> Comparison<'a> {
         has_same_shape(self.old, self.new, was.from) && has_same_shape(self.old, self.new, was.to)
     }
 
-    /// Whether the solids that went and came may change the right answer of the edge of the old scene.
+    /// Whether the removed and added solids may change the right answer of the edge of the old
+    /// scene.
     fn is_open(&self, was: &Edge, answer: &Answer) -> bool
         requires solids { AreCompared self.now.old.now self.now.new.now self.now.removed.items self.now.added.items }
         requires valid { IsValid self.now.old.now }
@@ -116,7 +117,7 @@ impl<'a> Comparison<'a> {
         }
     }
 
-    /// Whether a step of the line meets a solid that came.
+    /// Whether a step of the line meets an added solid.
     fn is_barred(&self, points: &[Point]) -> bool
         requires { IsStraightLine points.now }
         ensures { IsTrue result ↔ Any (λ s. LineMeets s.rect points.now) self.now.added.items }
@@ -129,7 +130,7 @@ impl<'a> Comparison<'a> {
         false
     }
 
-    /// Whether a way of the edge of the old scene reaches a solid that went within the cost.
+    /// Whether a way of the edge of the old scene, of at most this cost, reaches a removed solid.
     fn is_reached(&self, was: &Edge, cost: u64) -> bool
         requires solids { AreCompared self.now.old.now self.now.new.now self.now.removed.items self.now.added.items }
         requires valid { IsValid self.now.old.now }

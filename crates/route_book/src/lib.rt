@@ -1,4 +1,4 @@
-//! The saved routes of a scene, and which of them an edit leaves as they were.
+//! The current routes of a scene, and which of them an edit leaves as they are.
 //!
 //! Coordinates, lengths and costs are whole thousandths of a GML unit.
 #![tactic(auto)]

@@ -1,4 +1,4 @@
-//! How near to a rectangle the ways of a connector come within a cost.
+//! The test whether the ways of a connector come near to a rectangle within a cost.
 ghost use Rattle.std.specs.Prelude.{◌≡◌, ◌↔◌, ◌+◌, ◌*◌, ◌^◌, ◌<◌, ◌≤◌, ◌∷◌, ◌++◌, [], All, IsTrue, length};
 ghost use Rattle.plane_geom.specs.Point.{PointIsOnSheet};
 ghost use Rattle.route_book.specs.Reach.{AreParts, IsBox, IsNear, IsNearBetween, IsNearFrom, IsShortestBy};
@@ -8,16 +8,16 @@ ghost use Rattle.scene_model.specs.Valid.{IsPlaced};
 use plane_geom::{Point, Rect};
 use scene_store::{Edge, Node, Pin};
 
-/// How long a way is, and how long at least where it goes by a rectangle.
+/// The length of a way, and its least length if it passes a rectangle.
 #[derive(Clone, Copy)]
 struct Lengths {
     straight: u64,
     by: u64,
 }
 
-/// The lengths of the way from the point through the others to the last one.
+/// The lengths of the way from `from` through the points `via` to `to`.
 ///
-/// A way by the rectangle goes by it on its first leg, or on one of the others.
+/// A way past the rectangle passes it on its first leg, or on one of the others.
 fn way_lengths(rect: &Rect, from: Point, via: &[Point], to: Point) -> Lengths
     requires rect { IsBox rect.now }
     requires from { PointIsOnSheet from }
@@ -56,7 +56,7 @@ pub(crate) struct Reach<'a> {
 }
 
 impl<'a> Reach<'a> {
-    /// Whether a way from the one pin to the other may touch the closed rectangle within the cost.
+    /// Whether a way from one pin to the other may touch the closed rectangle within the cost.
     fn is_near(&self, rect: &Rect, start: Pin, end: Pin) -> bool
         requires parts { AreParts self.now.source.now self.now.target.now self.now.edge.now }
         requires rect { IsBox rect.now }
@@ -70,7 +70,7 @@ impl<'a> Reach<'a> {
         start.cost.unsigned_abs() + end.cost.unsigned_abs() + way.by <= self.cost
     }
 
-    /// Whether such a way begins at the pin and ends at one of the class.
+    /// Whether such a way begins at the pin and ends at a pin of the class.
     fn is_near_from(&self, rect: &Rect, start: Pin) -> bool
         requires parts { AreParts self.now.source.now self.now.target.now self.now.edge.now }
         requires rect { IsBox rect.now }

@@ -35,7 +35,7 @@ pub(crate) fn connector_numbers(alloc: Global, scene: &Scene) -> Result<Vec<u32>
     Ok(numbers)
 }
 
-/// Searches for connectors of the scene on its graph, by so many workers at most.
+/// Searches for connectors of the scene on its graph, by at most `workers` searches side by side.
 #[derive(Drop)]
 pub(crate) struct Searches<'a> {
     pub alloc: Global,

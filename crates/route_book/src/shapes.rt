@@ -1,4 +1,4 @@
-//! What a task takes of a node, and the solids that one scene has and another has not.
+//! The data of a node that a task uses, and the solids that only one of two scenes has.
 ghost use Rattle.std.specs.Prelude.{◌≡◌, ◌↔◌, Contains, IfOk, IsTrue};
 ghost use Rattle.route_book.specs.Shapes.{AskSame, shape_of};
 ghost use Rattle.route_book.specs.Solids.{AreRemoved};
@@ -10,7 +10,7 @@ use plane_geom::Solid;
 use scene_store::{Edge, Node, Scene};
 use std::alloc::{AllocError, Global};
 
-/// Whether a task takes the same of both nodes.
+/// Whether a task uses the same data of both nodes.
 fn look_same(one: &Node, other: &Node) -> bool
     requires one { IsNode one.now }
     requires other { IsNode other.now }
@@ -21,7 +21,7 @@ fn look_same(one: &Node, other: &Node) -> bool
         && one.pins.as_slice() == other.pins.as_slice()
 }
 
-/// Whether a task takes the same of the node with the id in both scenes.
+/// Whether a task uses the same data of the node with the id in both scenes.
 pub(crate) fn has_same_shape(old: &Scene, new: &Scene, id: i64) -> bool
     requires old { IsValid old.now }
     requires new { IsValid new.now }
@@ -57,7 +57,7 @@ fn has_solid(scene: &Scene, solid: Solid) -> bool
     own == solid
 }
 
-/// The solids that the one scene has and the other has not.
+/// The solids that the old scene has and the new one has not.
 pub(crate) fn removed(alloc: Global, old: &Scene, new: &Scene) -> Result<Vec<Solid>, AllocError>
     ensures { IfOk result (λ v. AreRemoved old.now new.now v.items) }
 {

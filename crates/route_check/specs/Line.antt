@@ -1,10 +1,10 @@
--- What is asked of a line whose first corner is told apart. No public clause cites this module.
+-- The conditions on a line that is given by its first corner and the others. No public clause cites this module.
 use Rattle.std.specs.Prelude.{◌≤◌, List, length, All}
 use Rattle.plane_geom.specs.declared.point.Point.{Point}
 use Rattle.plane_geom.specs.Point.{PointIsOnSheet}
 use Rattle.walk_model.specs.Line.{AreStraight}
 
--- the line from the point through the others has straight segments alone, lies on the sheet, and is not too long
+-- the line from the point through the others has only straight segments, lies on the sheet, and is not too long
 pub record IsLineFrom (first : Point) (rest : List Point) : Type 0 where
   pub straight : AreStraight first rest
   pub begin_within : PointIsOnSheet first

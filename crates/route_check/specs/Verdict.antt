@@ -1,4 +1,4 @@
--- The verdict on a line: what it costs, or the first rule that it breaks.
+-- The verdict on a line: its cost, or the first rule that it breaks.
 use Rattle.std.specs.Prelude.{ℕ, zero, suc, ◌≡◌, ◌+◌, ◌-◌, ◌<◌, ◌≤◌, ℤ, Some, List, [], ◌∷◌, take, length, slice_get, Contains, Result, Ok, Err}
 use Rattle.plane_geom.specs.declared.point.Point.{Point}
 use Rattle.plane_geom.specs.declared.rect.Solid.{Solid}
@@ -123,11 +123,11 @@ IsBreach solids task points EndOff = IsEndOff task points
 IsBreach solids task points (HitsAt segment node) = IsFirstHit solids task points segment node
 IsBreach solids task points (MissesVia place) = IsMissed solids task points place
 
--- what a legal line costs at least, or the first rule that a line breaks which is not legal
+-- the least cost of a legal line, or the first rule that a line breaks which is not legal
 abbrev pub IsVerdict : List Solid → Task → List Point → Result ℕ Breach → Type 0
 IsVerdict solids task points (Ok cost) = IsLeastCost solids task points cost
 IsVerdict solids task points (Err breach) = (IsLegalLine solids task points → ⊥) × IsBreach solids task points breach
 
--- a line has one verdict at most
+-- a line has at most one verdict
 abbrev pub HasOneVerdict : List Solid → Task → List Point → Type 0
 HasOneVerdict solids task points = (a b : Result ℕ Breach) → IsVerdict solids task points a → IsVerdict solids task points b → a ≡ b

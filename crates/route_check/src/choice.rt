@@ -1,4 +1,4 @@
-//! The choices with whose stubs a line begins and ends.
+//! The choices whose stubs begin and end a line.
 ghost use Rattle.std.specs.Prelude.{◌≡◌, ◌↔◌, ◌≤◌, length, nat_le, IsTrue, MatchOption, if◌then◌else◌};
 ghost use Rattle.walk_model.specs.Choice.{AreChoices, IsChoice, stub_length};
 ghost use Rattle.walk_model.specs.Legal.{Arrives, Leaves};
@@ -10,7 +10,7 @@ use crate::run::{first_run, last_run};
 use plane_geom::{Dir, Point};
 use walk_model::Choice;
 
-/// A cheapest of the choices with whose stub the line begins.
+/// A cheapest choice whose stub begins the line.
 pub fn start_choice(choices: &[Choice], first: Point, rest: &[Point]) -> Option<Choice>
     requires choices { AreChoices choices.now }
     requires line { IsLineFrom first rest.now }
@@ -20,7 +20,7 @@ pub fn start_choice(choices: &[Choice], first: Point, rest: &[Point]) -> Option<
     cheapest(choices, first, run.heading, run.length)
 }
 
-/// A cheapest of the choices with whose reversed stub the line ends, within its last `left` steps.
+/// A cheapest choice whose reversed stub ends the line, within its last `left` steps.
 pub fn end_choice(choices: &[Choice], first: Point, rest: &[Point], left: u64) -> Option<Choice>
     requires choices { AreChoices choices.now }
     requires line { IsLineFrom first rest.now }
@@ -32,7 +32,7 @@ pub fn end_choice(choices: &[Choice], first: Point, rest: &[Point], left: u64) -
     cheapest(choices, last, run.heading.opposite(), run.length.min(left))
 }
 
-/// A cheapest of the choices of this pin in this direction whose stub has at most so many steps.
+/// A cheapest choice of this pin in this direction whose stub has at most `most` steps.
 fn cheapest(choices: &[Choice], pin: Point, dir: Dir, most: u64) -> Option<Choice>
     requires { AreChoices choices.now }
     ensures { IsCheapestIfAny (FitsRun pin dir most) choices.now result }
@@ -46,7 +46,7 @@ fn cheapest(choices: &[Choice], pin: Point, dir: Dir, most: u64) -> Option<Choic
     best
 }
 
-/// The cheaper of the two, and the first where they cost the same.
+/// The cheaper of the two, and the first if they cost the same.
 fn cheaper(best: Option<Choice>, choice: Choice) -> Choice
     ensures { MatchOption best (result ≡ choice)
         (λ b. result ≡ (if nat_le b.cost choice.cost then b else choice)) }
@@ -57,7 +57,7 @@ fn cheaper(best: Option<Choice>, choice: Choice) -> Choice
     }
 }
 
-/// Whether the choice is of this pin in this direction, with a stub of at most so many steps.
+/// Whether the choice is of this pin in this direction, with a stub of at most `most` steps.
 fn fits(choice: &Choice, pin: Point, dir: Dir, most: u64) -> bool
     requires { IsChoice choice.now }
     ensures { IsTrue result ↔ FitsRun pin dir most choice.now }

@@ -21,14 +21,14 @@ struct Meeting {
     segment: u32,
 }
 
-/// The first hit of a line: its segment, counted from 1, and whose solid is hit.
+/// The first hit of a line: its segment, counted from 1, and the node whose solid is hit.
 #[derive(Clone, Copy)]
 pub struct Hit {
     pub segment: u32,
     pub node: i64,
 }
 
-/// The first step of the line, which has so many steps, that meets a solid which it may not meet,
+/// The first step of the line, which has `steps` steps, that meets a solid which it may not meet,
 /// and the first such solid.
 ///
 /// A step of a stub may meet the solid of the stub's node, and no other step may meet any.
@@ -69,7 +69,7 @@ pub fn first_hit(
     hit
 }
 
-/// The steps of a line, which has so many, that may not meet the solid of the node.
+/// The steps of a line of `steps` steps that may not meet the solid of the node.
 fn closed_steps(start: &Choice, end: &Choice, steps: u64, node: i64) -> Steps
     requires start { IsChoice start.now }
     requires end { IsChoice end.now }
@@ -118,7 +118,7 @@ fn first_meeting(rect: &Rect, among: Steps, first: Point, rest: &[Point]) -> Opt
     None
 }
 
-/// The steps from the point in the direction that meet the rectangle, however far they lead.
+/// The steps that meet the rectangle, of all steps from the point in the direction.
 fn steps_inside(rect: &Rect, from: Point, heading: Dir) -> Steps
     requires rect_within { RectIsOnSheet rect.now }
     requires from_within { PointIsOnSheet from }
@@ -139,7 +139,8 @@ fn steps_inside(rect: &Rect, from: Point, heading: Dir) -> Steps
     }
 }
 
-/// The steps from number `near` on and before number `far` where `across` is between `low` and `high`, and else none.
+/// The steps from number `near` on and before number `far`, if `across` is between `low` and
+/// `high`; otherwise none.
 fn steps_between(low: i64, across: i64, high: i64, near: i64, far: i64) -> Steps
     ensures { (k : ℕ) → IsAmong result k ↔ ((low <ℤ across) × (across <ℤ high)
         × (near ≤ℤ pos k) × ((pos k +ℤ pos 1) ≤ℤ far)) }

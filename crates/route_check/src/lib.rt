@@ -1,4 +1,4 @@
-//! The verdict on a drawn line: what it costs, or the first rule that it breaks.
+//! The verdict on a drawn line: its cost, or the first rule that it breaks.
 #![tactic(auto)]
 
 mod choice;

@@ -6,7 +6,7 @@ ghost use Rattle.route_check.specs.Run.{IsFirstRun, IsLastRun};
 
 use plane_geom::{Dir, Point};
 
-/// So many unit steps in one direction.
+/// A number of unit steps in one direction.
 #[derive(Clone, Copy)]
 pub struct Run {
     pub heading: Dir,
@@ -18,7 +18,7 @@ const NO_STEPS: Run = Run {
     length: 0,
 };
 
-/// The steps with which the line begins, as far as they go in one direction.
+/// The steps at the beginning of the line that go in one direction.
 pub fn first_run(first: Point, rest: &[Point]) -> Run
     requires line { IsLineFrom first rest.now }
     ensures { IsFirstRun (walk_through first rest.now) result }
@@ -42,7 +42,7 @@ pub fn first_run(first: Point, rest: &[Point]) -> Run
     run
 }
 
-/// The steps with which the line ends, as far as they go in one direction.
+/// The steps at the end of the line that go in one direction.
 pub fn last_run(first: Point, rest: &[Point]) -> Run
     requires line { IsLineFrom first rest.now }
     ensures { let w = walk_through first rest.now in IsLastRun w (length w.steps) result }

@@ -11,7 +11,7 @@ pub struct Steps {
 impl Steps {
     ghost use Rattle.route_check.specs.Steps.{IsAmong};
 
-    /// The steps that both have.
+    /// The steps that are in both ranges.
     pub fn both(self, other: Steps) -> Steps
         ensures { (k : ℕ) → IsAmong result k ↔ (IsAmong self k × IsAmong other k) }
     {
@@ -21,7 +21,8 @@ impl Steps {
         }
     }
 
-    /// Those on a stretch of so many steps that begins at number `from`, counted from there.
+    /// The part of the range on a stretch of `length` steps that begins at step `from`, counted
+    /// from `from`.
     pub fn within(self, from: u64, length: u64) -> Steps
         ensures { (k : ℕ) → IsAmong result k ↔ ((k < length) × IsAmong self (from + k)) }
     {

@@ -29,12 +29,13 @@ pub enum Breach {
     MissesVia { place: u32 },
 }
 
-/// The cost of a line that is drawn for a connector, or the first rule that the line breaks.
+/// The cost of a line that is drawn for a connector, or the first rule that it breaks.
 ///
-/// Costs and coordinates are in thousandths of a GML unit. The line goes straight from corner point to corner
-/// point; it may have equal neighbours, and corners at which it goes straight on. Where it is legal with several
-/// choices of pins and directions, it costs what it costs with the cheapest. The call takes no memory. Solids and
-/// points lie on the sheet, and there are at most 40,000,000 points; a line without points is `StartOff`.
+/// Costs and coordinates are in thousandths of a GML unit. The line goes straight from corner point
+/// to corner point; it may have equal neighbours, and corners at which it goes straight on. If it
+/// is legal with several choices of pins and directions, its cost is that with the cheapest. Takes
+/// no memory. Solids and points lie on the sheet, and there are at most 40,000,000 points; a line
+/// without points is `StartOff`.
 pub fn check(solids: &[Solid], task: &Task, points: &[Point]) -> Result<u64, Breach>
     requires solids_within { All (λ s. RectIsOnSheet s.rect) solids.now }
     requires task { IsTask task.now }
@@ -47,7 +48,7 @@ pub fn check(solids: &[Solid], task: &Task, points: &[Point]) -> Result<u64, Bre
     if let Some(segment) = first_slanted(first, rest) {
         return Err(Breach::Slanted { segment });
     }
-    // A walk whose bends cost nothing costs its steps.
+    // The cost of a walk whose bends cost nothing is its number of steps.
     let steps = cost_of(points, 0);
     let Some(start) = start_choice(task.starts.as_slice(), first, rest) else {
         return Err(Breach::StartOff);
@@ -73,7 +74,7 @@ pub fn check(solids: &[Solid], task: &Task, points: &[Point]) -> Result<u64, Bre
     Ok(cost_of(points, task.penalty) + start.cost + end.cost)
 }
 
-/// A line has one verdict at most.
+/// A line has at most one verdict.
 pub fn one_verdict()
     ensures { (solids : List Solid) (task : Task) (points : List Point) → IsTask task →
         HasOneVerdict solids task points }

@@ -15,52 +15,52 @@ use Rattle.route_search.specs.declared.follow.Tail.{Tail}
 use Rattle.route_search.specs.declared.labels.Labels.{Labels}
 use Rattle.route_search.specs.Labels.{label_at}
 
--- the one is shorter, or as long with no later choice
+-- the first is shorter, or of the same length with no later choice
 pub record IsNoLater (a b : Tail) : Type 0 where
   pub steps : a.steps ≤ b.steps
   pub end : a.steps ≡ b.steps → a.end ≤ b.end
 
--- there is such a tail where any is there, and it is an earliest one
+-- there is such a tail if any exists, and it is an earliest one
 pub record IsEarliest (P : Tail → Type 0) (best : Option Tail) : Type 0 where
   pub is : IfSome best P
   pub first : (b : Tail) → P b → (a : Tail) × (best ≡ Some a) × IsNoLater a b
 
--- a walk that stands there may end with the stub of the ending, which leads in the direction
+-- a walk at this position may end with the stub of the ending, which leads in the direction
 pub record MayEnd (p : Problem) (s : Standing) (d : Dir) (e : Ending) : Type 0 where
   pub stage : s.place.stage ≡ length p.task.now.via
   pub crossing : e.crossing ≡ s.place.crossing
   pub dir : e.dir ≡ d
   pub fits : with_stretch p.task.now.penalty s.place.heading (record { from = e.port; dir = d; steps = e.rest }) nothing ≡ s.ahead
 
--- with the tail the walk may end in the direction: it is under way, or the stub of one of the endings
+-- with the tail the walk may end in the direction: it is the stub that the walk is on, or the stub of one of the endings
 abbrev pub IsTailIn : Problem → Standing → Dir → List Ending → Tail → Type 0
 IsTailIn p s d endings b =
     ((d ≡ s.place.heading) × (s.tail ≡ Some b))
     ⊎ ((e : Ending) × Contains endings e × MayEnd p s d e × (b ≡ record { steps = e.stub; end = e.choice }))
 
--- the move in the direction leads to a label that makes what is ahead
+-- the move in the direction leads to a label that gives what is ahead of the walk here
 pub record IsMoveIn (p : Problem) (l : Labels) (s : Standing) (d : Dir) (m : Move) : Type 0 where
   pub move : IsMove p.arena.now p.task.now.via s.place m.steps m.to
   pub dir : m.to.heading ≡ d
   pub label : ahead_in (label_at l m.to) ≡ Some m.ahead
   pub fits : with_stretch p.task.now.penalty s.place.heading (record { from = move.begin; dir = d; steps = m.steps }) m.ahead ≡ s.ahead
 
--- no walk that stands there goes on in the direction
+-- no walk at this position continues in the direction
 pub record IsNoneIn (p : Problem) (l : Labels) (s : Standing) (d : Dir) : Type 0 where
   pub tails : (b : Tail) → IsTailIn p s d p.endings.items b → ⊥
   pub moves : (m : Move) → IsMoveIn p l s d m → ⊥
 
--- it ends with the earliest tail, which is no longer than a move
+-- it ends with the earliest tail, which is no longer than any move
 pub record StopsIn (p : Problem) (l : Labels) (s : Standing) (d : Dir) (b : Tail) : Type 0 where
   pub tail : IsEarliest (IsTailIn p s d p.endings.items) (Some b)
   pub short : (m : Move) → IsMoveIn p l s d m → b.steps ≤ m.steps
 
--- what is left of the tail behind so many steps
+-- what is left of the tail after n steps
 abbrev pub left_behind : ℕ → Option Tail → Option Tail
 left_behind n None = None
 left_behind n (Some b) = Some (record { steps = b.steps - n; end = b.end })
 
--- it goes on by a move, along an earliest tail that is longer, if there is one
+-- it continues by a move, along an earliest tail that is longer, if there is one
 pub record GoesIn (p : Problem) (l : Labels) (s : Standing) (d : Dir) (after : Standing) : Type 0 where
   pub move : Move
   pub is_move : IsMoveIn p l s d move
@@ -69,19 +69,19 @@ pub record GoesIn (p : Problem) (l : Labels) (s : Standing) (d : Dir) (after : S
   pub long : IfSome best (λ b. move.steps < b.steps)
   pub further : after ≡ record { place = move.to; ahead = move.ahead; tail = left_behind move.steps best }
 
--- how a walk goes on that ends with the tail or goes on by the move, where both are in one direction
+-- the earlier continuation where a walk may end with the tail or take the move, both in one direction
 abbrev pub IsJoined : Option Tail → Option Move → Next → Type 0
 IsJoined tail step (Stop b) = (tail ≡ Some b) × IfSome step (λ m. b.steps ≤ m.steps)
 IsJoined tail step (Go further) =
     (m : Move) × (step ≡ Some m) × IfSome tail (λ b. m.steps < b.steps)
     × (further ≡ record { place = m.to; ahead = m.ahead; tail = left_behind m.steps tail })
 
--- how the earliest of the walks that stand there goes on in the direction
+-- the first continuation in the direction of the walks at this position
 abbrev pub IsNextIn : Problem → Labels → Standing → Dir → Next → Type 0
 IsNextIn p l s d (Stop b) = StopsIn p l s d b
 IsNextIn p l s d (Go further) = GoesIn p l s d further
 
--- and in no earlier direction one goes on
+-- and no walk continues in an earlier direction
 pub record IsNext (p : Problem) (l : Labels) (s : Standing) (d : Dir) (n : Next) : Type 0 where
   pub next : IsNextIn p l s d n
   pub none_before : (e : Dir) → rank e < rank d → IsNoneIn p l s e

@@ -1,4 +1,4 @@
--- What the labels of a search say, and what they weigh. No public clause cites this module.
+-- The meaning of the labels of a search, and their weight. No public clause cites this module.
 use Rattle.std.specs.Prelude.{ℕ, ◌≡◌, ◌≢◌, ◌+◌, ◌*◌, ◌<◌, ◌≤◌, ◌⊎◌, negsuc, unsigned_abs, List, [], length, sum_by, Option, Some, None, Contains, All, slice_get}
 use Rattle.std.specs.BinaryHeap.{heap_items}
 use Rattle.std.specs.Int.{int_gap}
@@ -23,7 +23,7 @@ use Rattle.search_labels.specs.declared.label.Row.{Row}
 use Rattle.search_labels.specs.declared.problem.Problem.{Problem}
 use Rattle.route_search.specs.declared.labels.Labels.{Labels}
 
--- a first walk has no more runs
+-- no first walk has more runs
 abbrev pub most_runs : ℕ
 most_runs = 3289602
 
@@ -31,13 +31,13 @@ most_runs = 3289602
 abbrev pub label_at : Labels → Place → Label
 label_at l x = label_of l.table x
 
--- the crossing of the place is there, and no more checkpoints are behind it than there are
+-- the crossing of the place exists, and the place has passed at most the number of checkpoints that there are
 pub record IsPlace (p : Problem) (x : Place) : Type 0 where
   pub at : Point
   pub here : StandsAt p.arena.now x.crossing at
   pub stage : x.stage ≤ length p.task.now.via
 
--- a way from the place, which stands at the point, has this ahead
+-- this is ahead on some way from the place, which is at the point
 pub record IsWayAhead (p : Problem) (x : Place) (at : Point) (v : Ahead) : Type 0 where
   pub here : StandsAt p.arena.now x.crossing at
   pub legs : List Leg
@@ -47,23 +47,23 @@ pub record IsWayAhead (p : Problem) (x : Place) (at : Point) (v : Ahead) : Type 
   pub way : IsWay p.solids.now p.arena.now p.task.now.via x legs end
   pub same : v ≡ ahead p.task.now.penalty x.heading at (steps_of_way legs end) end.cost
 
--- what is ahead is no more than of a first walk
+-- what is ahead is within the bounds of a first walk
 pub record IsSmallAhead (v : Ahead) : Type 0 where
   pub cost : v.cost ≤ most_cost
   pub runs : v.runs ≤ most_runs
   pub lean : unsigned_abs v.lean ≤ 2000000000 * v.runs
 
--- what is ahead has at most one stretch more than a first walk may have ahead
+-- what is ahead exceeds the bounds of a first walk by at most one stretch
 pub record IsOfferable (v : Ahead) : Type 0 where
   pub cost : v.cost ≤ most_cost + 20000000000
   pub runs : v.runs ≤ most_runs + 1
   pub lean : unsigned_abs v.lean ≤ 2000000000 * v.runs
 
--- what a walk costs at least that comes to the place, which stands at the point
+-- a lower bound on the cost of a walk that reaches the place, which is at the point
 abbrev pub bound_at : Problem → Place → Point → ℕ
 bound_at p x at = bound_of p.origins.items p.task.now x.stage x.heading at
 
--- the label of the place says no more than this
+-- the label of the place is at most this
 pub record IsKnown (l : Labels) (x : Place) (v : Ahead) : Type 0 where
   pub known : Ahead
   pub is : ahead_in (label_at l x) ≡ Some known
@@ -73,11 +73,11 @@ pub record IsKnown (l : Labels) (x : Place) (v : Ahead) : Type 0 where
 abbrev pub IsLeftOut : Problem → Labels → Place → Point → Ahead → Type 0
 IsLeftOut p l x at v = (l.best < v.cost + bound_at p x at) ⊎ (most_runs < v.runs)
 
--- this was offered to the place: its label says no more, or it does not matter
+-- this was offered to the place: its label is at most this, or the offer does not matter
 abbrev pub IsOffered : Problem → Labels → Place → Point → Ahead → Type 0
 IsOffered p l x at v = IsKnown l x v ⊎ IsLeftOut p l x at v
 
--- this was offered with a stretch in front to each place from which a move leads to the place
+-- this was offered, with a stretch in front, to each place from which a move leads to the place
 abbrev pub IsHandedOn : Problem → Labels → Place → Ahead → Type 0
 IsHandedOn p l x v =
     (y : Place) (n : ℕ) (m : IsMove p.arena.now p.task.now.via y n x) →
@@ -90,7 +90,7 @@ IsQueued p l x v =
     Contains (heap_items l.queue.heap) (record { 0 = record { bound = v.cost + bound_at p x at; place = x } })
     ⊎ (l.best < v.cost + bound_at p x at)
 
--- the number is as much as a first walk may cost, or what a legal walk costs
+-- the number is `most_cost`, or the cost of a legal walk
 pub record IsBest (p : Problem) (best : ℕ) : Type 0 where
   pub most : best ≤ most_cost
   pub of_walk : (best ≡ most_cost) ⊎ ((t : Triple) × IsLegalTriple p.solids.now p.task.now t × (best ≡ triple_cost p.task.now t))
@@ -100,7 +100,7 @@ pub record HasRooms (p : Problem) (l : Labels) : Type 0 where
   pub places : l.table.places ≡ p.arena.now.places
   pub rows : (length p.task.now.via + 1) * p.arena.now.places ≤ length l.table.rows.items
 
--- what holds of the labels between two steps of a search, but that one place may be open and not queued, and one closed and not handed on
+-- the invariant of the labels between two steps of a search, except that one place may be open and not queued, and one closed and not propagated
 pub record IsSearching (p : Problem) (l : Labels) (unqueued unhanded : Option Place) : Type 0 where
   pub attained : (x : Place) (v : Ahead) → ahead_in (label_at l x) ≡ Some v → (at : Point) × IsWayAhead p x at v
   pub small : (x : Place) (v : Ahead) → ahead_in (label_at l x) ≡ Some v → IsSmallAhead v
@@ -111,7 +111,7 @@ pub record IsSearching (p : Problem) (l : Labels) (unqueued unhanded : Option Pl
   pub marked : IsMarked l.table
   pub rooms : HasRooms p l
 
--- what a label weighs: a lesser one weighs less, and none weighs most
+-- the weight of a label: a lesser one weighs less, and no label weighs most
 abbrev pub label_weight : Label → ℕ
 label_weight Absent = 300000000000000001 * 43285938432024003289603
 label_weight (Open v) = v.cost * 43285938432024003289603 + v.runs * 13158408000000001 + int_gap (negsuc 6579203999999999) v.lean
@@ -120,11 +120,11 @@ label_weight (Closed v) = v.cost * 43285938432024003289603 + v.runs * 1315840800
 abbrev pub row_weight : Row → ℕ
 row_weight r = label_weight r.east + label_weight r.south + label_weight r.west + label_weight r.north
 
--- what is still to be done at most: each candidate counts, and all that labels may still fall
+-- an upper bound on the remaining work: each candidate counts, and each possible fall of a label
 abbrev pub weight : Labels → ℕ
 weight l = length (heap_items l.queue.heap) + sum_by row_weight l.table.rows.items
 
--- labels and what was found have not risen
+-- the labels and the best cost have not risen
 pub record Falls (old new : Labels) : Type 0 where
   pub labels : (x : Place) (v : Ahead) → ahead_in (label_at old x) ≡ Some v → IsKnown new x v
   pub best : new.best ≤ old.best
@@ -134,7 +134,7 @@ pub record Spreads (old new : Labels) : Type 0 where
   pub falls : Falls old new
   pub closed : (x : Place) (v : Ahead) → label_at new x ≡ Closed v → label_at old x ≡ Closed v
 
--- the stub of the ending was offered to all who come to its port
+-- the stub of the ending was offered to the places of all headings at its port
 abbrev pub IsStubOffered : Problem → Labels → Ending → Type 0
 IsStubOffered p l e =
     (h : Dir) → IsOffered p l (record { crossing = e.crossing; stage = length p.task.now.via; heading = h }) e.port

@@ -1,4 +1,4 @@
--- What a search keeps true of its labels, and what its calls answer.
+-- The invariants of the labels of a search, and the results of its calls.
 pub mod Labels
 pub mod Starting
 pub mod Following

@@ -1,4 +1,4 @@
--- Where the first walk enters the lines, and what the labels along it say. No public clause cites this module.
+-- The entry of the first walk, and the labels along it. No public clause cites this module.
 use Rattle.std.specs.Prelude.{◌≡◌, ◌≢◌, ◌+◌, ◌+ℤ◌, List, ◌++◌, Option, Some, None, Contains, All}
 use Rattle.std.specs.Ordering.{nat_cmp, ordering_then}
 use Rattle.std.specs.declared.cmp.Ordering.TheVariants.{Less, Greater}
@@ -16,37 +16,37 @@ use Rattle.search_labels.specs.declared.problem.Problem.{Problem}
 use Rattle.route_search.specs.declared.labels.Labels.{Labels}
 use Rattle.route_search.specs.Labels.{label_at}
 
--- a whole walk that enters there and has so much ahead
+-- the key of a whole walk that enters there and has this ahead
 abbrev pub whole_from : Entry → Ahead → Ahead
 whole_from e v = record { cost = e.lead + v.cost; runs = v.runs + 1; lean = v.lean +ℤ across (way_of e.place.heading) e.port }
 
--- a walk that enters at the one is no greater than one at the other, and of equals it has no later start choice
+-- a walk that enters at the first entry is no greater than one at the second, and on a tie it has no later start choice
 abbrev pub EntersNoLater : Entry → Ahead → Entry → Ahead → Type 0
 EntersNoLater d v e w = ordering_then (ahead_cmp (whole_from d v) (whole_from e w)) (nat_cmp d.choice e.choice) ≢ Greater
 
--- of the entries that have a label no other is better, and so much is ahead of this one
+-- no other of the entries that have a label is better than this one, and this is ahead of it
 pub record IsLeastEntry (l : Labels) (entries : List Entry) (entry : Entry) (v : Ahead) : Type 0 where
   pub is : Contains entries entry
   pub label : ahead_in (label_at l entry.place) ≡ Some v
   pub least : All (λ e. (w : Ahead) → ahead_in (label_at l e.place) ≡ Some w → EntersNoLater entry v e w) entries
 
--- so it is of the entry that was found, or none was found, since none has a label
+-- the same of the entry found so far, or there is none, since none has a label
 abbrev pub IsLeastOf : Labels → List Entry → Option (Entry × Ahead) → Type 0
 IsLeastOf l entries None = All (λ e. ahead_in (label_at l e.place) ≡ None) entries
 IsLeastOf l entries (Some found) = IsLeastEntry l entries found.0 found.1
 
--- a walk that enters there and has so much ahead is less than one at the entry that was found, if one was
+-- a walk that enters there and has this ahead is less than one at the entry found so far, if there is one
 abbrev pub IsLessThan : Entry → Ahead → Option (Entry × Ahead) → Type 0
 IsLessThan e v None = Unit {0}
 IsLessThan e v (Some found) = ahead_cmp (whole_from e v) (whole_from found.0 found.1) ≡ Less
 
--- of the entry and the one that was found, this is the better one: the entry where its label makes a walk less
+-- this is the better of the entry and the entry found so far: the entry if its label makes a walk less
 pub record IsBetterOf (l : Labels) (e : Entry) (found better : Option (Entry × Ahead)) : Type 0 where
   pub none : ahead_in (label_at l e.place) ≡ None → better ≡ found
   pub less : (v : Ahead) → ahead_in (label_at l e.place) ≡ Some v → IsLessThan e v found → better ≡ Some (e, v)
   pub not_less : (v : Ahead) → ahead_in (label_at l e.place) ≡ Some v → (IsLessThan e v found → ⊥) → better ≡ found
 
--- a first walk, its way, and the labels along it: each says what is ahead
+-- a first walk, its way, and the labels along it, each with what is ahead there
 pub record IsLabelled (p : Problem) (l : Labels) (t : Triple) : Type 0 where
   pub first : IsFirst p.solids.now p.task.now t
   pub along : GoesAlongWay p.solids.now p.arena.now p.task.now t
@@ -54,7 +54,7 @@ pub record IsLabelled (p : Problem) (l : Labels) (t : Triple) : Type 0 where
       Leads p.arena.now p.task.now.via along.entry passed x → StandsAt p.arena.now x.crossing at →
       ahead_in (label_at l x) ≡ Some (ahead p.task.now.penalty x.heading at (steps_of_way legs along.end) along.end.cost)
 
--- a first walk enters there, and so much is ahead of it
+-- a first walk enters there, and this is ahead of it
 pub record EntersAt (p : Problem) (l : Labels) (entry : Entry) (v : Ahead) (t : Triple) : Type 0 where
   pub labelled : IsLabelled p l t
   pub start : entry.choice ≡ t.start

@@ -26,7 +26,7 @@ pub struct Finder<'a> {
     ghost idle: { AreNone labels } by { Prim.hlevel props },
 }
 
-/// The answer of a search that begins without labels and leaves some.
+/// The result of a search that begins without labels and leaves some.
 fn search(
     alloc: Global,
     arena: &LineArena,
@@ -66,10 +66,10 @@ impl<'a> Finder<'a> {
         }
     }
 
-    /// The route of the task's first walk, and `None` exactly where no walk is legal.
+    /// The route of the task's first walk, or `None` exactly if no walk is legal.
     ///
-    /// The tally rises by one, also where memory is wanting, which is the only error. The finder may be used again
-    /// after it.
+    /// The tally rises by one, even when out of memory, which is the only error. The finder may be
+    /// used again after it.
     pub fn find(&mut self, task: &Task, tally: &mut Tally) -> Result<Option<Route>, AllocError>
         requires { (floor : Floor) × IsProblem floor self.old.arena.now self.old.solids.now task.now }
         ensures answer { IfOk result (IsAnswer self.old.solids.now task.now) }
@@ -84,10 +84,10 @@ impl<'a> Finder<'a> {
     }
 }
 
-/// The route of the task's first walk, and `None` exactly where no walk is legal.
+/// The route of the task's first walk, or `None` exactly if no walk is legal.
 ///
-/// The arena stands for a floor with these solids of which the task's ports and checkpoints are anchors. The tally
-/// rises by one, also where memory is wanting, which is the only error.
+/// The arena represents a floor with these solids, and the task's ports and checkpoints are anchors
+/// of that floor. The tally rises by one, even when out of memory, which is the only error.
 pub fn find_first(
     alloc: Global,
     arena: &LineArena,

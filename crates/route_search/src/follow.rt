@@ -1,4 +1,4 @@
-//! The first walk is followed forwards, along labels, by its earliest steps.
+//! Follows the first walk forwards, from the entry to the end, along the labels.
 
 ghost use Rattle.std.specs.Prelude.{◌≡◌, ◌⊎◌, ◌+◌, ◌*◌, ◌^◌, ◌<◌, ◌≤◌, ◌==◌, ◌++◌, ◌∷◌, [], ◌↔◌, if◌then◌else◌, IsTrue, None, Some, All, Contains, IfOk, IfSome, IsNone, OnOk, unsigned_abs};
 ghost use Rattle.move_model.specs.Ahead.{with_stretch};
@@ -23,14 +23,16 @@ use search_labels::{DIRS, Ending, Entry, NOTHING, Problem, stage_at};
 use std::alloc::{AllocError, Global};
 use walk_model::{Points, Route};
 
-/// The rest of an end choice's stub: earlier where it is shorter, and then by the choice.
+/// An end stub that a walk is on: the steps that are left of it, and its end choice. It is earlier
+/// with fewer steps left, and then by the choice.
 #[derive(Clone, Copy, Debug, PartialEq, Eq, PartialOrd, Ord)]
 pub struct Tail {
     pub steps: u64,
     pub end: u32,
 }
 
-/// Where a walk stands: what lies ahead of the place, and a stub that passes it and may end the walk as well.
+/// A position of a walk: the place, what is ahead of it, and an end stub that passes the place and
+/// may also end the walk.
 #[derive(Clone, Copy, Debug)]
 pub struct Standing {
     pub place: Place,
@@ -39,7 +41,7 @@ pub struct Standing {
 }
 
 impl Standing {
-    /// The stub that passes the place, if it goes on in the direction.
+    /// The end stub that passes the place, if it continues in the direction.
     fn under_way(&self, dir: Dir) -> Option<Tail>
         ensures some { (b : Tail) → (result ≡ Some b) ↔ ((dir ≡ self.now.place.heading) × (self.now.tail ≡ Some b)) }
     {
@@ -59,14 +61,15 @@ struct Move {
     ahead: Ahead,
 }
 
-/// How a walk goes on.
+/// How a walk continues: it ends with a stub, or goes on to the next place.
 #[derive(Clone, Copy, Debug)]
 pub enum Next {
     Stop(Tail),
     Go(Standing),
 }
 
-/// Whether the stretch makes what is ahead of it, for a walk that comes to it in the heading, of what is behind it.
+/// Whether `ahead` is `behind` extended by the stretch, for a walk that enters the stretch with
+/// `heading`.
 fn makes(behind: Ahead, heading: Dir, stretch: Stretch, penalty: u64, ahead: Ahead) -> bool
     requires cost { behind.cost + stretch.steps + penalty * 2 < 2 ^ 64 }
     requires runs { behind.runs + 1 < 2 ^ 32 }
@@ -76,7 +79,7 @@ fn makes(behind: Ahead, heading: Dir, stretch: Stretch, penalty: u64, ahead: Ahe
     behind.behind(heading, stretch, penalty) == ahead
 }
 
-/// The stub of the ending.
+/// The end stub of the ending.
 fn stub_of(ending: &Ending) -> Tail
     ensures { result ≡ record { steps = ending.now.stub; end = ending.now.choice } }
 {
@@ -86,7 +89,7 @@ fn stub_of(ending: &Ending) -> Tail
     }
 }
 
-/// The earlier of the two.
+/// The earlier of `a` and `b`.
 fn earlier(a: Option<Tail>, b: Tail) -> Tail
     ensures one { (a ≡ Some result) ⊎ (result ≡ b) }
     ensures no_later { IsNoLater result b }
@@ -98,7 +101,8 @@ fn earlier(a: Option<Tail>, b: Tail) -> Tail
     }
 }
 
-/// How a walk goes on that has come to where both begin.
+/// The earlier continuation of two that begin at one position: along the end stub, or along the
+/// move; both at once where they run together.
 fn joined(tail: Option<Tail>, step: Option<Move>) -> Option<Next>
     ensures none { IsNone result → (tail ≡ None) × (step ≡ None) }
     ensures next { IfSome result (IsJoined tail step) }
@@ -112,7 +116,7 @@ fn joined(tail: Option<Tail>, step: Option<Move>) -> Option<Next>
         })),
         (Some(tail), None) => Some(Next::Stop(tail)),
         (Some(tail), Some(step)) => {
-            // A list that ends stands before those that go on.
+            // A list of steps that ends comes before those that continue it.
             if tail.steps <= step.steps {
                 return Some(Next::Stop(tail));
             }
@@ -129,7 +133,7 @@ fn joined(tail: Option<Tail>, step: Option<Move>) -> Option<Next>
     }
 }
 
-/// Puts in the corner at which a walk turns off its heading, if it does.
+/// Appends the corner at `at` if the walk turns there from `heading` to `dir`.
 fn turn_off(points: &mut Vec<Point>, heading: Dir, dir: Dir, at: Point) -> Result<(), AllocError>
     ensures { OnOk result (points.new.items ≡ (if turn heading dir == 0 then points.old.items else points.old.items ++ (at ∷ []))) }
 {
@@ -140,7 +144,7 @@ fn turn_off(points: &mut Vec<Point>, heading: Dir, dir: Dir, at: Point) -> Resul
 }
 
 impl Labels {
-    /// What is known to lie ahead of the place.
+    /// What is ahead of the place, by its label.
     fn ahead_of(&self, problem: &Problem<'_>, place: &Place) -> Option<Ahead>
         requires searching { IsSearching problem.now self.now None None }
         requires place { IsPlace problem.now place.now }
@@ -150,7 +154,8 @@ impl Labels {
         self.table.label(place, number).ahead()
     }
 
-    /// Whether a walk that stands there may end with the stub of the ending, which leads in the direction.
+    /// Whether a walk at the position may end with the stub of the ending, which leads in the
+    /// direction.
     fn may_end(problem: &Problem<'_>, standing: &Standing, dir: Dir, ending: &Ending) -> bool
         requires ready { IsReady problem.now }
         requires stage { standing.now.place.stage ≤ 4 }
@@ -175,7 +180,7 @@ impl Labels {
             )
     }
 
-    /// The earliest of the stubs in the direction that may end the walk.
+    /// The earliest end stub in the direction by which the walk may end.
     fn tail_in(problem: &Problem<'_>, standing: &Standing, dir: Dir) -> Option<Tail>
         requires ready { IsReady problem.now }
         requires stage { standing.now.place.stage ≤ 4 }
@@ -190,7 +195,7 @@ impl Labels {
         best
     }
 
-    /// The move in the direction, where a least walk may take it.
+    /// The move in the direction, if an optimal walk may take it.
     fn move_in(&self, problem: &Problem<'_>, standing: &Standing, dir: Dir) -> Option<Move>
         requires ready { IsReady problem.now }
         requires searching { IsSearching problem.now self.now None None }
@@ -230,7 +235,7 @@ impl Labels {
         })
     }
 
-    /// How the earliest of the least walks in the direction goes on.
+    /// The first continuation of an optimal walk in the direction.
     fn next_in(&self, problem: &Problem<'_>, standing: &Standing, dir: Dir) -> Option<Next>
         requires ready { IsReady problem.now }
         requires searching { IsSearching problem.now self.now None None }
@@ -243,7 +248,7 @@ impl Labels {
         joined(tail, step)
     }
 
-    /// How the earliest of the least walks goes on, and in which direction.
+    /// The first continuation of an optimal walk, and its direction.
     fn next(&self, problem: &Problem<'_>, standing: &Standing) -> Option<(Dir, Next)>
         requires ready { IsReady problem.now }
         requires searching { IsSearching problem.now self.now None None }
@@ -259,7 +264,7 @@ impl Labels {
         None
     }
 
-    /// The route of the earliest of the least walks from the entry, ahead of which lies so much.
+    /// The route of the first optimal walk from `entry`; `ahead` is what is ahead of it there.
     pub fn follow(
         &self,
         problem: &Problem<'_>,
@@ -301,7 +306,8 @@ impl Labels {
         }
     }
 
-    /// What a walk is, in the order of walks, that enters there and has so much ahead.
+    /// The key of a walk in the order of walks, if it enters at `entry` and has `ahead` ahead of
+    /// it.
     fn whole(entry: &Entry, ahead: Ahead) -> Ahead
         requires entry { IsSmallEntry entry.now }
         requires ahead { IsSmallAhead ahead }
@@ -314,7 +320,7 @@ impl Labels {
         }
     }
 
-    /// Of the entry and the one that was found, the one where a walk is less; of equals the one that was found.
+    /// The better of `entry` and the entry found so far; on a tie the one found so far.
     fn better(
         &self,
         problem: &Problem<'_>,
@@ -342,7 +348,7 @@ impl Labels {
         }
     }
 
-    /// The entry of the least walks, the earliest choice of several, and what lies ahead of it.
+    /// The entry of the optimal walks, the earliest start choice on a tie, and what is ahead of it.
     pub fn first_entry(&self, problem: &Problem<'_>) -> Option<(Entry, Ahead)>
         requires ready { IsReady problem.now }
         requires searching { IsSearching problem.now self.now None None }

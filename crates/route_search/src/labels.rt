@@ -1,11 +1,11 @@
-//! The labels of a search and the queue of those that are open.
+//! The labels of a search and the queue of the open ones.
 ghost use Rattle.search_labels.specs.Tables.{IsMarked};
 ghost use Rattle.route_search.specs.Labels.{AreNone};
 
 use search_labels::{MOST_COST, Queue, Table};
 use std::alloc::Global;
 
-/// The labels of a search, the open ones in a queue, and what a walk that was found costs.
+/// The labels of a search, the open ones in a queue, and the cost of the best walk that was found.
 ///
 /// Between two searches there is no label and no candidate, and `best` is `MOST_COST`.
 #[derive(Drop)]
@@ -16,7 +16,7 @@ pub struct Labels {
 }
 
 impl Labels {
-    /// No labels. Takes no memory.
+    /// Labels without any entry. Takes no memory.
     pub fn new(alloc: Global) -> Labels
         ensures { AreNone result }
     {
@@ -27,7 +27,7 @@ impl Labels {
         }
     }
 
-    /// Takes all labels and candidates away.
+    /// Removes all labels and candidates.
     pub fn clear(&mut self)
         requires { IsMarked self.old.table }
         ensures { AreNone self.new }

@@ -1,4 +1,4 @@
-//! The first of the legal walks of a task, by a search over the crossings of an arena.
+//! The first of the legal walks of a task, found by a search over the crossings of an arena.
 //!
 //! Lengths and costs are in thousandths of a GML unit.
 #![tactic(auto)]

@@ -1,4 +1,4 @@
-//! Labels are spread backwards, from the endings on, the lowest bound first.
+//! Spreads labels backwards from the endings, the lowest bound first.
 ghost use Rattle.std.specs.Prelude.{◌≡◌, ◌≢◌, ◌<◌, ◌≤◌, ◌+◌, ◌↔◌, ◌⊎◌, Option, None, Some, All, Contains, IsTrue, OnErr, OnOk, length};
 ghost use Rattle.std.specs.BinaryHeap.{heap_items};
 ghost use Rattle.std.specs.declared.cmp.Reverse.{Reverse};
@@ -21,7 +21,7 @@ use plane_geom::{Dir, Point};
 use search_labels::{Candidate, Label, MOST_RUNS, NOTHING, Problem, stage_at};
 use std::alloc::AllocError;
 
-/// The place at the crossing, with so many checkpoints behind, in the heading.
+/// The place at the crossing with the heading, after `stage` checkpoints.
 fn place_at(crossing: CrossId, stage: u32, heading: Dir) -> Place
     ensures { result ≡ record { crossing = crossing; stage = stage; heading = heading } }
 {
@@ -33,7 +33,7 @@ fn place_at(crossing: CrossId, stage: u32, heading: Dir) -> Place
 }
 
 impl Labels {
-    /// Whether the place has a candidate with the bound that goes with this cost ahead.
+    /// Whether the label is open with this cost, so that its place is queued with the same bound.
     fn is_queued(old: Label, cost: u64) -> bool
         ensures { IsTrue result ↔ ((known : Ahead) × (old ≡ Label.Open known) × (known.cost ≡ cost)) }
     {
@@ -43,7 +43,8 @@ impl Labels {
         }
     }
 
-    /// Queues the candidate, unless its place, which had this label, is queued with it already.
+    /// Queues the candidate, unless its place, whose label was `old`, is already queued with the
+    /// same bound.
     fn queue_up(&mut self, old: Label, cost: u64, candidate: Candidate) -> Result<(), AllocError>
         requires { (known : Ahead) → old ≡ Label.Open known → known.cost ≡ cost →
             Contains (heap_items self.old.queue.heap) (record { 0 = candidate }) }
@@ -62,7 +63,7 @@ impl Labels {
         Ok(())
     }
 
-    /// Whether the label says no more than this.
+    /// Whether the label is at most `ahead`.
     fn is_at_most(old: Label, ahead: Ahead) -> bool
         ensures { IsTrue result ↔ ((known : Ahead) × (ahead_in old ≡ Some known) × (ahead_cmp known ahead ≢ Greater)) }
     {
@@ -72,7 +73,8 @@ impl Labels {
         }
     }
 
-    /// Takes what lies ahead of the place, which stands at the point, for its label where that is less.
+    /// Makes `ahead` the label of the place, which is at the point, if that is less and may be part
+    /// of a first walk.
     fn offer(
         &mut self,
         problem: &Problem<'_>,
@@ -110,7 +112,7 @@ impl Labels {
         Ok(())
     }
 
-    /// Offers the stretch, with what lies ahead of it, to the place where it begins.
+    /// Offers the stretch, followed by `ahead`, to the place where it begins.
     fn offer_behind(
         &mut self,
         problem: &Problem<'_>,
@@ -138,7 +140,8 @@ impl Labels {
         Ok(())
     }
 
-    /// Offers the stretch, with what lies ahead of it, to all who come to the crossing where it begins.
+    /// Offers the stretch, followed by `ahead`, to the places of all headings at the crossing where
+    /// it begins.
     fn offer_all(
         &mut self,
         problem: &Problem<'_>,
@@ -209,7 +212,7 @@ impl Labels {
         Ok(())
     }
 
-    /// Hands on what lies ahead of the place to all from whom a move leads to it.
+    /// Propagates what is ahead of the place to all places from which a move leads to it.
     fn hand_on(
         &mut self,
         problem: &Problem<'_>,
@@ -245,7 +248,7 @@ impl Labels {
         Ok(())
     }
 
-    /// Closes the label of the place, if it is open, and hands it on.
+    /// Closes the label of the place, if it is open, and propagates it.
     fn take(&mut self, problem: &Problem<'_>, place: &Place) -> Result<(), AllocError>
         requires ready { IsReady problem.now }
         requires searching { IsSearching problem.now self.old (Some place.now) None }

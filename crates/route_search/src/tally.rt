@@ -1,10 +1,10 @@
-//! How many searches were made.
+//! A counter of searches.
 ghost use Rattle.std.specs.Prelude.{◌≡◌, ◌^◌, ◌<◌};
 ghost use Rattle.line_arena.specs.Count.{counted_by};
 
 use std::marker::Model;
 
-/// Counts searches, up to 2^64 - 1. Contracts see it as its count.
+/// Counts searches, up to 2^64 - 1. Its model is the count.
 #[derive(Debug, Drop)]
 pub struct Tally {
     count: u64,
@@ -21,14 +21,14 @@ impl Model for Tally {
 }
 
 impl Tally {
-    /// A tally of no search.
+    /// A tally with the count 0.
     pub fn new() -> Tally
         ensures { result ≡ 0 }
     {
         Tally { count: 0 }
     }
 
-    /// What holds of every tally, for proofs: its count is below 2^64. Does nothing.
+    /// The number of searches, and 2^64 - 1 if there were more.
     pub fn bounded(&self)
         ensures { self.now < 2 ^ 64 }
     {
@@ -42,7 +42,7 @@ impl Tally {
         self.count
     }
 
-    /// A tally that begins at 0, to be joined to this one later. This one stays.
+    /// A tally that begins at 0, to be joined to this one later. This one stays as it is.
     pub fn split(&mut self) -> Tally
         ensures part { result ≡ 0 }
         ensures stays { self.new ≡ self.old }
@@ -57,7 +57,7 @@ impl Tally {
         self.count = self.count.saturating_add(part.count);
     }
 
-    /// Counts one search more.
+    /// Counts one more search.
     pub(crate) fn rise(&mut self)
         ensures { self.new ≡ counted_by 1 self.old }
     {

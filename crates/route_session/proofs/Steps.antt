@@ -28,7 +28,7 @@ free s [] is n h = tt
 free s (e ∷ es) [] n h = elim h [ ]
 free s (e ∷ es) (i ∷ is) n h = (h.0, h.1, free (changed e s) es is n h.3)
 
--- the inverse at a place may be applied where those behind it were
+-- the inverse at a place may be applied after those that follow it
 restorable_at : (is : List Inverse) (s : Scene) (k : ℕ) (i : Inverse) → AreRestorable is s → slice_get is k ≡ Some i → IsRestorable i (taken_back (drop (suc k) is) s)
 restorable_at [] s k i all at = cc
 restorable_at (j ∷ is) s zero i all at = let same : j ≡ i = cc in subst (λ x. IsRestorable x (taken_back is s)) same all.0

@@ -53,7 +53,7 @@ working_of txn = option_map (λ t. t.working) txn
 turned_is : (t : Step Exchange) → IsTurned here_of there_of t (turned_step t)
 turned_is t = record { back = refl; forth = refl; here_is_there = refl; there_is_here = refl }
 
--- undo and redo are refused where there is no step, and no other way but for an open transaction
+-- undo and redo are refused if there is no step, and otherwise only if a transaction is open
 pub nothing_behind : (l : Log Exchange) (s : Scene) (txn : Option Transaction) → is_some txn ≡ false → slice_get l.past 0 ≡ None
     → step commands.Undo (world_of l s (working_of txn)) ≡ Err (refused faults.NothingToUndo)
 nothing_behind l s txn shut none = rw (none_by txn shut, empty_by l.past none) refl

@@ -1,4 +1,4 @@
--- What a session upholds, and what its steps do to a scene. No public clause cites this module.
+-- The invariant of a session, and the effect of its steps on a scene. No public clause cites this module.
 use Rattle.std.specs.Prelude.{◌≡◌, List, [], ◌∷◌, Option, None, IfSome}
 use Rattle.plane_geom.specs.Floor.{IsFloor}
 use Rattle.walk_model.specs.declared.route.Answer.{Answer}
@@ -17,7 +17,7 @@ use Rattle.undo_log.specs.Log.{Log}
 use Rattle.session_laws.specs.History.{IsHistory}
 use Rattle.route_book.specs.Exchange.{Exchange, turned}
 
--- the graph is that of the scene's floor, the book right for the scene; the history leads from it, and so does the transaction
+-- the graph is that of the scene's floor, the book is right for the scene, and the history and the transaction lead from it
 pub record IsUpheld (scene : Scene) (graph : Drawing) (book : List Answer) (log : Log Exchange) (txn : Option Transaction) : Type 0 where
   pub valid : IsValid scene
   pub floor : graph.floor ≡ floor_of scene
@@ -26,11 +26,11 @@ pub record IsUpheld (scene : Scene) (graph : Drawing) (book : List Answer) (log 
   pub history : IsHistory (λ c. c.here) (λ c. c.there) log scene
   pub begun : IfSome txn (BeganOn scene)
 
--- the step with its answers turned round
+-- the step with its answers exchanged
 abbrev pub turned_step : Step Exchange → Step Exchange
 turned_step t = record t { changes = turned t.changes }
 
--- each inverse, from the last to the first, may be applied to the scene that those behind it leave
+-- each inverse, from last to first, may be applied to the scene that those after it leave
 abbrev pub AreRestorable : List Inverse → Scene → Type 0
 AreRestorable [] s = Unit {0}
 AreRestorable (i ∷ is) s = IsRestorable i (taken_back is s) × AreRestorable is s

@@ -1,4 +1,4 @@
-//! The world with right routes: a diagram's scene under transactions, undo and redo, with its routes at hand.
+//! A session: a diagram's scene under transactions, undo and redo, with its current routes.
 //!
 //! Coordinates, lengths and costs are whole thousandths of a GML unit.
 #![tactic(auto)]

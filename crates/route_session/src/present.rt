@@ -16,7 +16,7 @@ use std::alloc::{AllocError, Global};
 use std::thread::Threads;
 use visibility_graph::Graph;
 
-/// A scene, the graph of its floor, its answers, and how many searches were made.
+/// A scene, the graph of its floor, its answers, and the number of searches so far.
 #[derive(Drop)]
 pub(crate) struct Present {
     pub(crate) alloc: Global,
@@ -27,7 +27,8 @@ pub(crate) struct Present {
 }
 
 impl Present {
-    /// Repairs the graph to the floor of the other scene. All memory is taken before the graph changes.
+    /// Repairs the graph to the floor of the other scene. Takes all memory before the graph
+    /// changes.
     pub(crate) fn repair(&mut self, other: &Scene) -> Result<Repair, AllocError>
         requires { IsFloor self.old.graph.floor }
         ensures scene { self.new.scene ≡ self.old.scene }
@@ -48,8 +49,8 @@ impl Present {
         Ok(repair)
     }
 
-    /// Repairs the graph to the floor of the other scene, and finds what is to be exchanged in the book. Where memory
-    /// is wanting the graph stands for the present scene's floor again.
+    /// Repairs the graph to the floor of the other scene, and finds the exchange of answers for the
+    /// book. When out of memory, the graph is again that of the present scene's floor.
     pub(crate) fn follow<R: Threads + Sync, G: Gate>(
         &mut self,
         rt: &R,
@@ -93,7 +94,7 @@ impl Present {
         found
     }
 
-    /// Puts the other scene in the place of the present one, and its answers into the book.
+    /// Replaces the present scene by the other one, and puts its answers into the book.
     pub(crate) fn exchange(&mut self, other: Scene, changes: &mut Changes)
         requires { self.old.book ≡ changes.old.here }
         ensures scene { self.new.scene ≡ other }

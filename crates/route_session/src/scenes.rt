@@ -6,7 +6,8 @@ ghost use Rattle.route_session.specs.Upheld.{AreFree, AreRestorable};
 use scene_store::{Edit, Edits, Inverse, Inverses, Scene, SceneFault};
 use std::alloc::AllocError;
 
-/// The scene before a step: its inverses, from the last to the first, on a copy of the scene after it.
+/// The scene before a step: its inverses, from last to first, applied to a copy of the scene after
+/// it.
 pub(crate) fn scene_before(scene: &Scene, back: &[Inverse]) -> Result<Scene, AllocError>
     requires { AreRestorable back.now scene.now }
     ensures { IfOk result (λ s. s ≡ taken_back back.now scene.now) }
@@ -18,7 +19,7 @@ pub(crate) fn scene_before(scene: &Scene, back: &[Inverse]) -> Result<Scene, All
     Ok(before)
 }
 
-/// The scene after a step: its edits on a copy of the scene before it.
+/// The scene after a step: its edits, applied to a copy of the scene before it.
 pub(crate) fn scene_after(scene: &Scene, forth: &[Edit]) -> Result<Scene, AllocError>
     requires { AreFree forth.now scene.now }
     ensures { IfOk result (λ s. s ≡ redone forth.now scene.now) }
@@ -30,7 +31,7 @@ pub(crate) fn scene_after(scene: &Scene, forth: &[Edit]) -> Result<Scene, AllocE
     Ok(after)
 }
 
-/// An edit that is not refused answers want of memory alone.
+/// An edit that is not refused fails only when out of memory.
 fn no_room(_fault: SceneFault) -> AllocError {
     AllocError
 }

@@ -37,12 +37,13 @@ use visibility_graph::Graph;
 
 /// A scene that is edited in transactions, with its history and its routes.
 ///
-/// Contracts see it as its world (the scenes behind, the present one, those ahead, and the working one of an open
-/// transaction), the answers of its book, the number of searches that it made, and the number of lines and crossings
-/// that its graph was written. The book is always right for the present scene.
+/// Its model is its world (the past scenes, the present one, the future ones, and the working scene
+/// of an open transaction), the answers of its book, the number of its searches, and the number of
+/// lines and crossings that were written into its graph. The book is always right for the present
+/// scene.
 ///
-/// After an error no transaction is open, and the scenes, the book and both numbers are as before; after `commit`
-/// wanted memory the two numbers may have risen.
+/// After an error no transaction is open, and the scenes, the book and both numbers are as before;
+/// only if `commit` runs out of memory, the two numbers may have risen.
 #[derive(Drop)]
 pub struct Session {
     present: Present,
@@ -69,10 +70,11 @@ impl Model for Session {
 }
 
 impl Session {
-    /// A session on the scene, with no past and no future, by at most `workers` searches side by side. `searched`
-    /// begins with the number of connectors, `written` with that of the graph's lines and crossings.
+    /// A session on the scene, with no past and no future, by at most `workers` searches side by
+    /// side. `searched` begins with the number of connectors, `written` with the number of the
+    /// graph's lines and crossings.
     ///
-    /// The only error is want of memory.
+    /// The only error is out of memory.
     pub fn open<R: Threads + Sync, G: Gate>(
         rt: &R,
         alloc: Global,
@@ -107,7 +109,8 @@ impl Session {
         })
     }
 
-    /// Opens a transaction. It answers `AlreadyOpen` exactly where one is open, or want of memory.
+    /// Opens a transaction. The error is `AlreadyOpen` exactly if one is open, otherwise only out
+    /// of memory.
     pub fn begin(&mut self) -> Result<(), SessionFault>
         ensures ok { OnOk result (step commands.Begin self.old.world ≡ Ok self.new.world) }
         ensures fault { IfErr result (IsFaultOf commands.Begin self.old.world) }
@@ -126,10 +129,11 @@ impl Session {
         Ok(())
     }
 
-    /// Does an edit on the working scene. A pin that it adds has a direction.
+    /// Applies an edit to the working scene. A pin that it adds has a direction.
     ///
-    /// It answers `NoTransaction` exactly where none is open, else `Edit` with the fault exactly where the working
-    /// scene refuses the edit, or want of memory, which `Edit` never holds.
+    /// The error is `NoTransaction` exactly if none is open; otherwise `Edit` with the fault
+    /// exactly if the working scene refuses the edit; otherwise only out of memory, which `Edit`
+    /// never contains.
     pub fn edit(&mut self, edit: &Edit) -> Result<(), SessionFault>
         requires { IsDirected edit.now }
         ensures ok { OnOk result (step (commands.Edit edit.now) self.old.world ≡ Ok self.new.world) }
@@ -148,11 +152,11 @@ impl Session {
         Ok(())
     }
 
-    /// Closes the transaction: its working scene is the present one, with right routes. The stale connectors alone
-    /// are searched, by at most `workers` searches side by side.
+    /// Closes the transaction: its working scene becomes the present one, with right routes. Only
+    /// the stale connectors are searched, by at most `workers` searches side by side.
     ///
-    /// It answers `NoTransaction` exactly where none is open, or want of memory. It takes all memory before scene,
-    /// book and history change.
+    /// The error is `NoTransaction` exactly if none is open, otherwise only out of memory. It takes
+    /// all memory before the scene, the book and the history change.
     pub fn commit<R: Threads + Sync, G: Gate>(
         &mut self,
         rt: &R,
@@ -189,7 +193,8 @@ impl Session {
         Ok(())
     }
 
-    /// Drops the transaction. It answers `NoTransaction` exactly where none is open, and takes no memory.
+    /// Drops the transaction. The error is `NoTransaction` exactly if none is open. Takes no
+    /// memory.
     pub fn abort(&mut self) -> Result<(), SessionFault>
         ensures ok { OnOk result (step commands.Abort self.old.world ≡ Ok self.new.world) }
         ensures fault { IfErr result (λ f. step commands.Abort self.old.world ≡ Err (refused f)) }
@@ -206,9 +211,9 @@ impl Session {
 
     /// Goes one scene back, with its routes, without a search.
     ///
-    /// It answers `AlreadyOpen` exactly where a transaction is open, else `NothingToUndo` exactly where the past is
-    /// empty, or want of memory. It takes memory for a copy of the scene, its floor and the plan of the repair alone,
-    /// before anything changes.
+    /// The error is `AlreadyOpen` exactly if a transaction is open; otherwise `NothingToUndo`
+    /// exactly if the past is empty; otherwise only out of memory. It takes memory only for a copy
+    /// of the scene, its floor and the plan of the repair, before anything changes.
     pub fn undo(&mut self) -> Result<(), SessionFault>
         ensures ok { OnOk result (step commands.Undo self.old.world ≡ Ok self.new.world) }
         ensures fault { IfErr result (IsFaultOf commands.Undo self.old.world) }
@@ -235,11 +240,11 @@ impl Session {
         Ok(())
     }
 
-    /// Goes one scene on, with its routes, without a search.
+    /// Goes one scene forward, with its routes, without a search.
     ///
-    /// It answers `AlreadyOpen` exactly where a transaction is open, else `NothingToRedo` exactly where the future is
-    /// empty, or want of memory. It takes memory for a copy of the scene, its floor and the plan of the repair alone,
-    /// before anything changes.
+    /// The error is `AlreadyOpen` exactly if a transaction is open; otherwise `NothingToRedo`
+    /// exactly if the future is empty; otherwise only out of memory. It takes memory only for a
+    /// copy of the scene, its floor and the plan of the repair, before anything changes.
     pub fn redo(&mut self) -> Result<(), SessionFault>
         ensures ok { OnOk result (step commands.Redo self.old.world ≡ Ok self.new.world) }
         ensures fault { IfErr result (IsFaultOf commands.Redo self.old.world) }
@@ -266,7 +271,7 @@ impl Session {
         Ok(())
     }
 
-    /// Drops the transaction if one is open. It takes no memory.
+    /// Drops the transaction if one is open. Takes no memory.
     pub fn give_up(&mut self)
         ensures world { self.new.world ≡ given_up self.old.world }
         ensures book { self.new.book ≡ self.old.book }
@@ -299,33 +304,36 @@ impl Session {
         &self.present.book
     }
 
-    /// The law that the book is right for the present scene, whatever was called before. It does nothing.
+    /// The law that the book is right for the present scene, whatever was called before. Does
+    /// nothing.
     pub fn right(&self)
         ensures { AreAnswers self.now.world.present self.now.book }
     {
         let _book = &self.present.book;
     }
 
-    /// How many searches were made, and 2^64 - 1 where it would be more.
+    /// The number of searches, and 2^64 - 1 if there were more.
     pub fn searched(&self) -> u64
         ensures { result ≡ self.now.searched }
     {
         self.present.tally.count()
     }
 
-    /// How many lines and crossings the graph was written, and 2^64 - 1 where it would be more.
+    /// The number of lines and crossings that were written into the graph, and 2^64 - 1 if there
+    /// were more.
     pub fn written(&self) -> u64
         ensures { result ≡ self.now.written }
     {
         self.present.graph.arena().written()
     }
 
-    /// The lines of the present scene's routes, with the solutions of both phases of nudging. Its only error is want
-    /// of memory.
+    /// The lines of the present scene's routes, with the solutions of both phases of nudging. The
+    /// only error is out of memory.
     pub fn nudged(&self) -> Result<Nudged, AllocError>
         // The solutions of both phases and the lines are those of the right answers.
         ensures nudged { IfOk result (λ n. IsNudgedScene self.now.world.present self.now.book n.x_solutions.items n.y_solutions.items n.routes.items) }
-        // Every separation of a phase is met, at its bundle's gap where it links two runs, else at the wanted nudge.
+        // Every separation of a phase is met: by its bundle's gap if it links two runs, otherwise
+        // by the wanted nudge.
         ensures apart { IfOk result (λ n. (p : IsNudgedScene self.now.world.present self.now.book n.x_solutions.items n.y_solutions.items n.routes.items) →
             KeepsApart p.nudged.x × KeepsApart p.nudged.y) }
         // Every line is a legal walk of its connector, with the choices of its route.
@@ -337,7 +345,7 @@ impl Session {
         nudge(present.alloc, &present.scene, present.book.answers())
     }
 
-    /// The session's tally, whose count is `searched`. It drops the rest, and takes no memory.
+    /// The session's tally, whose count is `searched`. Drops the rest, and takes no memory.
     pub fn into_tally(self) -> Tally
         ensures { result ≡ self.searched }
     {
@@ -347,7 +355,8 @@ impl Session {
     }
 }
 
-/// Moves the latest step ahead, with its answers in the book and the scene before it as the present one.
+/// Moves the latest past step into the future; its answers go into the book, and the scene before
+/// it becomes the present one.
 fn exchange_back(log: &mut UndoLog<Changes>, present: &mut Present, scene: Scene)
     requires some { IsSome (slice_get log.old.past 0) }
     requires here { IfSome (slice_get log.old.past 0) (λ t. t.changes.here ≡ present.old.book) }
@@ -362,7 +371,8 @@ fn exchange_back(log: &mut UndoLog<Changes>, present: &mut Present, scene: Scene
     }
 }
 
-/// Moves the next step behind, with its answers in the book and the scene after it as the present one.
+/// Moves the next future step into the past; its answers go into the book, and the scene after it
+/// becomes the present one.
 fn exchange_forth(log: &mut UndoLog<Changes>, present: &mut Present, scene: Scene)
     requires some { IsSome (slice_get log.old.future 0) }
     requires here { IfSome (slice_get log.old.future 0) (λ t. t.changes.here ≡ present.old.book) }
@@ -377,7 +387,7 @@ fn exchange_forth(log: &mut UndoLog<Changes>, present: &mut Present, scene: Scen
     }
 }
 
-/// The fault of an edit, but want of memory by itself.
+/// The fault of an edit as a fault of the session; out of memory is a fault of its own.
 fn edit_fault(fault: SceneFault) -> SessionFault
     ensures memory { fault ≡ scene_faults.Memory → result ≡ faults.Memory }
     ensures other { fault ≢ scene_faults.Memory → result ≡ faults.Edit fault }

@@ -17,12 +17,12 @@ dirs_in ls = record { east = has_letter 69 ls; south = has_letter 83 ls; west = 
 abbrev pub is_known : ℕ → Bool
 is_known l = has_letter l (codes "ESWN")
 
--- each letter is a direction's and was not seen before
+-- each letter is a direction's and did not occur before
 abbrev are_allowed : List ℕ → List ℕ → Bool
 are_allowed seen [] = true
 are_allowed seen (l ∷ ls) = (is_known l && not (has_letter l seen)) && are_allowed (l ∷ seen) ls
 
--- the letters, the last first, in front of those that were seen
+-- the letters, the last first, in front of the earlier ones
 abbrev onto : List ℕ → List ℕ → List ℕ
 onto [] seen = seen
 onto (l ∷ ls) seen = onto ls (l ∷ seen)
@@ -70,7 +70,7 @@ all_more seen (l ∷ ls) = elim (told (is_known l && not (has_letter l seen))) a
     (λ _. with_letters (dirs_in seen) (l ∷ ls) ≡ cond (are_allowed seen (l ∷ ls)) (Some (dirs_in (onto (l ∷ ls) seen))) None)
     [ yes h ↦ rw (one_more seen l, h) (all_more (l ∷ seen) ls) | no h ↦ rw (one_more seen l, h) refl ]
 
--- no letter was seen before
+-- no letter occurred before
 abbrev are_fresh : List ℕ → List ℕ → Bool
 are_fresh seen ls = list_all (λ l. not (has_letter l seen)) ls
 
@@ -139,7 +139,7 @@ letters_read word some =
     ap (λ b. cond (b && (known && are_different word)) (Some (dirs_in word)) None) (lt-ltb 0 (length word) some)
     ∙ sym (all_more [] word ∙ ap (λ b. cond b (Some (dirs_in (onto word []))) None) allowed ∙ ap (λ d. cond (known && are_different word) (Some d) None) (same_dirs word))
 
--- where a letter is none or stands there twice, so is the word
+-- if a letter is no direction's or occurs twice, the word spells no directions
 pub letters_end : (d : Dirs) (word : List ℕ) (i : ℕ) → i < length word → with_letter d (get_or word i 0) ≡ None → with_letters d (drop i word) ≡ None
 letters_end d word i within none =
     ap (with_letters d) (drop-cons word i 0 within) ∙ ap (option_and_then (λ e. with_letters e (drop (suc i) word))) none

@@ -16,7 +16,7 @@ use Rattle.scene_model.specs.declared.edit.Edit.TheVariants.{AddNode, MoveNode, 
 use Rattle.scene_model.specs.Scene.{Scene, node_with, edge_with, is_loop, has_class, pin_count, via_count}
 use Rattle.scene_model.specs.Valid.{HasDirection}
 
--- a refusal where the test holds
+-- the refusal if the test holds
 abbrev pub when : Bool → SceneFault → Option SceneFault
 when true fault = Some fault
 when false fault = None
@@ -34,7 +34,7 @@ unknown_node s id = when (is_none (node_with s id)) (UnknownNode id)
 abbrev pub unknown_edge : Scene → ℕ → Option SceneFault
 unknown_edge s number = when (is_none (edge_with s number)) (UnknownEdge number)
 
--- what is said of the node, the edge, where it is there
+-- the refusal that `says` gives for the node, or the edge, if it exists
 abbrev pub at_node : Scene → ℤ → (Node → Option SceneFault) → Option SceneFault
 at_node s id says = option_and_then says (node_with s id)
 
@@ -53,11 +53,11 @@ half size = pos ((unsigned_abs size + 1) / 2)
 abbrev pub is_no_size : ℤ → Bool
 is_no_size size = int_lt size (pos 0) || int_lt (pos (2 * 10 ^ 9)) size
 
--- so far from 0 with the half size that it leaves the field
+-- a box with the half size, centred at the coordinate, reaches beyond the field
 abbrev pub is_off : ℤ → ℤ → Bool
 is_off coordinate half = nat_lt (10 ^ 9) (unsigned_abs coordinate + unsigned_abs half)
 
--- the pin stands outside a box with these half sizes
+-- the pin is outside a box with these half sizes
 abbrev pub is_outside : ℤ → ℤ → Pin → Bool
 is_outside half_w half_h p = nat_lt (unsigned_abs half_w) (unsigned_abs p.dx) || nat_lt (unsigned_abs half_h) (unsigned_abs p.dy)
 
@@ -75,7 +75,7 @@ in_use s n place p =
     if list_any (λ other. other.class == p.class) (remove n.pins (place - 1)) then None
     else option_map (λ e. PinInUse e.number) (find (uses n.id p.class) s.edges)
 
--- the place, counted from 1, names none of so many
+-- the place, counted from 1, is not that of one of `count` entries
 abbrev pub is_no_place : ℕ → ℕ → Bool
 is_no_place count place = place == 0 || nat_lt count place
 
@@ -85,7 +85,7 @@ out_of_limits Penalty v = int_lt v (pos 1) || int_lt (pos (10 ^ 9)) v
 out_of_limits Buffer v = int_lt v (pos 1) || int_lt (pos (10 ^ 6)) v
 out_of_limits Nudge v = int_lt v (pos 0) || int_lt (pos (10 ^ 6)) v
 
--- a pin, a node and an edge as edits make them
+-- a pin, a node and an edge as edits add them
 abbrev pub new_pin : ℕ → ℤ → ℤ → Dirs → Pin
 new_pin class dx dy dirs = record { class = class; dx = dx; dy = dy; dirs = dirs; cost = pos 0 }
 
@@ -155,16 +155,16 @@ refusals (DropVia number place) s =
     ∷ at_edge s number (λ e. when (is_no_place (length e.via) place) (NoSuchPlace place)) ∷ []
 refusals (Set what value) s = when (out_of_limits what value) (OutOfRange 3) ∷ []
 
--- why an edit is refused, if it is: the first refusal that holds
+-- why an edit is refused, or none: the first refusal that applies
 abbrev pub refusal : Edit → Scene → Option SceneFault
 refusal e s = first_some (refusals e s)
 
--- a pin that is added leads somewhere; no refusal says so
+-- a pin that is added has a direction; no refusal checks this
 abbrev pub IsDirected : Edit → Type 0
 IsDirected (AddPin id class dx dy dirs) = HasDirection dirs
 IsDirected e = Unit {0}
 
--- the scene with another node, another edge in the place of the one with this id, this number
+-- the scene with the node of this id changed, and with the edge of this number changed
 abbrev pub change_node : Scene → ℤ → (Node → Node) → Scene
 change_node s id change = record s { nodes = map (λ n. if int_eq n.id id then change n else n) s.nodes }
 
@@ -193,21 +193,21 @@ changed (AddVia number place x y) s = change_edge s number (λ e. record e { via
 changed (DropVia number place) s = change_edge s number (λ e. record e { via = remove e.via (place - 1) })
 changed (Set what value) s = record s { settings = with_setting what value s.settings }
 
--- what a call gives that is refused so or else leaves the scene after
+-- the result of a call with this refusal, or else with the scene after it
 abbrev pub edited_by : Option SceneFault → Scene → Result Scene SceneFault
 edited_by (Some fault) after = Err fault
 edited_by None after = Ok after
 
--- what an edit gives
+-- the result of an edit
 abbrev pub edited : Edit → Scene → Result Scene SceneFault
 edited e s = edited_by (refusal e s) (changed e s)
 
--- what a call answered and left that is refused so or else leaves the scene after; want of memory comes only where it is not refused
+-- the result and the effect of a call: the refusal and no change, or else the scene `after`; out of memory, with no change, only where it is not refused
 abbrev pub IsDone : Option SceneFault → Scene → Scene → Scene → Result Unit SceneFault → Type 0
 IsDone refusal after old new (Ok done) = (refusal ≡ None) × (new ≡ after)
 IsDone refusal after old new (Err Memory) = (refusal ≡ None) × (new ≡ old)
 IsDone refusal after old new (Err fault) = (refusal ≡ Some fault) × (new ≡ old)
 
--- the same of an edit
+-- the same for an edit
 abbrev pub IsEdited : Edit → Scene → Scene → Result Unit SceneFault → Type 0
 IsEdited e old new answer = IsDone (refusal e old) (changed e old) old new answer

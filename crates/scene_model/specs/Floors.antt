@@ -1,4 +1,4 @@
--- What the floor of a scene is to routing.
+-- The floor of a scene as routing uses it.
 use Rattle.std.specs.Prelude.{Contains}
 use Rattle.plane_geom.specs.Floor.{IsFloor}
 use Rattle.walk_model.specs.Floors.{IsFloorOf, IsTaskOn}
@@ -7,15 +7,15 @@ use Rattle.scene_model.specs.Scene.{Scene, connectors}
 use Rattle.scene_model.specs.Valid.{IsValid}
 use Rattle.scene_model.specs.Routing.{solids, floor_of, task_of}
 
--- the floor of a valid scene is one that a graph may be built of
+-- a graph can be built of the floor of a valid scene
 abbrev pub FloorsFit : Type 0
 FloorsFit = (s : Scene) → IsValid s → IsFloor (floor_of s)
 
--- the task of a connector may be handed to a search beside the scene's solids, and the scene's floor is a floor of it
+-- a search accepts the task of a connector with the scene's solids, and the scene's floor is a floor of it
 pub record HoldsTask (s : Scene) (e : Edge) : Type 0 where
   pub task : IsTaskOn (solids s) (task_of s e)
   pub floor : IsFloorOf (floor_of s) (task_of s e)
 
--- that is so of each connector of a valid scene
+-- this holds for each connector of a valid scene
 abbrev pub FloorsHoldTasks : Type 0
 FloorsHoldTasks = (s : Scene) (e : Edge) → IsValid s → Contains (connectors s) e → HoldsTask s e

@@ -1,4 +1,4 @@
--- What takes an edit back.
+-- The inverses of edits.
 use Rattle.std.specs.Prelude.{◌≡◌, ℕ, suc, ◌+◌, ◌-◌, ◌<◌, ◌≤◌, ◌==◌, ℤ, not, List, [], ◌∷◌, length, filter, insert, position, None, IsSome, IsNone}
 use Rattle.std.specs.Ordering.{int_eq}
 use Rattle.std.specs.Option.{option_map_or}
@@ -23,7 +23,7 @@ restored (TakeEdge number next) s = record s { edges = filter (λ e. not (e.numb
 restored (SetEdge edge) s = change_edge s edge.number (λ _. edge)
 restored (Set what value) s = record s { settings = with_setting what value s.settings }
 
--- what is to be taken or replaced is there, what is to be put is not, and the place is within the list or right behind it
+-- what is to be removed or replaced exists, what is to be inserted does not, and the place is within the list or right after it
 abbrev pub Fits : Inverse → Scene → Type 0
 Fits (PutNode place node) s = IsNone (node_with s node.id) × (0 < place) × (place ≤ length s.nodes + 1)
 Fits (TakeNode id) s = IsSome (node_with s id)
@@ -44,21 +44,21 @@ setting_value Penalty t = t.penalty
 setting_value Buffer t = t.buffer
 setting_value Nudge t = t.nudge
 
--- the node, the edge as it is, in the place of the changed one
+-- the inverse that puts the node, or the edge, as it is now in place of the changed one
 abbrev pub set_node : Scene → ℤ → Inverse
 set_node s id = option_map_or SetNode (node_with s id) (TakeNode id)
 
 abbrev pub set_edge : Scene → ℕ → Inverse
 set_edge s number = option_map_or SetEdge (edge_with s number) (TakeEdge number s.next_edge)
 
--- the node, the edge as it is, back in its place among the others
+-- the inverse that puts the node, or the edge, as it is now back at its place among the others
 abbrev pub put_node : Scene → ℤ → Inverse
 put_node s id = option_map_or (λ n. PutNode (suc (option_map_or (λ k. k) (position (λ m. int_eq m.id id) s.nodes) 0)) n) (node_with s id) (TakeNode id)
 
 abbrev pub put_edge : Scene → ℕ → Inverse
 put_edge s number = option_map_or (λ e. PutEdge (suc (option_map_or (λ k. k) (position (λ d. d.number == number) s.edges) 0)) e) (edge_with s number) (TakeEdge number s.next_edge)
 
--- what takes back an edit that is not refused on the scene
+-- the inverse of an edit that is not refused on the scene
 abbrev pub inverse_of : Edit → Scene → Inverse
 inverse_of (edit.AddNode id x y w h) s = TakeNode id
 inverse_of (edit.MoveNode id x y) s = set_node s id
@@ -73,14 +73,14 @@ inverse_of (edit.AddVia number place x y) s = set_edge s number
 inverse_of (edit.DropVia number place) s = set_edge s number
 inverse_of (edit.Set what value) s = Set what (setting_value what s.settings)
 
--- the edits, of which none is refused and each pin has a direction, lead from the one scene to the other, and these are their inverses
+-- the edits, none of which is refused, and each of whose pins has a direction, lead from the first scene to the last, and these are their inverses
 abbrev pub Leads : Scene → List Edit → List Inverse → Scene → Type 0
 Leads s [] [] end = end ≡ s
 Leads s (e ∷ es) (i ∷ is) end = IsDirected e × (refusal e s ≡ None) × (i ≡ inverse_of e s) × Leads (changed e s) es is end
 Leads s [] (i ∷ is) end = ⊥
 Leads s (e ∷ es) [] end = ⊥
 
--- the scene before: each inverse in turn, from the last to the first
+-- the scene before: each inverse in turn, from last to first
 abbrev pub taken_back : List Inverse → Scene → Scene
 taken_back [] s = s
 taken_back (i ∷ is) s = restored i (taken_back is s)
@@ -94,10 +94,10 @@ redone (e ∷ es) s = redone es (changed e s)
 abbrev pub KeepsValid : Type 0
 KeepsValid = (e : Edit) (s : Scene) → IsDirected e → IsValid s → refusal e s ≡ None → IsValid (changed e s)
 
--- the law: its inverse may be applied to the scene after it, and gives the scene before
+-- the law: its inverse may be applied to the scene after it, and restores the scene before
 abbrev pub TakesBack : Type 0
 TakesBack = (e : Edit) (s : Scene) → IsValid s → refusal e s ≡ None → Fits (inverse_of e s) (changed e s) × (restored (inverse_of e s) (changed e s) ≡ s)
 
--- the law: edits in a row lead from a valid scene to a valid one, and their inverses lead back
+-- the law: a sequence of edits leads from a valid scene to a valid one, and their inverses lead back
 abbrev pub LeadsBack : Type 0
 LeadsBack = (s end : Scene) (es : List Edit) (is : List Inverse) → IsValid s → Leads s es is end → IsValid end × (redone es s ≡ end) × (taken_back is end ≡ s)

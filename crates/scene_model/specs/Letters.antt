@@ -7,7 +7,7 @@ use Rattle.scene_model.specs.declared.pin.Dirs.{Dirs}
 abbrev pub has_letter : ℕ → List ℕ → Bool
 has_letter letter letters = list_any (λ l. l == letter) letters
 
--- no letter is there twice
+-- no letter occurs twice
 abbrev pub are_different : List ℕ → Bool
 are_different [] = true
 are_different (l ∷ ls) = not (has_letter l ls) && are_different ls

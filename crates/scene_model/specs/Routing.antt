@@ -1,4 +1,4 @@
--- What routing sees of a scene: solids, choices, tasks and the floor.
+-- What routing uses of a scene: solids, choices, tasks and the floor.
 use Rattle.std.specs.Prelude.{ℕ, ◌==◌, ℤ, pos, ◌+ℤ◌, ◌-ℤ◌, unsigned_abs, true, List, [], ◌∷◌, ◌++◌, map, filter, flat_map, Option, Some, None, if◌then◌else◌}
 use Rattle.plane_geom.specs.declared.point.Point.{Point}
 use Rattle.plane_geom.specs.declared.point.Dir.{Dir}
@@ -22,7 +22,7 @@ box n = record { left = n.x -ℤ n.half_w; top = n.y -ℤ n.half_h; right = n.x 
 abbrev pub buffered_box : ℤ → Node → Rect
 buffered_box buffer n = grown (box n) buffer
 
--- what no route may enter but its own node's; a group has none
+-- the solid of a node, which only routes of its own may enter; a group has none
 abbrev pub solid_of : ℤ → Node → List Solid
 solid_of buffer n = if n.group then [] else record { node = n.id; rect = buffered_box buffer n } ∷ []
 
@@ -37,11 +37,11 @@ centre_pin = record { class = 0; dx = pos 0; dy = pos 0; dirs = record { east = 
 abbrev pub pins_of_class : Node → ℕ → List Pin
 pins_of_class n class = if class == 0 then centre_pin ∷ [] else filter (λ p. p.class == class) n.pins
 
--- where the pin of the node stands
+-- the place of the pin of the node
 abbrev pub place_of : Node → Pin → Point
 place_of n p = record { x = n.x +ℤ p.dx; y = n.y +ℤ p.dy }
 
--- where the straight line from the place meets the edge of the rectangle
+-- the point where the straight line from the place meets the edge of the rectangle
 abbrev pub port : Rect → Point → Dir → Point
 port r p East = record { x = r.right; y = p.y }
 port r p South = record { x = p.x; y = r.bottom }
@@ -62,12 +62,12 @@ directions d =
 abbrev pub choices_of : ℤ → Node → List Pin → List Choice
 choices_of buffer n ps = flat_map (λ p. map (choice buffer n p) (directions p.dirs)) ps
 
--- the choices of an end with this class at the node, of which there are none where there is no node
+-- the choices of an end with this class at the node; none if there is no node
 abbrev pub choices_with : ℤ → ℕ → Option Node → List Choice
 choices_with buffer class None = []
 choices_with buffer class (Some n) = choices_of buffer n (pins_of_class n class)
 
--- what an edge asks of its walk
+-- the task of an edge
 abbrev pub task_of : Scene → Edge → Task
 task_of s e = record {
   starts = choices_with s.settings.buffer e.from_class (node_with s e.from);
@@ -82,6 +82,6 @@ anchors s =
     flat_map (λ n. map (λ c. c.port) (choices_of s.settings.buffer n (centre_pin ∷ n.pins))) s.nodes
     ++ flat_map (λ e. e.via) (connectors s)
 
--- the floor of the scene, which a graph is built of
+-- the floor of the scene, of which a graph is built
 abbrev pub floor_of : Scene → Floor
 floor_of s = record { solids = solids s; anchors = anchors s }

@@ -15,7 +15,7 @@ use Rattle.scene_model.specs.declared.pin.Pin.{Pin}
 use Rattle.scene_model.specs.Scene.{Scene, node_with, edge_with, connectors}
 use Rattle.scene_model.specs.Routing.{box, solids, pins_of_class, place_of}
 
--- a solid of the old scene that the new one has not, and the other way round
+-- a solid of the old scene that the new one has not, and the other way around
 pub record IsRemoved (old new : Scene) (s : Solid) : Type 0 where
   pub was : Contains (solids old) s
   pub gone : Contains (solids new) s → ⊥
@@ -23,7 +23,7 @@ pub record IsRemoved (old new : Scene) (s : Solid) : Type 0 where
 abbrev pub IsAdded : Scene → Scene → Solid → Type 0
 IsAdded old new s = IsRemoved new old s
 
--- what a task takes of a node: its box, its group mark and its pins
+-- the data of a node that a task uses: its box, its group mark and its pins
 pub record Shape : Type 0 where
   pub rect : Rect
   pub group : Bool
@@ -32,7 +32,7 @@ pub record Shape : Type 0 where
 abbrev pub shape : Scene → ℤ → Option Shape
 shape s id = option_map (λ n. record { rect = box n; group = n.group; pins = n.pins }) (node_with s id)
 
--- what a search takes of a connector, but for its number and the penalty
+-- the data of a connector that a search uses, except its number and the penalty
 pub record Looks : Type 0 where
   pub from : ℤ
   pub to : ℤ
@@ -64,7 +64,7 @@ abbrev pub way_length : Point → List Point → ℕ
 way_length p [] = 0
 way_length p (q ∷ qs) = distance p q + way_length q qs
 
--- so long is this way where one of its legs goes by the point
+-- n is the length of this way if one of its legs goes by the point
 abbrev pub IsLengthBy : Point → Point → List Point → ℕ → Type 0
 IsLengthBy by p [] n = ⊥
 IsLengthBy by p (q ∷ qs) n =
@@ -74,7 +74,7 @@ IsLengthBy by p (q ∷ qs) n =
 abbrev pub IsPinOf : Scene → ℤ → ℕ → Node → Pin → Type 0
 IsPinOf s id class n p = (node_with s id ≡ Some n) × Contains (pins_of_class n class) p
 
--- within the cost a way from a pin of the one end through the checkpoints to a pin of the other may touch the closed rectangle
+-- within the cost, a way from a pin of one end through the checkpoints to a pin of the other may touch the closed rectangle
 pub record IsWithinReach (s : Scene) (e : Edge) (r : Rect) (cost : ℕ) : Type 0 where
   pub source : Node
   pub target : Node
@@ -96,7 +96,7 @@ pub record LineMeets (r : Rect) (points : List Point) : Type 0 where
   pub within : k < length walk.steps
   pub meets : MeetsAt r walk k
 
--- why a connector that has no route is searched again, and why one that has
+-- why a connector without a route is searched again, and why one with a route
 abbrev pub IsOpen : Scene → Scene → Edge → Option Route → Type 0
 IsOpen old new e None = (s : Solid) × IsRemoved old new s
 IsOpen old new e (Some r) =
@@ -110,7 +110,7 @@ pub data IsStale (old : Scene) (answers : List Answer) (new : Scene) (e : Edge) 
   bends_cost_otherwise : old.settings.penalty ≢ new.settings.penalty → IsStale old answers new e
   is_open : (a : Answer) → answer_of answers e.number ≡ Some a → IsOpen old new e a.route → IsStale old answers new e
 
--- why a connector's answer may be kept: nothing of the above
+-- why a connector's answer may be kept: none of the above applies
 pub record IsCurrent (old : Scene) (answers : List Answer) (new : Scene) (e : Edge) : Type 0 where
   pub was : Edge
   pub answer : Answer
@@ -120,7 +120,7 @@ pub record IsCurrent (old : Scene) (answers : List Answer) (new : Scene) (e : Ed
   pub bends_cost_the_same : old.settings.penalty ≡ new.settings.penalty
   pub is_closed : IsOpen old new e answer.route → ⊥
 
--- the numbers are those of the edges of which the fact holds, in order; of the others the other one holds
+-- the numbers are those of the edges with the first property, in order; all others have the second one
 abbrev pub ArePicked : (Edge → Type 0) → (Edge → Type 0) → List Edge → List ℕ → Type 0
 ArePicked P Q [] numbers = numbers ≡ []
 ArePicked P Q (e ∷ es) numbers =
@@ -130,6 +130,6 @@ ArePicked P Q (e ∷ es) numbers =
 abbrev pub AreStale : Scene → List Answer → Scene → List ℕ → Type 0
 AreStale old answers new numbers = ArePicked (IsStale old answers new) (IsCurrent old answers new) (connectors new) numbers
 
--- the law: there is one such list at most
+-- the law: there is at most one such list
 abbrev pub HaveOneStaleList : Type 0
 HaveOneStaleList = (old : Scene) (answers : List Answer) (new : Scene) (these those : List ℕ) → AreStale old answers new these → AreStale old answers new those → these ≡ those

@@ -1,4 +1,4 @@
--- When a scene is valid.
+-- The validity of a scene.
 use Rattle.std.specs.Prelude.{◌≡◌, ◌≢◌, ◌+◌, ◌<◌, ◌≤◌, ◌^◌, ◌||◌, ℤ, pos, ◌≤ℤ◌, unsigned_abs, [], length, IsTrue, All, AllPairs, IsSomeAnd}
 use Rattle.plane_geom.specs.declared.point.Point.{Point}
 use Rattle.scene_model.specs.declared.node.Node.{Node}
@@ -8,7 +8,7 @@ use Rattle.scene_model.specs.declared.pin.Dirs.{Dirs}
 use Rattle.scene_model.specs.declared.settings.Settings.{Settings}
 use Rattle.scene_model.specs.Scene.{Scene, node_with, has_class, pin_count, via_count}
 
--- the place lies on the field, on which boxes and checkpoints stand
+-- the place lies on the field, in which boxes and checkpoints have to be
 pub record IsOnField (p : Point) : Type 0 where
   pub x : unsigned_abs p.x ≤ 10 ^ 9
   pub y : unsigned_abs p.y ≤ 10 ^ 9
@@ -17,7 +17,7 @@ pub record IsOnField (p : Point) : Type 0 where
 abbrev pub HasDirection : Dirs → Type 0
 HasDirection d = IsTrue (d.east || d.south || d.west || d.north)
 
--- the pin has a class and a direction, lies in the closed box with these half sizes, and does not cost too much
+-- the pin has a class and a direction, lies in the closed box with these half sizes, and its cost is within the limit
 pub record IsPin (half_w half_h : ℤ) (p : Pin) : Type 0 where
   pub some_class : 0 < p.class
   pub low_class : p.class ≤ 65535
@@ -35,13 +35,13 @@ pub record IsNode (n : Node) : Type 0 where
   pub y : unsigned_abs n.y + unsigned_abs n.half_h ≤ 10 ^ 9
   pub pins : All (IsPin n.half_w n.half_h) n.pins
 
--- the pin lies on the node's box, and costs no more than a pin may
+-- the pin lies on the node's box, and its cost is within the limit
 pub record IsPlaced (n : Node) (p : Pin) : Type 0 where
   pub x : unsigned_abs p.dx ≤ unsigned_abs n.half_w
   pub y : unsigned_abs p.dy ≤ unsigned_abs n.half_h
   pub cost : unsigned_abs p.cost ≤ 10 ^ 9
 
--- nothing but its ends is said of a loop
+-- a loop has no data except its ends
 pub record IsPlain (e : Edge) : Type 0 where
   pub from_class : e.from_class ≡ 0
   pub to_class : e.to_class ≡ 0
@@ -67,7 +67,7 @@ pub record AreSettings (t : Settings) : Type 0 where
   pub nudge : pos 0 ≤ℤ t.nudge
   pub low_nudge : t.nudge ≤ℤ pos (10 ^ 6)
 
--- the scene is one that calls keep and may be handed
+-- the scene is one that calls accept and keep valid
 pub record IsValid (s : Scene) : Type 0 where
   pub ids_differ : AllPairs (λ m n. m.id ≢ n.id) s.nodes
   pub nodes : All IsNode s.nodes

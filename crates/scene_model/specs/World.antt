@@ -1,4 +1,4 @@
--- The world of a session, and what each command makes of it.
+-- The world of a session, and the effect of each command on it.
 use Rattle.std.specs.Prelude.{◌≡◌, List, [], ◌∷◌, take, Option, None, Some, IfSome, Result, Ok, Err}
 use Rattle.std.specs.List.{AllByRecursion}
 use Rattle.scene_model.specs.declared.fault.SceneFault.{SceneFault}
@@ -11,18 +11,18 @@ use Rattle.scene_model.specs.Scene.{Scene}
 use Rattle.scene_model.specs.Valid.{IsValid}
 use Rattle.scene_model.specs.Edits.{refusal, changed, edited, IsDirected}
 
--- the scenes behind, the latest first; the present one; those ahead, the next first; the working one of an open transaction
+-- the past scenes, the latest first; the present one; the future ones, the next first; and the working one of an open transaction
 pub record World : Type 0 where
   pub past : List Scene
   pub present : Scene
   pub future : List Scene
   pub working : Option Scene
 
--- nothing was done yet
+-- the world before any command
 abbrev pub opened : Scene → World
 opened s = record { past = []; present = s; future = []; working = None }
 
--- without its transaction
+-- the world without its transaction
 abbrev pub given_up : World → World
 given_up w = record w { working = None }
 
@@ -36,7 +36,7 @@ abbrev pub edit_working : World → Result Scene SceneFault → Result World Com
 edit_working w (Ok s) = Ok (record w { working = Some s })
 edit_working w (Err fault) = Err (refused (faults.Edit fault))
 
--- one scene back, one scene on
+-- one scene back, and one scene forward
 abbrev pub one_scene_back : World → List Scene → Result World CommandRefusal
 one_scene_back w [] = Err (refused faults.NothingToUndo)
 one_scene_back w (s ∷ ss) = Ok (record { past = ss; present = s; future = w.present ∷ w.future; working = None })
@@ -45,7 +45,7 @@ abbrev pub one_scene_on : World → List Scene → Result World CommandRefusal
 one_scene_on w [] = Err (refused faults.NothingToRedo)
 one_scene_on w (s ∷ ss) = Ok (record { past = w.present ∷ w.past; present = s; future = ss; working = None })
 
--- what a command makes of the world with this working scene, if it is not refused; 100 scenes at most are kept behind
+-- the world after a command, with this working scene, if it is not refused; at most 100 past scenes are kept
 abbrev pub taken : Command → Option Scene → World → Result World CommandRefusal
 taken Bad working w = Err syntax_error
 taken Begin None w = Ok (record w { working = Some w.present })
@@ -61,11 +61,11 @@ taken Undo (Some s) w = Err (refused faults.AlreadyOpen)
 taken Redo None w = one_scene_on w w.future
 taken Redo (Some s) w = Err (refused faults.AlreadyOpen)
 
--- what a command makes of the world, if it is not refused
+-- the world after a command, if it is not refused
 abbrev pub step : Command → World → Result World CommandRefusal
 step c w = taken c w.working w
 
--- after a refusal no transaction is open, and all else is as before
+-- after a refusal no transaction is open, and everything else is as before
 abbrev pub or_given_up : World → Result World CommandRefusal → World
 or_given_up w (Ok next) = next
 or_given_up w (Err refusal) = given_up w
@@ -78,19 +78,19 @@ abbrev pub played : List Command → World → World
 played [] w = w
 played (c ∷ cs) w = played cs (next_world c w)
 
--- what holds of each scene of a world
+-- the property holds for each scene of a world
 pub record Everywhere (P : Scene → Type 0) (w : World) : Type 0 where
   pub past : AllByRecursion P w.past
   pub present : P w.present
   pub future : AllByRecursion P w.future
   pub working : IfSome w.working P
 
--- a pin that a command adds leads somewhere, as each of a script does
+-- a pin that a command adds has a direction, as each of a script has
 abbrev pub IsDirectedCommand : Command → Type 0
 IsDirectedCommand (Edit e) = IsDirected e
 IsDirectedCommand c = Unit {0}
 
--- what each edit keeps that is not refused
+-- the property is kept by each edit that is not refused
 abbrev pub EditsKeep : (Scene → Type 0) → Type 0
 EditsKeep P = (e : SceneEdit) (s : Scene) → IsDirected e → P s → refusal e s ≡ None → P (changed e s)
 

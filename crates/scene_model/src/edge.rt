@@ -6,7 +6,7 @@ use smallvec::SmallVec;
 use std::alloc::{AllocError, Global};
 use std::marker::Model;
 
-/// The checkpoints of a connector, in order. As many as a connector may have take no memory.
+/// The checkpoints of a connector, in order. Up to the limit of a connector they take no memory.
 #[derive(Debug, Drop)]
 pub struct Via(SmallVec<Point, 4, Global>);
 
@@ -20,14 +20,14 @@ impl Model for Via {
 }
 
 impl Via {
-    /// No checkpoint. It takes no memory.
+    /// No checkpoints. Takes no memory.
     pub fn new(alloc: Global) -> Via
         ensures { result ≡ [] }
     {
         Via(SmallVec::new(alloc))
     }
 
-    /// These checkpoints. Its only error is want of memory.
+    /// A list of these checkpoints. The only error is out of memory.
     pub fn from_slice(alloc: Global, points: &[Point]) -> Result<Via, AllocError>
         ensures { IfOk result (λ v. v ≡ points.now) }
     {
@@ -41,14 +41,15 @@ impl Via {
         self.0.as_slice()
     }
 
-    /// The same checkpoints once more. Its only error is want of memory.
+    /// A copy of the checkpoints. The only error is out of memory.
     pub fn copy(&self, alloc: Global) -> Result<Via, AllocError>
         ensures { IfOk result (λ v. v ≡ self.now) }
     {
         Via::from_slice(alloc, self.as_slice())
     }
 
-    /// Puts a checkpoint at the place, from 0. Its only error is want of memory, which leaves all as it was.
+    /// Inserts a checkpoint at the place, from 0. The only error is out of memory, which leaves
+    /// everything as it was.
     pub fn insert(&mut self, place: usize, point: Point) -> Result<(), AllocError>
         requires { place ≤ length self.old }
         ensures ok { OnOk result (self.new ≡ insert self.old place point) }
@@ -58,7 +59,7 @@ impl Via {
         Ok(())
     }
 
-    /// Takes out the checkpoint at the place, from 0.
+    /// Removes the checkpoint at the place, from 0.
     pub fn remove(&mut self, place: usize)
         requires { place < length self.old }
         ensures { self.new ≡ remove self.old place }
@@ -67,7 +68,7 @@ impl Via {
     }
 }
 
-/// An edge. It is a loop where its ends are one node, else a connector.
+/// An edge. It is a loop if both its ends are at one node, otherwise a connector.
 #[derive(Debug, Drop)]
 pub struct Edge {
     pub number: u32,
@@ -78,14 +79,15 @@ pub struct Edge {
     /// The class of the pins that the end at `to` may use; 0 is the centre.
     pub to_class: u32,
     pub via: Via,
-    /// The place of the edge's pair in the diagram's graph list, from 0; none where a script added the edge.
+    /// The place of the edge's pair in the diagram's graph list, from 0; none if a script added the
+    /// edge.
     pub origin: Option<u32>,
-    /// How much a displacement of its runs weighs in nudging, from 1 to 4.
+    /// The weight of a displacement of its runs in nudging, from 1 to 4.
     pub weight: u32,
 }
 
 impl Edge {
-    /// The same edge once more. Its only error is want of memory.
+    /// A copy of the edge. The only error is out of memory.
     pub fn copy(&self, alloc: Global) -> Result<Edge, AllocError>
         ensures { IfOk result (λ e. e ≡ self.now) }
     {

@@ -1,4 +1,4 @@
-//! Edits of a scene, what takes them back, and the commands of a script.
+//! Edits of a scene, their inverses, and the commands of a script.
 
 use crate::edge::Edge;
 use crate::node::Node;
@@ -6,7 +6,7 @@ use crate::pin::Dirs;
 use crate::settings::Setting;
 use std::marker::Model;
 
-/// One edit of a scene. Lengths are in thousandths, places count from 1.
+/// One edit of a scene. Lengths are in thousandths; places count from 1.
 #[derive(Clone, Copy, Debug, PartialEq, Eq)]
 pub enum Edit {
     AddNode {
@@ -70,7 +70,7 @@ pub enum Edit {
     },
 }
 
-/// A command of a script: an edit, or a move of the session. `Bad` is a line without a form.
+/// A command of a script: an edit, or a command to the session. `Bad` is a line that is no command.
 #[derive(Clone, Copy, Debug, PartialEq, Eq)]
 pub enum Command {
     Begin,
@@ -82,7 +82,7 @@ pub enum Command {
     Bad,
 }
 
-/// What takes back an edit. Places count from 1.
+/// The inverse of an edit. Places count from 1.
 #[derive(Drop)]
 pub enum Inverse {
     PutNode { place: u32, node: Node },
@@ -107,7 +107,7 @@ impl Model for Edits {
     ghost view = { λ e. e.0.items };
 }
 
-/// What takes edits back, in the order of the edits.
+/// The inverses of edits, in the order of the edits.
 #[derive(Drop)]
 pub struct Inverses(pub Vec<Inverse>);
 

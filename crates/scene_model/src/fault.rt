@@ -1,4 +1,4 @@
-//! Why edits and commands are refused.
+//! The faults for which edits and commands are refused.
 
 /// Why an edit is refused.
 #[derive(Clone, Copy, Debug, PartialEq, Eq)]

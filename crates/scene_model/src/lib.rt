@@ -1,4 +1,4 @@
-//! What a scene is made of, what its edits are, and what a scene means for routing.
+//! The contents of a scene, its edits, and its meaning for routing.
 //!
 //! Coordinates, lengths and costs are whole thousandths of a GML unit.
 #![tactic(auto)]

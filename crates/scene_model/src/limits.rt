@@ -1,4 +1,4 @@
-//! Halves of sizes, and what leaves the field or a box.
+//! Half sizes, and the tests whether something leaves the field or a box.
 ghost use Rattle.std.specs.Prelude.{◌≡◌};
 ghost use Rattle.scene_model.specs.Edits.{half, is_off, is_outside};
 
@@ -11,7 +11,7 @@ pub fn half(size: i64) -> i64
     ((size.unsigned_abs() + 1) / 2) as i64
 }
 
-/// So far from 0 with the half size that it leaves the field.
+/// Whether a box with the half size, centred at the coordinate, reaches beyond the field.
 pub fn is_off(coordinate: i64, half: i64) -> bool
     ensures { result ≡ is_off coordinate half }
 {
@@ -21,7 +21,7 @@ pub fn is_off(coordinate: i64, half: i64) -> bool
     1_000_000_000 < reach
 }
 
-/// The pin stands outside a box with these half sizes.
+/// Whether the pin is outside a box with these half sizes.
 pub fn is_outside(half_w: i64, half_h: i64, pin: Pin) -> bool
     ensures { result ≡ is_outside half_w half_h pin }
 {

@@ -15,21 +15,23 @@ pub struct Node {
     /// A group has no solid: routes may cross it.
     pub group: bool,
     pub pins: Pins,
-    /// The place of the node's pair in the diagram's graph list, from 0; none where a script added the node.
+    /// The place of the node's pair in the diagram's graph list, from 0; none if a script added the
+    /// node.
     pub origin: Option<u32>,
 }
 
 impl Node {
     ghost use Rattle.scene_model.specs.Scene.{has_class};
 
-    /// An end at the node may use the class: 0 is the centre's, each other one that of a pin.
+    /// Whether an end at the node may use the class: 0 is the centre's, each other one that of a
+    /// pin.
     pub fn has_class(&self, class: u32) -> bool
         ensures { result ≡ has_class self.now class }
     {
         class == 0 || any_of_class(self.pins.as_slice(), class)
     }
 
-    /// The same node once more. Its only error is want of memory.
+    /// A copy of the node. The only error is out of memory.
     pub fn copy(&self, alloc: Global) -> Result<Node, AllocError>
         ensures { IfOk result (λ n. n ≡ self.now) }
     {

@@ -1,4 +1,4 @@
-//! Pins of nodes, and the directions in which they are left.
+//! Pins of nodes, and the directions in which routes may leave them.
 ghost use Rattle.std.specs.Prelude.{◌≡◌, ◌<◌, ◌==◌, [], ◌∷◌, ◌++◌, length, remove, IfOk, OnOk, OnErr};
 ghost use Rattle.std.specs.List.{list_any};
 
@@ -58,8 +58,8 @@ impl Dirs {
         north: true,
     };
 
-    /// The directions that one to four different letters of E, S, W and N spell; none where the letters are not of
-    /// this form. It looks at no letter behind the first that is none of these or stands there twice.
+    /// The directions that one to four different letters of E, S, W and N spell; `None` for any
+    /// other letters. Reads no letter after the first that is another one or occurs twice.
     pub fn from_letters(letters: &[u8]) -> Option<Dirs>
         ensures { result ≡ dirs_of letters.now }
     {
@@ -75,7 +75,8 @@ impl Dirs {
         if letters.is_empty() { None } else { Some(dirs) }
     }
 
-    /// The directions with that of the letter, if it has one that is not among them yet.
+    /// The directions with that of the letter added, if the letter stands for one that is not among
+    /// them yet.
     fn with_letter(self, letter: u8) -> Option<Dirs>
         ensures { result ≡ with_letter self letter }
     {
@@ -105,7 +106,7 @@ pub struct Pin {
     pub dx: i64,
     pub dy: i64,
     pub dirs: Dirs,
-    /// What using the pin adds to the cost of a route, at most 10^9.
+    /// The cost that using the pin adds to a route, at most 10^9.
     pub cost: i64,
 }
 
@@ -120,7 +121,7 @@ impl Pin {
     };
 }
 
-/// One of the pins has the class.
+/// Whether one of the pins has the class.
 pub fn any_of_class(pins: &[Pin], class: u32) -> bool
     ensures { result ≡ list_any (λ p. p.class == class) pins.now }
 {
@@ -148,14 +149,14 @@ impl Pins {
         &self.0
     }
 
-    /// The same pins once more. Its only error is want of memory.
+    /// A copy of the pins. The only error is out of memory.
     pub fn copy(&self, alloc: Global) -> Result<Pins, AllocError>
         ensures { IfOk result (λ p. p ≡ self.now) }
     {
         Ok(Pins(Vec::from_slice(alloc, &self.0)?))
     }
 
-    /// Puts a pin behind the others. Its only error is want of memory, which leaves all as it was.
+    /// Appends a pin. The only error is out of memory, which leaves everything as it was.
     pub fn push(&mut self, pin: Pin) -> Result<(), AllocError>
         ensures ok { OnOk result (self.new ≡ self.old ++ pin ∷ []) }
         ensures err { OnErr result (self.new ≡ self.old) }
@@ -164,7 +165,7 @@ impl Pins {
         Ok(())
     }
 
-    /// Takes out the pin at the place, from 0.
+    /// Removes the pin at the place, from 0.
     pub fn remove(&mut self, place: usize)
         requires { place < length self.old }
         ensures { self.new ≡ remove self.old place }

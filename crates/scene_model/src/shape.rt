@@ -1,4 +1,4 @@
-//! What routing sees of a node: its box, its solid, and where its pins stand.
+//! The shape of a node for routing: its box, its solid, and the places of its pins.
 ghost use Rattle.std.specs.Prelude.{◌≡◌, ◌^◌, ◌≤◌, ◌==◌, ◌+ℤ◌, ◌-ℤ◌, All, filter, option_to_list, unsigned_abs};
 ghost use Rattle.plane_geom.specs.Point.{PointIsOnSheet};
 ghost use Rattle.scene_model.specs.Routing.{box, buffered_box, pins_of_class, place_of, solid_of};
@@ -9,10 +9,10 @@ use crate::pin::Pin;
 use crate::settings::Settings;
 use plane_geom::{Point, Rect, Solid};
 
-/// All pins of class 0.
+/// The pins of class 0.
 const CENTRE_ALONE: [Pin; 1] = [Pin::CENTRE];
 
-/// The coordinate moved by so much.
+/// The coordinate plus `by`.
 fn moved(coordinate: i64, by: i64) -> i64
     requires near { unsigned_abs coordinate ≤ 10 ^ 9 }
     requires near_by { unsigned_abs by ≤ 10 ^ 9 }
@@ -21,7 +21,7 @@ fn moved(coordinate: i64, by: i64) -> i64
     coordinate + by
 }
 
-/// The coordinate moved back by so much.
+/// The coordinate minus `by`.
 fn moved_back(coordinate: i64, by: i64) -> i64
     requires near { unsigned_abs coordinate ≤ 10 ^ 9 }
     requires near_by { unsigned_abs by ≤ 10 ^ 9 }
@@ -31,7 +31,7 @@ fn moved_back(coordinate: i64, by: i64) -> i64
 }
 
 impl Node {
-    /// The node's box. The node is valid, as each node of a valid scene is.
+    /// The node's box. The node is valid, like each node of a valid scene.
     pub fn rect(&self) -> Rect
         requires { IsNode self.now }
         ensures { result ≡ box self.now }
@@ -53,7 +53,8 @@ impl Node {
         self.rect().grow(settings.buffer)
     }
 
-    /// The node's solid: its box grown by the buffer. A group has none. Node and settings are valid.
+    /// The node's solid: its box grown by the buffer. A group has none. Node and settings are
+    /// valid.
     pub fn solid(&self, settings: Settings) -> Option<Solid>
         requires node { IsNode self.now }
         requires settings { AreSettings settings }
@@ -68,7 +69,7 @@ impl Node {
         })
     }
 
-    /// Where the pin stands. The node is valid, and the pin lies in its closed box.
+    /// The place of the pin. The node is valid, and the pin lies in its closed box.
     pub fn place_of(&self, pin: Pin) -> Point
         requires node { IsNode self.now }
         requires pin { IsPlaced self.now pin }
@@ -81,8 +82,8 @@ impl Node {
         }
     }
 
-    /// Pins of the node among which all those of the class are: the centre's alone for class 0, else those that were
-    /// added to it. The node is valid.
+    /// Pins of the node that include all those of the class: only the centre for class 0, otherwise
+    /// the pins that were added to it. The node is valid.
     pub fn pins_among(&self, class: u32) -> &[Pin]
         requires { IsNode self.now }
         ensures class { filter (λ p. p.class == class) result.now ≡ pins_of_class self.now class }

@@ -13,7 +13,7 @@ module _ {X : Type 0} (key : X → ℤ) where
   abbrev has : ℤ → X → Bool
   has k x = int_eq (key x) k
 
-  -- what is known of a place that is told
+  -- what is known of a place that is returned
   record IsPlace (k : ℤ) (xs : List X) (n : ℕ) : Type 0 where
     entry : X
     at : slice_get xs n ≡ Some entry
@@ -62,7 +62,7 @@ module _ {X : Type 0} (key : X → ℤ) where
       ap (λ m. set xs m new) (sym p.place)
       ∙ sym (changed_at_place key int_eq Decides-int_eq k (λ _. new) p.entry xs (pairs_from (λ x y. key x ≢ key y) xs differ) p.found)
 
-  -- to take out at the place is to leave out the entry with the id
+  -- removing the entry at the place is leaving out the entry with the id
   pub taken_there : (k : ℤ) (xs : List X) (n : ℕ) → AllPairs (λ x y. key x ≢ key y) xs → position (has k) xs ≡ Some n
       → remove xs n ≡ filter (λ x. not (int_eq (key x) k)) xs
   taken_there k xs n differ h =

@@ -1,4 +1,4 @@
--- What an edit's refusal is, once its first tests are made.
+-- The refusal of an edit, once its first tests have passed.
 use Rattle.std.proofs.Common.{◌≡◌, ℕ, ◌-◌, false, None, Some, Option, [], ◌∷◌, length, refl}
 use Rattle.std.specs.Prelude.{ℤ, slice_get}
 use Rattle.scene_model.specs.declared.node.Node.{Node}

@@ -1,4 +1,4 @@
-//! What edits that are not refused do to the lists of a scene.
+//! The effect of edits that are not refused on the lists of a scene.
 ghost use Rattle.std.specs.Prelude.{◌≡◌, None, Some, IsSome, IfOk, OnOk, OnErr};
 ghost use Rattle.scene_model.specs.Edits.{change_node, change_edge, changed, new_edge, new_node, new_pin, refusal, with_setting};
 ghost use Rattle.scene_model.specs.Scene.{node_with, edge_with};
@@ -11,14 +11,14 @@ use plane_geom::Point;
 use scene_model::{Edge, Edit, Node, Pin, Pins, Setting, Settings, Via, half};
 use std::alloc::{AllocError, Global};
 
-/// A box's width and height.
+/// The width and height of a box.
 #[derive(Clone, Copy)]
 struct Size {
     w: i64,
     h: i64,
 }
 
-/// A node as edits make it.
+/// A node as edits add it.
 fn new_node(alloc: Global, id: i64, x: i64, y: i64, half_w: i64, half_h: i64) -> Node
     ensures { result ≡ new_node id x y half_w half_h }
 {
@@ -34,7 +34,7 @@ fn new_node(alloc: Global, id: i64, x: i64, y: i64, half_w: i64, half_h: i64) ->
     }
 }
 
-/// An edge as edits make it.
+/// An edge as edits add it.
 fn new_edge(alloc: Global, number: u32, from: i64, to: i64, from_class: u32, to_class: u32) -> Edge
     ensures { result ≡ new_edge number from to from_class to_class }
 {
@@ -71,7 +71,7 @@ pub(crate) fn with_setting(what: Setting, value: i64, settings: Settings) -> Set
 }
 
 impl Parts {
-    /// The node with the id once more.
+    /// A copy of the node with the id.
     pub(crate) fn node_copy(&self, id: i64) -> Result<Node, AllocError>
         requires { IsSome (node_with self.now id) }
         ensures { IfOk result (λ n. node_with self.now id ≡ Some n) }
@@ -79,7 +79,7 @@ impl Parts {
         self.node(id).unwrap().copy(self.alloc)
     }
 
-    /// The edge with the number once more.
+    /// A copy of the edge with the number.
     pub(crate) fn edge_copy(&self, number: u32) -> Result<Edge, AllocError>
         requires { IsSome (edge_with self.now number) }
         ensures { IfOk result (λ e. edge_with self.now number ≡ Some e) }
@@ -87,7 +87,7 @@ impl Parts {
         self.edge(number).unwrap().copy(self.alloc)
     }
 
-    /// Puts a node in the place of the one with its id.
+    /// Replaces the node that has the same id.
     pub(crate) fn set_node(&mut self, node: Node)
         requires valid { IsValid self.old }
         requires there { IsSome (node_with self.old node.id) }
@@ -96,7 +96,7 @@ impl Parts {
         self.nodes.set(node);
     }
 
-    /// Puts an edge in the place of the one with its number.
+    /// Replaces the edge that has the same number.
     pub(crate) fn set_edge(&mut self, edge: Edge)
         requires valid { IsValid self.old }
         requires there { IsSome (edge_with self.old edge.number) }
@@ -105,7 +105,7 @@ impl Parts {
         self.edges.set(edge);
     }
 
-    /// Takes out the node with the id.
+    /// Removes the node with the id.
     pub(crate) fn take_node(&mut self, id: i64)
         requires valid { IsValid self.old }
         requires there { IsSome (node_with self.old id) }
@@ -114,7 +114,7 @@ impl Parts {
         self.nodes.take(id);
     }
 
-    /// Takes out the edge with the number.
+    /// Removes the edge with the number.
     pub(crate) fn take_edge(&mut self, number: u32)
         requires valid { IsValid self.old }
         requires there { IsSome (edge_with self.old number) }
@@ -123,7 +123,8 @@ impl Parts {
         self.edges.take(i64::from(number));
     }
 
-    /// Does an edit that is not refused. Its only error is want of memory, which leaves all as it was.
+    /// Applies an edit that is not refused. The only error is out of memory, which leaves
+    /// everything as it was.
     pub fn change(&mut self, edit: &Edit) -> Result<(), AllocError>
         requires valid { IsValid self.old }
         requires free { refusal edit.now self.old ≡ None }

@@ -1,4 +1,4 @@
-//! What takes an edit back.
+//! The inverses of edits.
 ghost use Rattle.std.specs.Prelude.{◌≡◌, None, IsSome, IfOk, OnOk, OnErr};
 ghost use Rattle.scene_model.specs.Edits.{refusal};
 ghost use Rattle.scene_model.specs.Inverses.{Fits, inverse_of, put_edge, put_node, restored, set_edge, set_node, setting_value};
@@ -22,7 +22,7 @@ fn value_of(what: Setting, settings: Settings) -> i64
 }
 
 impl Parts {
-    /// What takes back an edit that is not refused. Its only error is want of memory.
+    /// The inverse of an edit that is not refused. The only error is out of memory.
     pub fn inverse(&self, edit: &Edit) -> Result<Inverse, AllocError>
         requires valid { IsValid self.now }
         requires free { refusal edit.now self.now ≡ None }
@@ -92,7 +92,8 @@ impl Parts {
         })
     }
 
-    /// Takes an edit back by its inverse. Its only error is want of memory, which leaves all as it was.
+    /// Applies the inverse of an edit. The only error is out of memory, which leaves everything as
+    /// it was.
     pub fn restore(&mut self, inverse: &Inverse) -> Result<(), AllocError>
         requires valid { IsValid self.old }
         requires fits { Fits inverse.now self.old }

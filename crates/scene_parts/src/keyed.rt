@@ -7,14 +7,14 @@ use indexmap::IndexMap;
 use std::alloc::{AllocError, Global};
 use std::marker::Model;
 
-/// What is found by an id of its own.
+/// An entry that is found by its id.
 pub(crate) trait Entry: Drop {
     ghost id_of: { Self → ℤ };
 
     fn id(&self) -> i64
         ensures { result ≡ id_of self.now };
 
-    /// The same entry once more.
+    /// A copy of the entry.
     fn copied(&self, alloc: Global) -> Result<Self, AllocError>
         ensures { IfOk result (λ x. x ≡ self.now) };
 }
@@ -70,7 +70,7 @@ impl<T: Entry> Keyed<T> {
         self.table.values().as_slice()
     }
 
-    /// The same entries once more.
+    /// A copy of the entries.
     pub(crate) fn copy(&self, alloc: Global) -> Result<Keyed<T>, AllocError>
         requires differ { AllPairs (λ x y. T.id_of x ≢ T.id_of y) self.now }
         ensures { IfOk result (λ k. k ≡ self.now) }
@@ -84,7 +84,7 @@ impl<T: Entry> Keyed<T> {
         Ok(copied)
     }
 
-    /// Puts an entry behind the others.
+    /// Appends an entry.
     pub(crate) fn push(&mut self, entry: T) -> Result<(), AllocError>
         requires new { find (λ x. int_eq (T.id_of x) (T.id_of entry)) self.old ≡ None }
         ensures ok { OnOk result (self.new ≡ self.old ++ entry ∷ []) }
@@ -96,7 +96,7 @@ impl<T: Entry> Keyed<T> {
         }
     }
 
-    /// Puts an entry at the place.
+    /// Inserts an entry at the place.
     pub(crate) fn put_at(&mut self, place: usize, entry: T) -> Result<(), AllocError>
         requires new { find (λ x. int_eq (T.id_of x) (T.id_of entry)) self.old ≡ None }
         requires within { place ≤ length self.old }
@@ -109,7 +109,7 @@ impl<T: Entry> Keyed<T> {
         }
     }
 
-    /// Takes out the entry at the place.
+    /// Removes the entry at the place and returns it.
     fn take_at(&mut self, place: usize) -> Option<T>
         ensures entry { result ≡ slice_get self.old place }
         ensures others { self.new ≡ remove self.old place }
@@ -118,7 +118,7 @@ impl<T: Entry> Keyed<T> {
         Some(entry)
     }
 
-    /// Puts an entry in the place of the one at the place, which has its id.
+    /// Replaces the entry at the place, which has the same id.
     fn set_at(&mut self, place: usize, entry: T)
         requires { IsSomeAnd (slice_get self.old place) (λ x. T.id_of x ≡ T.id_of entry) }
         ensures { self.new ≡ set self.old place entry }
@@ -128,7 +128,7 @@ impl<T: Entry> Keyed<T> {
         }
     }
 
-    /// Puts an entry in the place of the one with its id.
+    /// Replaces the entry that has the same id.
     pub(crate) fn set(&mut self, entry: T)
         requires differ { AllPairs (λ x y. T.id_of x ≢ T.id_of y) self.old }
         requires there { IsSome (find (λ x. int_eq (T.id_of x) (T.id_of entry)) self.old) }
@@ -138,7 +138,7 @@ impl<T: Entry> Keyed<T> {
         self.set_at(place, entry);
     }
 
-    /// Takes out the entry with the id.
+    /// Removes the entry with the id.
     pub(crate) fn take(&mut self, id: i64)
         requires differ { AllPairs (λ x y. T.id_of x ≢ T.id_of y) self.old }
         requires there { IsSome (find (λ x. int_eq (T.id_of x) id) self.old) }

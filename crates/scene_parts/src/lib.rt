@@ -1,4 +1,5 @@
-//! The parts of a scene: its lists with their look-ups, why edits are refused, and what they change and take back.
+//! The parts of a scene: its lists with their look-ups, the refusals of edits, and the effects and
+//! inverses of edits.
 //!
 //! Coordinates, lengths and costs are whole thousandths of a GML unit.
 #![tactic(auto)]

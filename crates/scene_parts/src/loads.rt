@@ -1,4 +1,4 @@
-//! Nodes and edges of a diagram: why they are refused, and how they are put last.
+//! Nodes and edges that are loaded from a diagram: their refusals, and how they are appended.
 ghost use Rattle.std.specs.Prelude.{◌≡◌, ◌+◌, ◌≤◌, ◌<◌, None, OnOk, OnErr};
 ghost use Rattle.scene_model.specs.Edits.{first_some};
 ghost use Rattle.scene_model.specs.Loads.{edge_refusal, is_no_half, node_refusal, pin_refusals, via_refusals, with_edge, with_node};
@@ -10,14 +10,15 @@ use plane_geom::Point;
 use scene_model::{Edge, Node, Pin, SceneFault, is_off, is_outside};
 use std::alloc::AllocError;
 
-/// No box has this half size.
+/// Whether no box has this half size.
 fn is_no_half(half: i64) -> bool
     ensures { result ≡ is_no_half half }
 {
     half < 0 || 1_000_000_000 < half
 }
 
-/// Why the pins from the place on are refused, where the scene has so many before them.
+/// Why the pins are refused, of which the first has the number `place` at its node, where the scene
+/// already has `count` pins.
 fn refusal_of_pins(
     half_w: i64,
     half_h: i64,
@@ -42,7 +43,8 @@ fn refusal_of_pins(
     refusal_of_pins(half_w, half_h, count + 1, place + 1, rest)
 }
 
-/// Why the checkpoints are refused that stand behind so many of the edge and so many of the scene.
+/// Why the checkpoints are refused, where the edge already has `own` checkpoints and the scene
+/// `count`.
 fn refusal_of_via(own: u32, count: u32, points: &[Point]) -> Option<SceneFault>
     requires own_few { own ≤ 4 }
     requires few { count ≤ 256 }
@@ -65,7 +67,7 @@ fn refusal_of_via(own: u32, count: u32, points: &[Point]) -> Option<SceneFault>
 }
 
 impl Parts {
-    /// Why the node is refused, if it is.
+    /// Why the node is refused, or `None` if it is not.
     pub fn node_refusal(&self, node: &Node) -> Option<SceneFault>
         requires { IsValid self.now }
         ensures { result ≡ node_refusal node.now self.now }
@@ -92,7 +94,7 @@ impl Parts {
         refusal_of_pins(node.half_w, node.half_h, count, 1, node.pins.as_slice())
     }
 
-    /// Why the edge is refused, if it is.
+    /// Why the edge is refused, or `None` if it is not.
     pub fn edge_refusal(&self, edge: &Edge) -> Option<SceneFault>
         requires { IsValid self.now }
         ensures { result ≡ edge_refusal edge.now self.now }
@@ -119,7 +121,7 @@ impl Parts {
         refusal_of_via(0, self.via_count() as u32, edge.via.as_slice())
     }
 
-    /// Puts a node last. Its only error is want of memory, which leaves all as it was.
+    /// Appends a node. The only error is out of memory, which leaves everything as it was.
     pub fn push_node(&mut self, node: Node) -> Result<(), AllocError>
         requires { node_with self.old node.id ≡ None }
         ensures ok { OnOk result (self.new ≡ with_node node self.old) }
@@ -128,8 +130,8 @@ impl Parts {
         self.nodes.push(node)
     }
 
-    /// Puts an edge last; the next edge number is the one behind its number. Its only error is want of memory, which
-    /// leaves all as it was.
+    /// Appends an edge; the next edge number becomes its number plus 1. The only error is out of
+    /// memory, which leaves everything as it was.
     pub fn push_edge(&mut self, edge: Edge) -> Result<(), AllocError>
         requires valid { IsValid self.old }
         requires next { self.old.next_edge ≤ edge.number }

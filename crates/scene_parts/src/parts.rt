@@ -1,4 +1,4 @@
-//! The lists of a scene and what is looked up in them. That they are valid is the caller's to keep.
+//! The lists of a scene and the look-ups in them. The caller has to keep them valid.
 ghost use Rattle.std.specs.Prelude.{◌≡◌, ◌==◌, pos, find, option_map, option_copied, IfOk};
 ghost use Rattle.scene_model.specs.Edits.{touches, uses};
 ghost use Rattle.scene_model.specs.Scene.{Scene as SceneValue, node_with, edge_with, empty_scene, pin_count, via_count};
@@ -33,7 +33,8 @@ impl Entry for Edge {
     }
 }
 
-/// The lists of a scene, its settings and the next edge number: the values of a scene, which need not be valid.
+/// The lists of a scene, its settings and the next edge number: the contents of a scene, which need
+/// not be valid.
 #[derive(Drop)]
 pub struct Parts {
     pub(crate) nodes: Keyed<Node>,
@@ -50,7 +51,7 @@ impl Model for Parts {
 }
 
 impl Parts {
-    /// No node, no edge, the default settings, and 1 as the next edge number. It takes no memory.
+    /// No nodes, no edges, the default settings, and 1 as the next edge number. Takes no memory.
     pub fn new(alloc: Global) -> Parts
         ensures { result ≡ empty_scene }
     {
@@ -109,7 +110,7 @@ impl Parts {
         self.edges.get(i64::from(number))
     }
 
-    /// The same lists once more; they are valid. Its only error is want of memory.
+    /// A copy of the lists, which are valid. The only error is out of memory.
     pub fn copy(&self) -> Result<Parts, AllocError>
         requires { IsValid self.now }
         ensures { IfOk result (λ p. p ≡ self.now) }
@@ -123,7 +124,7 @@ impl Parts {
         })
     }
 
-    /// How many pins were added.
+    /// The number of pins that were added.
     pub(crate) fn pin_count(&self) -> usize
         requires { IsValid self.now }
         ensures { result ≡ pin_count self.now }
@@ -135,7 +136,7 @@ impl Parts {
         count
     }
 
-    /// How many checkpoints there are.
+    /// The number of checkpoints.
     pub(crate) fn via_count(&self) -> usize
         requires { IsValid self.now }
         ensures { result ≡ via_count self.now }
@@ -166,14 +167,14 @@ impl Parts {
     }
 }
 
-/// The edge ends at the node.
+/// Whether the edge ends at the node.
 fn touches(edge: &Edge, id: i64) -> bool
     ensures { result ≡ touches id edge.now }
 {
     edge.from == id || edge.to == id
 }
 
-/// The edge uses the class at the node.
+/// Whether the edge uses the class at the node.
 fn uses(edge: &Edge, id: i64, class: u32) -> bool
     ensures { result ≡ uses id class edge.now }
 {

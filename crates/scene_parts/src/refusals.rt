@@ -1,4 +1,4 @@
-//! Why edits are refused. To say so takes no memory.
+//! The reasons for which edits are refused. Finding them takes no memory.
 ghost use Rattle.std.specs.Prelude.{◌≡◌, ◌-◌, ◌<◌, ◌≤◌, ◌==◌, false, not, length, position, remove, IfSome};
 ghost use Rattle.std.specs.List.{list_any};
 ghost use Rattle.std.specs.Option.{option_map_or};
@@ -12,21 +12,21 @@ use scene_model::{
     Dirs, Edit, Node, Pin, SceneFault, Setting, any_of_class, half, is_off, is_outside,
 };
 
-/// No box has this width or height.
+/// Whether no box has this width or height.
 fn is_no_size(size: i64) -> bool
     ensures { result ≡ is_no_size size }
 {
     size < 0 || 2_000_000_000 < size
 }
 
-/// The place, counted from 1, names none of so many.
+/// Whether the place, counted from 1, is not that of one of `count` entries.
 fn is_no_place(count: usize, place: u32) -> bool
     ensures { result ≡ is_no_place count place }
 {
     place == 0 || count < place as usize
 }
 
-/// The setting may not have this value.
+/// Whether the setting may not have this value.
 fn out_of_limits(what: Setting, value: i64) -> bool
     ensures { result ≡ out_of_limits what value }
 {
@@ -37,7 +37,7 @@ fn out_of_limits(what: Setting, value: i64) -> bool
     }
 }
 
-/// A pin as edits make it.
+/// A pin as edits add it.
 pub(crate) fn new_pin(class: u32, dx: i64, dy: i64, dirs: Dirs) -> Pin
     ensures { result ≡ new_pin class dx dy dirs }
 {
@@ -50,7 +50,7 @@ pub(crate) fn new_pin(class: u32, dx: i64, dy: i64, dirs: Dirs) -> Pin
     }
 }
 
-/// How many pins stand before the first that stands outside a box with these half sizes.
+/// The number of pins before the first that is outside a box with these half sizes.
 fn before_outside(half_w: i64, half_h: i64, pins: &[Pin]) -> Option<usize>
     ensures place { result ≡ position (is_outside half_w half_h) pins.now }
     ensures within { IfSome result (λ k. k < length pins.now) }
@@ -58,7 +58,7 @@ fn before_outside(half_w: i64, half_h: i64, pins: &[Pin]) -> Option<usize>
     pins.iter().position(|p| is_outside(half_w, half_h, *p))
 }
 
-/// One of the pins but the one at the place, from 0, has the class.
+/// Whether a pin other than the one at the place, from 0, has the class.
 fn any_other_of_class(pins: &[Pin], at: usize, class: u32) -> bool
     requires { at < length pins.now }
     ensures { result ≡ list_any (λ p. p.class == class) (remove pins.now at) }
@@ -67,7 +67,7 @@ fn any_other_of_class(pins: &[Pin], at: usize, class: u32) -> bool
 }
 
 impl Parts {
-    /// Why the edit is refused, if it is: the first refusal that holds.
+    /// Why the edit is refused: the first refusal that applies, or `None`.
     pub fn refusal(&self, edit: &Edit) -> Option<SceneFault>
         requires { IsValid self.now }
         ensures { result ≡ refusal edit.now self.now }
@@ -217,7 +217,7 @@ impl Parts {
         self.pin_in_use(node, place, *pin)
     }
 
-    /// An edge uses the class of this pin, and no pin of the node but the one at the place has it.
+    /// The refusal if an edge uses the class of this pin, and no other pin of the node has it.
     fn pin_in_use(&self, node: &Node, place: u32, pin: Pin) -> Option<SceneFault>
         requires some { 0 < place }
         requires within { place ≤ length node.now.pins }
@@ -336,7 +336,7 @@ impl Parts {
         None
     }
 
-    /// The node is there and has no pin of the class.
+    /// Whether the node exists and has no pin of the class.
     pub(crate) fn lacks_class(&self, id: i64, class: u32) -> bool
         ensures { result ≡ option_map_or (λ n. not (has_class n class)) (node_with self.now id) false }
     {

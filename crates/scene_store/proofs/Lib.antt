@@ -1,3 +1,3 @@
--- What the scene's own calls need: no refusal is want of memory, and what is handed to routing fits it.
+-- What the scene's own calls need: no refusal is out of memory, and what is passed to routing meets its conditions.
 pub mod Memory
 pub mod Tasks

@@ -1,4 +1,4 @@
--- No refusal is want of memory.
+-- No refusal is out of memory.
 use Rattle.std.proofs.Common.{◌≡◌, ℕ, ◌+◌, ◌-◌, ℤ, Bool, true, false, if◌then◌else◌, Option, None, Some, List, [], ◌∷◌, suc, refl, sym, ap, ◌∙◌, true≢false}
 use Rattle.std.specs.Prelude.{option_map, option_and_then, slice_get, remove, find, position, Err, ◌==◌}
 use Rattle.std.specs.List.{list_any}
@@ -19,7 +19,7 @@ abbrev is_memory : SceneFault → Bool
 is_memory Memory = true
 is_memory f = false
 
--- it is no want of memory
+-- it is not out of memory
 abbrev pub Calm : Option SceneFault → Type 0
 Calm o = o ≡ Some Memory → ⊥
 

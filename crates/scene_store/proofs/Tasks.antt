@@ -1,4 +1,4 @@
--- The floor of a valid scene and the task of a connector are what routing may be handed.
+-- Routing accepts the floor of a valid scene and the task of a connector.
 use Rattle.std.proofs.Common.{◌≡◌, ◌≢◌, ℕ, Bool, true, false, not, Option, None, Some, List, [], ◌∷◌, refl, sym, subst, arith, int_eq, cond, eqb}
 use Rattle.std.specs.Prelude.{ℤ, Result, Ok, Err, IfOk, IfSome, IsSomeAnd, Contains, filter}
 use Rattle.std.specs.List.{AllByRecursion as Each}

@@ -1,1 +1,1 @@
--- No definition is this crate's own: those of scenes stand in scene_model.
+-- This crate has no definitions of its own: those of scenes are in scene_model.

@@ -1,4 +1,4 @@
-//! The scene: its nodes and edges in constant time, and the edits that keep it valid.
+//! The scene: look-ups of its nodes and edges in constant time, and the edits that keep it valid.
 //!
 //! Coordinates, lengths and costs are whole thousandths of a GML unit.
 #![tactic(auto)]

@@ -1,4 +1,4 @@
-//! What routing sees of a scene: its floor, and the tasks of its connectors.
+//! What routing needs of a scene: its floor, and the tasks of its connectors.
 ghost use Rattle.std.specs.Prelude.{◌≡◌, ◌++◌, [], ◌∷◌, map, if◌then◌else◌, IsSome, IfSome, IfOk, OnOk};
 ghost use Rattle.std.specs.List.{flat_map};
 ghost use Rattle.scene_model.specs.Routing.{anchors, centre_pin, choice, choices_of, choices_with, directions, floor_of, pins_of_class, port, solids, task_of};
@@ -11,7 +11,8 @@ use scene_parts::Parts;
 use std::alloc::{AllocError, Global};
 use walk_model::{Choice, Choices, Task};
 
-/// Where the straight line from the place meets the edge of the rectangle.
+/// The point where the straight line from the place in the direction meets the edge of the
+/// rectangle.
 fn port(rect: Rect, place: Point, dir: Dir) -> Point
     ensures { result ≡ port rect place dir }
 {
@@ -52,7 +53,7 @@ fn choice(settings: Settings, node: &Node, pin: Pin, dir: Dir) -> Choice
     }
 }
 
-/// Puts the choice behind the others, if its direction is set.
+/// Appends the choice, if its direction is set.
 fn push_if(choices: &mut Vec<Choice>, set: bool, choice: Choice) -> Result<(), AllocError>
     ensures { OnOk result (choices.new.items ≡ choices.old.items ++ (if set then choice ∷ [] else [])) }
 {
@@ -62,7 +63,7 @@ fn push_if(choices: &mut Vec<Choice>, set: bool, choice: Choice) -> Result<(), A
     Ok(())
 }
 
-/// Puts the choices of the pin behind the others.
+/// Appends the choices of the pin.
 fn push_choices(
     settings: Settings,
     node: &Node,
@@ -105,7 +106,7 @@ fn choices_of_class(
     Ok(Choices(choices))
 }
 
-/// Puts the choices of all pins of the node behind the others.
+/// Appends the choices of all pins of the node.
 fn push_all_choices(
     settings: Settings,
     node: &Node,
@@ -161,7 +162,7 @@ fn ports(alloc: Global, parts: &Parts) -> Result<Vec<Point>, AllocError>
     Ok(ports)
 }
 
-/// Puts the checkpoints of all connectors behind the other points.
+/// Appends the checkpoints of all connectors.
 fn push_checkpoints(parts: &Parts, points: &mut Vec<Point>) -> Result<(), AllocError>
     ensures { OnOk result (points.new.items ≡ points.old.items ++ flat_map (λ e. e.via) (connectors parts.now)) }
 {

@@ -1,4 +1,4 @@
-//! The scene: look-ups, edits one by one, what loads it, and what takes edits back.
+//! The scene: look-ups, single edits, loading, and the inverses of edits.
 ghost use Rattle.std.specs.Prelude.{◌≡◌, ◌≢◌, None, IsSomeAnd, IfSome, IfOk, OnOk, OnErr, option_copied, slice_get};
 ghost use Rattle.scene_model.specs.Edits.{IsDirected, IsEdited, refusal};
 ghost use Rattle.scene_model.specs.Inverses.{IsRestorable, inverse_of, restored};
@@ -18,7 +18,8 @@ use std::alloc::{AllocError, Global};
 use std::marker::Model;
 use walk_model::Task;
 
-/// The nodes and edges of a diagram, in order, its settings and the next edge number. It is always valid.
+/// The nodes and edges of a diagram, in order, its settings and the next edge number. It is always
+/// valid.
 #[derive(Drop)]
 pub struct Scene {
     parts: Parts,
@@ -34,7 +35,7 @@ impl Model for Scene {
 }
 
 impl Scene {
-    /// No node, no edge, the default settings, and 1 as the next edge number. It takes no memory.
+    /// No nodes, no edges, the default settings, and 1 as the next edge number. Takes no memory.
     pub fn new(alloc: Global) -> Scene
         ensures { result ≡ empty_scene }
     {
@@ -79,7 +80,7 @@ impl Scene {
         self.parts.edges().get(place)
     }
 
-    /// The settings. That the scene is valid is known from here too, as from `valid`.
+    /// The settings. For proofs, the call also shows that the scene is valid.
     pub fn settings(&self) -> Settings
         ensures value { result ≡ self.now.settings }
         ensures valid { IsValid self.now }
@@ -95,7 +96,7 @@ impl Scene {
         self.parts.next_edge()
     }
 
-    /// The same scene once more. Its only error is want of memory.
+    /// A copy of the scene. The only error is out of memory.
     pub fn copy(&self) -> Result<Scene, AllocError>
         ensures { IfOk result (λ s. s ≡ self.now) }
     {
@@ -105,8 +106,8 @@ impl Scene {
         })
     }
 
-    /// What a visibility graph of the scene is built of: the solids of its nodes, and as anchors the ports of all
-    /// pins and the checkpoints of all connectors. Its only error is want of memory.
+    /// The floor for a visibility graph of the scene: the solids of its nodes, and as anchors the
+    /// ports of all pins and the checkpoints of all connectors. The only error is out of memory.
     pub fn floor(&self) -> Result<Floor, AllocError>
         ensures floor { IfOk result (λ f. f ≡ floor_of self.now) }
         ensures fits { IfOk result IsFloor }
@@ -114,8 +115,8 @@ impl Scene {
         routing::floor(self.alloc, &self.parts)
     }
 
-    /// What the connector with the number asks of its walk; the edge is there and is no loop. Its only error is want
-    /// of memory.
+    /// The task of the connector with the number; the edge exists and is not a loop. The only error
+    /// is out of memory.
     pub fn task(&self, number: u32) -> Result<Task, AllocError>
         requires { IsSomeAnd (edge_with self.now number) (λ e. e.from ≢ e.to) }
         ensures ok { IfOk result (λ t. IfSome (edge_with self.now number) (λ e. t ≡ task_of self.now e)) }
@@ -124,14 +125,14 @@ impl Scene {
         routing::task(self.alloc, &self.parts, number)
     }
 
-    /// Why the edit would be refused, if it would be: the first refusal that holds. It takes no memory.
+    /// Why the edit would be refused: the first refusal that applies, or `None`. Takes no memory.
     pub fn refusal(&self, edit: &Edit) -> Option<SceneFault>
         ensures { result ≡ refusal edit.now self.now }
     {
         self.parts.refusal(edit)
     }
 
-    /// Does an edit. A refusal or want of memory leaves all as it was.
+    /// Applies an edit. A refusal or out of memory leaves everything as it was.
     pub fn edit(&mut self, edit: &Edit) -> Result<(), SceneFault>
         requires { IsDirected edit.now }
         ensures { IsEdited edit.now self.old self.new result }
@@ -145,35 +146,35 @@ impl Scene {
         }
     }
 
-    /// Adds a node without pins, last. Its sizes are halved and rounded up.
+    /// Appends a node without pins. Its sizes are halved and rounded up.
     pub fn add_node(&mut self, id: i64, x: i64, y: i64, w: i64, h: i64) -> Result<(), SceneFault>
         ensures { IsEdited (edits.AddNode id x y w h) self.old self.new result }
     {
         self.edit(&Edit::AddNode { id, x, y, w, h })
     }
 
-    /// Moves a node's centre.
+    /// Moves the centre of a node.
     pub fn move_node(&mut self, id: i64, x: i64, y: i64) -> Result<(), SceneFault>
         ensures { IsEdited (edits.MoveNode id x y) self.old self.new result }
     {
         self.edit(&Edit::MoveNode { id, x, y })
     }
 
-    /// Gives a node other sizes, which are halved and rounded up.
+    /// Changes the sizes of a node; they are halved and rounded up.
     pub fn size_node(&mut self, id: i64, w: i64, h: i64) -> Result<(), SceneFault>
         ensures { IsEdited (edits.SizeNode id w h) self.old self.new result }
     {
         self.edit(&Edit::SizeNode { id, w, h })
     }
 
-    /// Takes out a node at which no edge ends.
+    /// Removes a node at which no edge ends.
     pub fn drop_node(&mut self, id: i64) -> Result<(), SceneFault>
         ensures { IsEdited (edits.DropNode id) self.old self.new result }
     {
         self.edit(&Edit::DropNode { id })
     }
 
-    /// Adds a pin of connection cost 0 to a node, last, by its offset from the centre.
+    /// Appends a pin of connection cost 0 to a node, by its offset from the centre.
     pub fn add_pin(
         &mut self,
         id: i64,
@@ -194,14 +195,14 @@ impl Scene {
         })
     }
 
-    /// Takes out the pin at the place, from 1.
+    /// Removes the pin at the place, from 1.
     pub fn drop_pin(&mut self, id: i64, place: u32) -> Result<(), SceneFault>
         ensures { IsEdited (edits.DropPin id place) self.old self.new result }
     {
         self.edit(&Edit::DropPin { id, place })
     }
 
-    /// Adds a connector, last. It takes the next edge number, which rises by one.
+    /// Appends a connector. It takes the next edge number, which rises by one.
     pub fn add_edge(
         &mut self,
         from: i64,
@@ -219,14 +220,14 @@ impl Scene {
         })
     }
 
-    /// Takes out an edge.
+    /// Removes an edge.
     pub fn cut_edge(&mut self, number: u32) -> Result<(), SceneFault>
         ensures { IsEdited (edits.CutEdge number) self.old self.new result }
     {
         self.edit(&Edit::CutEdge { number })
     }
 
-    /// Gives a connector's ends other pin classes.
+    /// Changes the pin classes of the ends of a connector.
     pub fn set_classes(
         &mut self,
         number: u32,
@@ -242,7 +243,7 @@ impl Scene {
         })
     }
 
-    /// Puts a checkpoint of a connector at the place, from 1.
+    /// Inserts a checkpoint of a connector at the place, from 1.
     pub fn add_via(&mut self, number: u32, place: u32, x: i64, y: i64) -> Result<(), SceneFault>
         ensures { IsEdited (edits.AddVia number place x y) self.old self.new result }
     {
@@ -254,7 +255,7 @@ impl Scene {
         })
     }
 
-    /// Takes out the checkpoint at the place, from 1.
+    /// Removes the checkpoint at the place, from 1.
     pub fn drop_via(&mut self, number: u32, place: u32) -> Result<(), SceneFault>
         ensures { IsEdited (edits.DropVia number place) self.old self.new result }
     {
@@ -268,7 +269,7 @@ impl Scene {
         self.edit(&Edit::Set { what, value })
     }
 
-    /// What takes back an edit that is not refused. Its only error is want of memory.
+    /// The inverse of an edit that is not refused. The only error is out of memory.
     pub fn inverse(&self, edit: &Edit) -> Result<Inverse, AllocError>
         requires { refusal edit.now self.now ≡ None }
         ensures { IfOk result (λ i. i ≡ inverse_of edit.now self.now) }
@@ -276,7 +277,8 @@ impl Scene {
         self.parts.inverse(edit)
     }
 
-    /// Takes an edit back by its inverse. Its only error is want of memory, which leaves all as it was.
+    /// Applies the inverse of an edit. The only error is out of memory, which leaves everything as
+    /// it was.
     pub fn restore(&mut self, inverse: &Inverse) -> Result<(), AllocError>
         requires { IsRestorable inverse.now self.old }
         ensures ok { OnOk result (self.new ≡ restored inverse.now self.old) }
@@ -285,7 +287,8 @@ impl Scene {
         self.parts.restore(inverse)
     }
 
-    /// Puts a node of a diagram last, with its pins and origin. A refusal or want of memory leaves all as it was.
+    /// Appends a node of a diagram, with its pins and origin. A refusal or out of memory leaves
+    /// everything as it was.
     pub fn load_node(&mut self, node: Node) -> Result<(), SceneFault>
         requires { IsLoadableNode node }
         ensures { IsNodeLoaded node self.old self.new result }
@@ -299,8 +302,8 @@ impl Scene {
         }
     }
 
-    /// Puts an edge of a diagram last, with its checkpoints and origin; the next edge number is the one behind its
-    /// number. A refusal or want of memory leaves all as it was.
+    /// Appends an edge of a diagram, with its checkpoints and origin; the next edge number becomes
+    /// its number plus 1. A refusal or out of memory leaves everything as it was.
     pub fn load_edge(&mut self, edge: Edge) -> Result<(), SceneFault>
         requires { IsLoadableEdge self.old edge }
         ensures { IsEdgeLoaded edge self.old self.new result }

@@ -35,7 +35,7 @@ fn node(alloc: Global) -> Result<Node, AllocError> {
     })
 }
 
-/// The node is as it was made.
+/// Whether the node is as it was made.
 fn is_the_node(node: &Node) -> bool {
     node.id == i64::MIN
         && node.group
@@ -43,7 +43,7 @@ fn is_the_node(node: &Node) -> bool {
         && node.pins.as_slice() == [PIN].as_slice()
 }
 
-/// The copy of the node is right.
+/// Whether the copy of the node is right.
 fn copies_node(alloc: Global, node: &Node) -> bool {
     match node.copy(alloc) {
         Ok(copied) => is_the_node(&copied),
@@ -51,7 +51,7 @@ fn copies_node(alloc: Global, node: &Node) -> bool {
     }
 }
 
-/// Two checkpoints, of which one is put between them and the first taken out.
+/// Two checkpoints, after one was inserted between them and the first was removed.
 fn changed(alloc: Global) -> Result<Via, AllocError> {
     let points = [Point { x: 1, y: 1 }, Point { x: 2, y: 2 }];
     let mut via = Via::from_slice(alloc, &points)?;
@@ -74,12 +74,12 @@ fn edge(via: Via) -> Edge {
     }
 }
 
-/// The edge is as it was made.
+/// Whether the edge is as it was made.
 fn is_the_edge(edge: &Edge) -> bool {
     edge.from == 1 && edge.to == 2 && edge.weight == 4 && edge.via.as_slice() == LEFT.as_slice()
 }
 
-/// The copy of the edge is right.
+/// Whether the copy of the edge is right.
 fn copies_edge(alloc: Global, edge: &Edge) -> bool {
     match edge.copy(alloc) {
         Ok(copied) => is_the_edge(&copied),

@@ -1,10 +1,10 @@
-//! Commits, undos and redos beyond the depth.
+//! Commits, undos and redos beyond the depth of the history.
 
 use scene_model::{Edits, Inverses};
 use std::alloc::Global;
 use undo_log::{Step, UndoLog};
 
-/// A step without edits, of the number.
+/// A step without edits, with the number.
 fn step(alloc: Global, number: u32) -> Step<u32> {
     Step {
         back: Inverses(Vec::new(alloc)),
@@ -19,7 +19,7 @@ fn number_of(step: Option<&Step<u32>>) -> Option<u32> {
     Some(step.changes)
 }
 
-/// Puts a step of the number behind, and answers that of the one that is handed back.
+/// Adds a step with the number to the past, and returns the number of the dropped step.
 fn pushed(log: &mut UndoLog<u32>, alloc: Global, number: u32) -> Option<u32> {
     match log.push(step(alloc, number)) {
         Some(oldest) => Some(oldest.changes),
@@ -27,12 +27,12 @@ fn pushed(log: &mut UndoLog<u32>, alloc: Global, number: u32) -> Option<u32> {
     }
 }
 
-/// The numbers of the latest step behind and of the next ahead.
+/// The numbers of the latest past step and of the next future step.
 fn next_steps(log: &UndoLog<u32>) -> (Option<u32>, Option<u32>) {
     (number_of(log.past_step()), number_of(log.future_step()))
 }
 
-/// Goes back, answers the number of the step, and gives it another.
+/// Goes back, returns the number of the step, and gives it another.
 fn back(log: &mut UndoLog<u32>, number: u32) -> Option<u32> {
     let lent = log.go_back()?;
     let old = lent.changes;
@@ -40,13 +40,13 @@ fn back(log: &mut UndoLog<u32>, number: u32) -> Option<u32> {
     Some(old)
 }
 
-/// Goes forth, and answers the number of the step.
+/// Goes forward, and returns the number of the step.
 fn forth(log: &mut UndoLog<u32>) -> Option<u32> {
     let lent = log.go_forth()?;
     Some(lent.changes)
 }
 
-/// Puts the steps 1 to 100 behind, of which none is handed back.
+/// Adds the steps 1 to 100 to the past; none is dropped.
 fn push_hundred(log: &mut UndoLog<u32>, alloc: Global) -> bool {
     for number in 1..101 {
         if pushed(log, alloc, number).is_some() {

@@ -1,4 +1,5 @@
-//! Tests of the calls of scenes: their parts, their edits, transactions, the history, and made scenes.
+//! Tests of the calls of scenes: their parts, their edits, transactions, the history, and generated
+//! scenes.
 #![tactic(auto)]
 
 #[cfg(test)]

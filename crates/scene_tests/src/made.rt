@@ -1,4 +1,4 @@
-//! What is made from seed 1, as an independent program makes it.
+//! What is generated from seed 1, as an independent program generates it.
 
 use generated_input::{Summary, made_commands, made_scene};
 use scene_model::{Command, Edit, Node};
@@ -7,7 +7,7 @@ use scene_store::Scene;
 /// A node's centre and the halves of its size.
 type Place = (i64, i64, i64, i64);
 
-/// What is made of the first, the third and the last node.
+/// The first, the third and the last node.
 const PLACES: [Option<Place>; 4] = [
     Some((14_000, 13_000, 25_500, 29_500)),
     Some((416_000, -16_000, 17_500, 31_000)),

@@ -1,4 +1,4 @@
-//! Tests of the scene: refusals in order, limits, each edit done and taken back, and what is loaded.
+//! Tests of the scene: refusals in order, limits, each edit applied and taken back, and loading.
 ghost use Rattle.std.specs.Prelude.{IsTrue};
 ghost use Rattle.scene_model.specs.Edits.{IsDirected};
 
@@ -64,7 +64,7 @@ const SMALL: [Edit; 8] = [
     },
 ];
 
-/// The other edits, and what makes room for them.
+/// The other edits, and those that make room for them.
 const CHANGES: [Edit; 9] = [
     Edit::SizeNode {
         id: 1,
@@ -466,7 +466,7 @@ const LIMITS: [(Edit, Option<SceneFault>); 5] = [
     ),
 ];
 
-/// Edits of a scene with no number left, and their refusals.
+/// Edits of a scene without a free edge number, and their refusals.
 const NO_NUMBER_LEFT: [(Edit, Option<SceneFault>); 3] = [
     (
         Edit::AddEdge {
@@ -537,7 +537,7 @@ const ANCHORS: [Point; 16] = [
     Point { x: 50, y: 60 },
 ];
 
-/// What the first edge may start from.
+/// The choices from which the first edge may start.
 const STARTS: [Choice; 2] = [
     Choice {
         node: 1,
@@ -558,7 +558,7 @@ const STARTS: [Choice; 2] = [
     },
 ];
 
-/// Each edit would be refused so.
+/// Whether each edit would be refused with its fault.
 fn are_refused(scene: &Scene, rows: &[(Edit, Option<SceneFault>)]) -> bool {
     for (edit, fault) in rows {
         if scene.refusal(edit) != *fault {
@@ -568,7 +568,7 @@ fn are_refused(scene: &Scene, rows: &[(Edit, Option<SceneFault>)]) -> bool {
     true
 }
 
-/// A pin that the edit adds leads to the east.
+/// Whether a pin that the edit adds leads to the east.
 fn is_directed(edit: &Edit) -> bool
     ensures { IsTrue result → IsDirected edit.now }
 {
@@ -578,7 +578,7 @@ fn is_directed(edit: &Edit) -> bool
     }
 }
 
-/// Does the edits in turn.
+/// Applies the edits in turn.
 fn edit_all(scene: &mut Scene, edits: &[Edit]) -> Result<(), SceneFault> {
     for edit in edits {
         if is_directed(edit) {
@@ -588,7 +588,7 @@ fn edit_all(scene: &mut Scene, edits: &[Edit]) -> Result<(), SceneFault> {
     Ok(())
 }
 
-/// Does the edit and takes it back.
+/// Applies the edit and takes it back.
 fn there_and_back(scene: &mut Scene, edit: &Edit) -> Result<(), SceneFault>
     requires { IsDirected edit.now }
 {
@@ -606,7 +606,7 @@ fn there_and_back(scene: &mut Scene, edit: &Edit) -> Result<(), SceneFault>
     Ok(())
 }
 
-/// Does each edit, takes it back and does it again.
+/// Applies each edit, takes it back and applies it again.
 fn edit_all_twice(scene: &mut Scene, edits: &[Edit]) -> Result<(), SceneFault> {
     for edit in edits {
         if is_directed(edit) {
@@ -617,7 +617,7 @@ fn edit_all_twice(scene: &mut Scene, edits: &[Edit]) -> Result<(), SceneFault> {
     Ok(())
 }
 
-/// As many nodes and pins as there may be.
+/// The greatest numbers of nodes and pins.
 fn add_nodes(scene: &mut Scene) -> Result<(), SceneFault> {
     for id in 0..256 {
         scene.add_node(id, id, 0, 0, 0)?;
@@ -626,7 +626,7 @@ fn add_nodes(scene: &mut Scene) -> Result<(), SceneFault> {
     Ok(())
 }
 
-/// As many edges as there may be.
+/// The greatest number of edges.
 fn add_edges(scene: &mut Scene) -> Result<(), SceneFault> {
     for id in 0..256 {
         let other = if id == 0 { 1 } else { 0 };
@@ -636,7 +636,7 @@ fn add_edges(scene: &mut Scene) -> Result<(), SceneFault> {
     Ok(())
 }
 
-/// As many checkpoints as there may be.
+/// The greatest number of checkpoints.
 fn add_checkpoints(scene: &mut Scene) -> Result<(), SceneFault> {
     for number in 1..65 {
         for place in 1..5 {
@@ -660,7 +660,7 @@ fn load_group(scene: &mut Scene, alloc: Global, id: i64) -> Result<(), SceneFaul
     })
 }
 
-/// Loads an edge from node 3 to this class of node 1, if the scene may have the number.
+/// Loads an edge from node 3 to this class of node 1, if the scene accepts the number.
 fn load_edge(
     scene: &mut Scene,
     alloc: Global,
@@ -688,7 +688,7 @@ fn load(scene: &mut Scene, alloc: Global, number: u32) -> Result<(), SceneFault>
     load_edge(scene, alloc, number, 8)
 }
 
-/// A copy of the scene would refuse each edit so.
+/// Whether a copy of the scene would refuse each edit with its fault.
 fn copy_refuses(scene: &Scene, rows: &[(Edit, Option<SceneFault>)]) -> bool {
     match scene.copy() {
         Ok(copied) => are_refused(&copied, rows),
@@ -696,7 +696,7 @@ fn copy_refuses(scene: &Scene, rows: &[(Edit, Option<SceneFault>)]) -> bool {
     }
 }
 
-/// How many anchors the scene's floor has.
+/// The number of anchors of the scene's floor.
 fn count_of_anchors(scene: &Scene) -> Option<usize> {
     match scene.floor() {
         Ok(floor) => Some(floor.anchors.as_slice().len()),
@@ -742,7 +742,7 @@ fn has_first_task(scene: &Scene) -> bool {
     }
 }
 
-/// How many starts the task of a connector has.
+/// The number of starts of the task of a connector.
 fn count_of_starts(scene: &Scene, number: u32) -> Option<usize> {
     match task_with(scene, number) {
         Some(task) => Some(task.starts.as_slice().len()),

@@ -9,7 +9,7 @@ fn add_node(txn: &mut Txn, id: i64) -> Result<(), SceneFault> {
     txn.apply(&Edit::AddNode { id, x, y, w, h })
 }
 
-/// As many nodes as there may be.
+/// The greatest number of nodes.
 fn add_nodes(txn: &mut Txn) -> Result<(), SceneFault> {
     for id in 0..256 {
         add_node(txn, id)?;

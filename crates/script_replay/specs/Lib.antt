@@ -1,4 +1,4 @@
--- What the commands of a script come to on a scene.
+-- The results of the commands of a script on a scene.
 pub mod Replies
 pub mod Origins
 pub mod Replied

@@ -1,4 +1,4 @@
--- What the calls of a replay come to. No public clause cites this module.
+-- The results of the calls of a replay. No public clause cites this module.
 use Rattle.std.specs.Prelude.{◌≡◌, ℕ, ◌+◌, ◌*◌, ◌≤◌, List, length, map}
 use Rattle.scene_model.specs.declared.edit.Command.{Command}
 use Rattle.scene_model.specs.World.{next_world, played}
@@ -7,14 +7,14 @@ use Rattle.report_text.specs.declared.reply.LineReply.{LineReply}
 use Rattle.session_laws.specs.State.{State}
 use Rattle.script_replay.specs.Replies.{IsReply, AreReplies, searched_by, searched_in}
 
--- the command was done or refused, with this reply, and searched what the reply tells
+-- the command was executed or refused, with this reply, and searched the number that the reply gives
 pub record IsReplied (command : Command) (old new : State) (told : Reply) : Type 0 where
   pub reply : IsReply command old.world told
   pub world : new.world ≡ next_world command old.world
   pub searched : new.searched ≡ old.searched + searched_by told
   pub few : searched_by told ≤ 512
 
--- the same of commands in a row
+-- the same for commands in a row
 pub record AreReplied (commands : List (ℕ × Command)) (old new : State) (told : List LineReply) : Type 0 where
   pub replies : AreReplies old.world commands told
   pub world : new.world ≡ played (map (λ c. c.1) commands) old.world

@@ -14,7 +14,7 @@ use Rattle.report_text.specs.declared.reply.Reply.{Reply}
 use Rattle.report_text.specs.declared.reply.Reply.TheVariants.{Kept, Searched, Refused}
 use Rattle.report_text.specs.declared.reply.LineReply.{LineReply}
 
--- as many connectors were searched as are stale, for right answers of the scene before
+-- the number of searched connectors is that of the stale ones, for right answers of the scene before
 pub record SearchesStale (old new : Scene) (reply : Reply) : Type 0 where
   pub answers : List Answer
   pub right : AreAnswers old answers
@@ -22,19 +22,19 @@ pub record SearchesStale (old new : Scene) (reply : Reply) : Type 0 where
   pub are_stale : AreStale old answers new stale
   pub tells : reply ≡ Searched (length stale)
 
--- the reply to a command that leads from the one present scene to the other: undo and redo search nothing
+-- the reply to a command that leads from the old present scene to the new one: undo and redo search nothing
 abbrev pub IsReplyOfDone : Command → Scene → Scene → Reply → Type 0
 IsReplyOfDone Commit old new reply = SearchesStale old new reply
 IsReplyOfDone Undo old new reply = reply ≡ Searched 0
 IsReplyOfDone Redo old new reply = reply ≡ Searched 0
 IsReplyOfDone command old new reply = reply ≡ Kept
 
--- a refusal as it is told
+-- a refusal in the form of a reply
 abbrev pub refusal_told : CommandRefusal → ToldRefusal
 refusal_told syntax_error = told.Syntax
 refusal_told (refused fault) = told.Command fault
 
--- the reply to a command of which the world makes this
+-- the reply to a command with this result in the world
 abbrev pub IsReplyOf : Command → World → Result World CommandRefusal → Reply → Type 0
 IsReplyOf command w (Ok next) reply = IsReplyOfDone command w.present next.present reply
 IsReplyOf command w (Err why) reply = reply ≡ Refused (refusal_told why)
@@ -54,7 +54,7 @@ AreReplies w (c ∷ commands) (r ∷ replies) =
 abbrev pub world_after : Scene → List (ℕ × Command) → World
 world_after s commands = played (map (λ c. c.1) commands) (opened s)
 
--- how many connectors a reply tells as searched, and how many a list of them does
+-- the number of searched connectors in a reply, and in a list of replies
 abbrev pub searched_by : Reply → ℕ
 searched_by (Searched searched) = searched
 searched_by Kept = 0
@@ -67,7 +67,7 @@ searched_in replies = sum_by (λ r. searched_by r.reply) replies
 abbrev pub AreDirected : List (ℕ × Command) → Type 0
 AreDirected commands = AllByRecursion (λ c. IsDirectedCommand c.1) commands
 
--- the law: there is one list of replies at most
+-- the law: there is at most one list of replies
 abbrev pub HaveOneListOfReplies : Type 0
 HaveOneListOfReplies = (w : World) (commands : List (ℕ × Command)) (these those : List LineReply) →
     AreReplies w commands these → AreReplies w commands those → these ≡ those

@@ -1,4 +1,4 @@
-//! The replay of a script: its commands one after another, and the reply to each.
+//! The replay of a script: its commands, one after another, and the reply to each.
 ghost use Rattle.std.specs.Prelude.{◌≡◌, ◌≢◌, ◌<◌, ◌≤◌, ◌+◌, ◌^◌, IfErr, IfOk, IsErr, IsErrOf, Ok, OnOk, length};
 ghost use Rattle.report_text.specs.declared.refusal.Refusal.TheVariants as told;
 ghost use Rattle.report_text.specs.declared.reply.Reply.TheVariants as replies;
@@ -18,19 +18,21 @@ use scene_store::Scene;
 use std::alloc::{AllocError, Global};
 use std::thread::Threads;
 
-/// What the commands of a script came to.
+/// The result of replaying the commands of a script.
 #[derive(Drop)]
 pub struct Replayed {
-    /// The session at the end. A transaction that is still open was never closed by the script.
+    /// The session at the end. A transaction that is still open there was never closed by the
+    /// script.
     pub session: Session,
     /// The reply to each command, in order.
     pub replies: Vec<LineReply>,
 }
 
-/// Opens the scene, and does the commands one after another, each with the number of its line. A command that is
-/// refused changes nothing but that no transaction is open after it, and the next ones go on.
+/// Opens the scene, and executes the commands one after another, each with the number of its line.
+/// A refused command changes nothing except that no transaction is open after it; the next ones are
+/// still executed.
 ///
-/// Searches are made by at most `workers` side by side. The only error is want of memory.
+/// At most `workers` searches run side by side. The only error is out of memory.
 pub fn replay<R: Threads + Sync, G: Gate>(
     rt: &R,
     alloc: Global,
@@ -46,10 +48,10 @@ pub fn replay<R: Threads + Sync, G: Gate>(
     ensures replies { IfOk result (λ r. AreReplies (opened scene) commands.now r.replies.items) }
     ensures world { IfOk result (λ r. r.session.world ≡ world_after scene commands.now) }
     ensures right { IfOk result (λ r. AreAnswers r.session.world.present r.session.book) }
-    // Each search of the opening and of the commits, and no other, was made.
+    // The number of searches is exactly that of the opening and of the commits.
     ensures searched { IfOk result (λ r. r.session.searched ≡ length (connectors scene) + searched_in r.replies.items) }
 {
-    // That the scene has few connectors.
+    // For the proof: the scene has few connectors.
     scene.valid();
     let mut session = Session::open(rt, alloc, scene, workers, gate)?;
     match replies_to(rt, alloc, &mut session, commands, workers, gate) {
@@ -64,7 +66,8 @@ pub fn replay<R: Threads + Sync, G: Gate>(
     }
 }
 
-/// Does the commands one after another, and gathers the reply to each with the number of its line.
+/// Executes the commands one after another, and collects the reply to each with the number of its
+/// line.
 fn replies_to<R: Threads + Sync, G: Gate>(
     rt: &R,
     alloc: Global,
@@ -89,7 +92,8 @@ fn replies_to<R: Threads + Sync, G: Gate>(
     Ok(replies)
 }
 
-/// Does a command, and replies to it. A valid scene has no more than 512 connectors to search.
+/// Executes a command, and returns the reply to it. A valid scene has at most 512 connectors to
+/// search.
 fn reply_to<R: Threads + Sync, G: Gate>(
     rt: &R,
     session: &mut Session,
@@ -117,7 +121,7 @@ fn reply_to<R: Threads + Sync, G: Gate>(
     }
 }
 
-/// Does a commit, and tells how many connectors it searched.
+/// Executes a commit, and returns the number of connectors that it searched in its reply.
 fn reply_to_commit<R: Threads + Sync, G: Gate>(
     rt: &R,
     session: &mut Session,
@@ -129,17 +133,17 @@ fn reply_to_commit<R: Threads + Sync, G: Gate>(
     requires countable { session.old.searched + 512 < 2 ^ 64 }
     ensures { IfOk result (IsReplied commands.Commit session.old session.new) }
 {
-    // That the book before is right.
+    // For the proof: the book before is right.
     session.right();
     let before = session.searched();
     let answer = session.commit(rt, workers, gate);
-    // That the scene after has few connectors.
+    // For the proof: the scene after has few connectors.
     session.scene().valid();
     let searched = session.searched() - before;
     reply_of(answer, Reply::Searched(searched))
 }
 
-/// The reply to a command with this answer, which is `done` where it is not refused.
+/// The reply to a command with this result; it is `done` if the command was not refused.
 fn reply_of(answer: Result<(), SessionFault>, done: Reply) -> Result<Reply, AllocError>
     ensures done { OnOk answer (result ≡ Ok done) }
     ensures memory { IsErrOf answer faults.Memory → IsErr result }

@@ -1,4 +1,4 @@
--- What it costs at least to come to a place: no more than what an entry costs, and along a move it grows by no more than the move costs.
+-- Lower bounds on the cost of reaching a place: at most the cost of an entry, and along a move they grow by at most the cost of the move.
 use Rattle.std.proofs.Common.{◌≡◌, ℕ, zero, suc, ◌+◌, ◌*◌, ◌-◌, ◌<◌, ◌≤◌, List, [], ◌∷◌, Some, length, get_or, pos, ap, ◌∙◌, subst, arith, add-zero, add-suc}
 use Rattle.std.specs.Prelude.{Any, fold, min, slice_get}
 use Rattle.std.proofs.Math.Nat.{mul-le-mul_left}
@@ -17,7 +17,7 @@ use Rattle.search_labels.specs.Origins.{Covers, bound_from, cost_from}
 use Rattle.search_labels.specs.declared.ends.Entry.{Entry}
 use Rattle.search_labels.specs.declared.origin.Origin.{Origin}
 
--- the least of numbers that each grow by no more grows by no more
+-- the least of numbers that each grow by at most this grows by at most this
 least_grows : {X : Type 0} (f g : X → ℕ) (k : ℕ) → ((x : X) → f x ≤ g x + k) → (xs : List X) (m n : ℕ) → m ≤ n + k
     → fold (λ least x. min least (f x)) m xs ≤ fold (λ least x. min least (g x)) n xs + k
 least_grows f g k h [] m n le = le
@@ -39,7 +39,7 @@ no_distance : (p : Point) → distance p p ≡ 0
 no_distance p = omega (arith, ints)
 
 module _ (origins : List Origin) where
-  -- how far the cost of coming to another point differs
+  -- how much the bound of another point differs
   cost_grows : (p q : Point) → least_cost_from origins q ≤ least_cost_from origins p + distance p q
   cost_grows p q =
       least_grows (λ o. cost_from o q) (λ o. cost_from o p) (distance p q) (λ o. let h = distance_grows o.ports p q in omega (arith, h)) origins most_cost most_cost (omega arith)
@@ -85,7 +85,7 @@ module _ (origins : List Origin) where
   by_below task zero h p = cost_below task.penalty p h
   by_below task (suc k) h p = omega arith
 
-  -- a walk that moves costs no more than it costs at least further on
+  -- the bound after a move is at most the bound before it plus the cost of the move
   pub bound_moves : (task : Task) (k j : ℕ) (h d : Dir) (n : ℕ) (p : Point) → distance p (forward d n p) ≡ n → ComesTo task.via k (forward d n p) j
       → bound_of origins task j d (forward d n p) ≤ bound_of origins task k h p + n + task.penalty * turn h d
   bound_moves task zero zero h d n p far c = let g = bound_grows task.penalty p h d n far in omega (arith, g)

@@ -10,7 +10,7 @@ pub one_of_both : (m n : ℕ) → (min m n ≡ m) ⊎ (min m n ≡ n)
 one_of_both m n = elim (cases_lt m n) as (λ _. (min m n ≡ m) ⊎ (min m n ≡ n)) [ inl l ↦ inl (omega (arith, l)) | inr g ↦ inr (omega (arith, g)) ]
 
 module _ (es : List Entry) (place : Place) (cost : ℕ) where
-  -- the number is what a walk may cost at most, or what one costs that enters there
+  -- the number is `most_cost`, or the cost of a walk that enters there
   abbrev pub IsWhole : ℕ → Type 0
   IsWhole least = (least ≡ most_cost) ⊎ Any (λ (e : Entry). (e.place ≡ place) × (least ≡ e.lead + cost)) es
 
@@ -18,7 +18,7 @@ module _ (es : List Entry) (place : Place) (cost : ℕ) where
   same_whole m n same (inl h) = inl (same ∙ h)
   same_whole m n same (inr h) = inr (h.0, h.1, h.2, h.3, (h.4.0, same ∙ h.4.1))
 
-  -- so is the lesser of it and of what one entry gives
+  -- so is the lesser of it and the value of one entry
   pub least_step : (least through : ℕ) (i : ℕ) (e : Entry) → i < length es → e ≡ get_or es i e → (through ≡ most_cost) ⊎ ((e.place ≡ place) × (through ≡ e.lead + cost))
       → IsWhole least → IsWhole (min least through)
   least_step least through i e lt is gives was = by_min (one_of_both least through)

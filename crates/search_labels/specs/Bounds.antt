@@ -1,4 +1,4 @@
--- What it costs at least to come to a place.
+-- Lower bounds on the cost of reaching a place.
 use Rattle.std.specs.Prelude.{ℕ, zero, suc, ◌≡◌, ◌+◌, ◌*◌, ◌<◌, ◌≤◌, min, List, fold, length, slice_index, slice_index_or, pos}
 use Rattle.plane_geom.specs.declared.point.Point.{Point}
 use Rattle.plane_geom.specs.declared.point.Dir.{Dir}
@@ -7,15 +7,15 @@ use Rattle.walk_model.specs.declared.task.Task.{Task}
 use Rattle.search_labels.specs.Origins.{bound_from, cost_from}
 use Rattle.search_labels.specs.declared.origin.Origin.{Origin}
 
--- a first walk costs no more
+-- no first walk costs more
 abbrev pub most_cost : ℕ
 most_cost = 300000000000000000
 
--- what it costs at least to come to the point from one of the origins; as much as a first walk may cost where there is none
+-- a lower bound on the cost of reaching the point from one of the origins; `most_cost` if there is none
 abbrev pub least_cost_from : List Origin → Point → ℕ
 least_cost_from origins p = fold (λ least o. min least (cost_from o p)) most_cost origins
 
--- the same for walks that come in the heading
+-- the same for walks that arrive with the heading
 abbrev pub least_bound_from : ℕ → List Origin → Point → Dir → ℕ
 least_bound_from penalty origins p heading = fold (λ least o. min least (bound_from penalty o p heading)) most_cost origins
 
@@ -23,17 +23,17 @@ least_bound_from penalty origins p heading = fold (λ least o. min least (bound_
 abbrev pub checkpoint : List Point → ℕ → Point
 checkpoint via k = slice_index_or via k (record { x = pos 0; y = pos 0 })
 
--- what it costs at least to come by way of the first k checkpoints to the point
+-- a lower bound on the cost of reaching the point by way of the first k checkpoints
 abbrev pub least_cost_by : List Origin → List Point → ℕ → Point → ℕ
 least_cost_by origins via zero p = least_cost_from origins p
 least_cost_by origins via (suc k) p = least_cost_by origins via k (checkpoint via k) + distance (checkpoint via k) p
 
--- what it costs at least to come with k checkpoints behind to the point in the heading
+-- a lower bound on the cost of reaching the point with the heading after k checkpoints
 abbrev pub bound_of : List Origin → Task → ℕ → Dir → Point → ℕ
 bound_of origins task zero heading p = least_bound_from task.penalty origins p heading
 bound_of origins task (suc k) heading p = least_cost_by origins task.via (suc k) p
 
--- what it costs at least to come to each of the first checkpoints by way of those before it
+-- lower bounds on the cost of reaching each of the first checkpoints by way of those before it
 pub record AreFirstLegs (origins : List Origin) (via : List Point) (legs : List ℕ) : Type 0 where
   pub few : length legs ≤ length via
   pub each : (k : ℕ) → k < length legs → slice_index legs k ≡ least_cost_by origins via k (checkpoint via k)

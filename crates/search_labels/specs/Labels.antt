@@ -7,7 +7,7 @@ use Rattle.search_labels.specs.declared.label.Label.{Label}
 use Rattle.search_labels.specs.declared.label.Label.TheVariants.{Absent, Open, Closed}
 use Rattle.search_labels.specs.declared.label.Row.{Row}
 
--- what the label knows, whether open or closed
+-- what is ahead by the label, whether open or closed
 abbrev pub ahead_in : Label → Option Ahead
 ahead_in Absent = None
 ahead_in (Open v) = Some v

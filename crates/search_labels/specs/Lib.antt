@@ -1,4 +1,4 @@
--- The definitions on what a search reads and keeps.
+-- The definitions on the data that a search reads and keeps.
 pub mod Ends
 pub mod Origins
 pub mod Bounds

@@ -1,4 +1,4 @@
--- Where walks come from in one direction, and what they cost at least from there.
+-- The ports that walks leave in one direction, and lower bounds on the cost from there.
 use Rattle.std.specs.Prelude.{ℕ, ◌≡◌, ◌+◌, ◌*◌, ◌^◌, ◌≤◌, List, All, Any}
 use Rattle.plane_geom.specs.declared.point.Point.{Point}
 use Rattle.plane_geom.specs.declared.point.Dir.{Dir}
@@ -8,15 +8,15 @@ use Rattle.move_model.specs.Boxes.{distance_from, fewest_bends}
 use Rattle.search_labels.specs.declared.ends.Entry.{Entry}
 use Rattle.search_labels.specs.declared.origin.Origin.{Origin}
 
--- what it costs at least to come to the point from the ports
+-- a lower bound on the cost of reaching the point from the ports
 abbrev pub cost_from : Origin → Point → ℕ
 cost_from o p = o.lead + distance_from o.ports p
 
--- what it costs at least to come to the point in the heading
+-- a lower bound on the cost of reaching the point with the heading
 abbrev pub bound_from : ℕ → Origin → Point → Dir → ℕ
 bound_from penalty o p heading = cost_from o p + penalty * fewest_bends o.dir o.ports p heading
 
--- the entry begins in the origin's direction at one of its ports, and costs no less than it says
+-- the entry begins in the origin's direction at one of its ports, and costs at least the origin's lead
 pub record Covers (o : Origin) (e : Entry) : Type 0 where
   pub dir : e.place.heading ≡ o.dir
   pub port : HasWithin o.ports e.port

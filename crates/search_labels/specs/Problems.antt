@@ -8,7 +8,7 @@ use Rattle.search_labels.specs.Ends.{AreEntries, AreEndings}
 use Rattle.search_labels.specs.Origins.{AreCovered, IsOrigin}
 use Rattle.search_labels.specs.declared.problem.Problem.{Problem}
 
--- all that a search reads is what it says of the task over the arena of a floor with these solids
+-- all the data that a search reads are right for the task over the arena of a floor with these solids
 pub record IsReady (p : Problem) : Type 0 where
   pub floor : Floor
   pub problem : IsProblem floor p.arena.now p.solids.now p.task.now

@@ -1,4 +1,4 @@
--- What a table of labels holds.
+-- The contents of a table of labels.
 use Rattle.std.specs.Prelude.{ℕ, ◌≡◌, ◌≢◌, ◌⊎◌, ◌+◌, ◌*◌, ◌<◌, nat_lt, if◌then◌else◌, [], Contains, All, length, slice_index_or, slice_set}
 use Rattle.move_model.specs.declared.place.Place.{Place}
 use Rattle.search_labels.specs.declared.label.Label.{Label}
@@ -7,7 +7,7 @@ use Rattle.search_labels.specs.declared.label.Row.{Row}
 use Rattle.search_labels.specs.declared.table.Table.{Table}
 use Rattle.search_labels.specs.Labels.{empty_row, label_in, with_label}
 
--- where the row of the place stands
+-- the index of the row of the place
 abbrev pub row_of : Table → Place → ℕ
 row_of t x = x.stage * t.places + x.crossing
 
@@ -20,7 +20,7 @@ pub record HasRow (t : Table) (x : Place) : Type 0 where
   pub crossing : x.crossing < t.places
   pub stage : row_of t x < length t.rows.items
 
--- a row that has a label is marked, and what is marked is a row
+-- a row that has a label is marked, and each mark is the index of a row
 pub record IsMarked (t : Table) : Type 0 where
   pub rows : (k : ℕ) (d : Row) → k < length t.rows.items → (slice_index_or t.rows.items k d ≡ empty_row) ⊎ Contains t.marked.items k
   pub marks : All (λ k. k < length t.rows.items) t.marked.items
@@ -30,12 +30,12 @@ pub record IsClear (t : Table) : Type 0 where
   pub rows : All (λ r. r ≡ empty_row) t.rows.items
   pub marks : t.marked.items ≡ []
 
--- both have rows for the same places
+-- both tables have rows for the same places
 pub record SameRooms (old new : Table) : Type 0 where
   pub places : new.places ≡ old.places
   pub rows : length new.rows.items ≡ length old.rows.items
 
--- of all labels this one alone has changed
+-- only this one of all labels has changed
 pub record Puts (old new : Table) (x : Place) (label : Label) : Type 0 where
   pub rooms : SameRooms old new
   pub changed : label_of new x ≡ label

@@ -15,7 +15,8 @@ use plane_geom::{Dir, Point, Solid};
 use std::alloc::{AllocError, Global};
 use walk_model::{Choice, Task};
 
-/// A start choice with a free stub: where a walk enters the lines, and what it has cost by then.
+/// A start choice with a free stub: where a walk enters the lines, and what it has cost up to
+/// there.
 #[derive(Clone, Copy, Debug)]
 pub struct Entry {
     pub choice: u32,
@@ -61,7 +62,7 @@ fn is_stub_free(solids: &[Solid], choice: &Choice) -> bool
     true
 }
 
-/// Where the choice enters the lines, if its stub is free and its port is a crossing.
+/// The entry of the choice, if its stub is free and its port is a crossing.
 fn entry_of(
     arena: &LineArena,
     solids: &[Solid],
@@ -93,7 +94,7 @@ fn entry_of(
     })
 }
 
-/// Where the choice leaves the lines, if its stub is free and its port is a crossing.
+/// The ending of the choice, if its stub is free and its port is a crossing.
 fn ending_of(
     arena: &LineArena,
     solids: &[Solid],
@@ -123,7 +124,7 @@ fn ending_of(
     })
 }
 
-/// Puts in the entry of the next start choice, if it has one.
+/// Appends the entry of the next start choice, if it has one.
 fn push_entry(
     entries: &mut Vec<Entry>,
     arena: &LineArena,
@@ -145,7 +146,7 @@ fn push_entry(
     Ok(())
 }
 
-/// Puts in the ending of the next end choice, if it has one.
+/// Appends the ending of the next end choice, if it has one.
 fn push_ending(
     endings: &mut Vec<Ending>,
     arena: &LineArena,

@@ -5,7 +5,7 @@ ghost use Rattle.search_labels.specs.Labels.{ahead_in, empty_row, label_in, with
 use move_model::Ahead;
 use plane_geom::Dir;
 
-/// The least that is known to lie ahead of a place. What is open is still to be handed on.
+/// The least that is known to be ahead of a place. An open label is still to be propagated.
 #[derive(Clone, Copy, Debug)]
 pub enum Label {
     Absent,
@@ -14,7 +14,7 @@ pub enum Label {
 }
 
 impl Label {
-    /// What is known to lie ahead, whether open or closed.
+    /// What is known to be ahead, whether open or closed.
     pub fn ahead(self) -> Option<Ahead>
         ensures { result ≡ ahead_in self }
     {
@@ -55,7 +55,7 @@ impl Row {
         }
     }
 
-    /// Gives the heading this label.
+    /// Sets the label of the heading.
     pub fn set(&mut self, heading: Dir, label: Label)
         ensures { self.new ≡ with_label self.old heading label }
     {

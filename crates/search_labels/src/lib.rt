@@ -1,4 +1,5 @@
-//! What a search for a first walk reads and keeps: the problem with its lower bounds, and a table of labels.
+//! The data that a search for a first walk reads and keeps: the problem with its lower bounds, and
+//! a table of labels.
 //!
 //! Lengths and costs are in thousandths of a GML unit.
 #![tactic(auto)]

@@ -1,4 +1,4 @@
-//! What it costs at least to come to a point from the ports that walks leave in one direction.
+//! A lower bound on the cost to a point from the ports that walks leave in one direction.
 ghost use Rattle.std.specs.Prelude.{◌≡◌, ◌+◌, ◌*◌, ◌^◌, ◌≤◌, ◌≤ℤ◌, ◌↔◌, All, IfSome, IsNone, IsTrue};
 ghost use Rattle.move_model.specs.Boxes.{beside, distance_from, fewest_bends, outside};
 ghost use Rattle.plane_geom.specs.Along.{way_of};
@@ -10,7 +10,8 @@ ghost use Rattle.search_labels.specs.declared.ends.Entry.{Entry};
 use crate::ends::Entry;
 use plane_geom::{Dir, Point, Rect, Way};
 
-/// The box of the ports that walks leave in one direction, and the least that it costs to come to one of them.
+/// The box around the ports that walks leave in one direction, and the least cost of reaching one
+/// of them.
 #[derive(Clone, Copy, Debug)]
 pub struct Origin {
     pub dir: Dir,
@@ -18,7 +19,7 @@ pub struct Origin {
     pub lead: u64,
 }
 
-/// How far the second number is above the first.
+/// How much `to` is greater than `from`.
 fn gap(from: i64, to: i64) -> u64
     requires from { IsCoordinate from }
     requires to { IsCoordinate to }
@@ -50,7 +51,7 @@ fn greater(a: i64, b: i64) -> i64
     if a < b { b } else { a }
 }
 
-/// How far the number is from those between the two.
+/// The distance of the number from the range from `low` to `high`.
 fn outside(low: i64, z: i64, high: i64) -> u64
     requires low { IsCoordinate low }
     requires z { IsCoordinate z }
@@ -71,7 +72,7 @@ impl Origin {
         self.distance(p) == 0
     }
 
-    /// How many steps lead at least from the box to the point.
+    /// The least number of steps from the box to the point.
     fn distance(&self, p: Point) -> u64
         requires origin { IsOrigin self.now }
         requires within { PointIsOnSheet p }
@@ -82,7 +83,7 @@ impl Origin {
             + outside(self.ports.top, p.y, self.ports.bottom)
     }
 
-    /// Whether the point lies to a side of the box, for one who leaves it in the direction.
+    /// Whether the point is to a side of the box, for one who leaves the box in the direction.
     fn is_beside(&self, p: Point) -> bool
         requires origin { IsOrigin self.now }
         requires within { PointIsOnSheet p }
@@ -94,7 +95,8 @@ impl Origin {
         }
     }
 
-    /// No walk from the box to the point in the heading has fewer bends.
+    /// A lower bound on the bends of a walk from the box that arrives at the point with the
+    /// heading.
     fn bends(&self, p: Point, heading: Dir) -> u64
         requires origin { IsOrigin self.now }
         requires within { PointIsOnSheet p }
@@ -110,7 +112,7 @@ impl Origin {
         }
     }
 
-    /// What it costs at least to come to the point.
+    /// A lower bound on the cost of reaching the point.
     pub fn cost(&self, p: Point) -> u64
         requires origin { IsOrigin self.now }
         requires within { PointIsOnSheet p }
@@ -120,7 +122,7 @@ impl Origin {
         self.lead + self.distance(p)
     }
 
-    /// What it costs at least to come to the point in the heading.
+    /// A lower bound on the cost of reaching the point with the heading.
     pub fn bound(&self, p: Point, heading: Dir, penalty: u64) -> u64
         requires origin { IsOrigin self.now }
         requires within { PointIsOnSheet p }
@@ -130,7 +132,7 @@ impl Origin {
         self.cost(p) + penalty * self.bends(p, heading)
     }
 
-    /// With one entry more.
+    /// The origin, widened to one more entry.
     fn with(self, entry: Entry) -> Origin
         requires origin { IsOrigin self }
         requires entry { IsSmallEntry entry }
@@ -152,7 +154,7 @@ impl Origin {
     }
 }
 
-/// The origin of one more entry in the direction.
+/// The origin with one more entry in the direction.
 fn joined(origin: Option<Origin>, entry: Entry) -> Origin
     requires origin { IfSome origin (λ o. IsOrigin o × (o.dir ≡ entry.place.heading)) }
     requires entry { IsSmallEntry entry }
@@ -176,7 +178,7 @@ fn joined(origin: Option<Origin>, entry: Entry) -> Origin
     }
 }
 
-/// Whether a walk enters in the direction.
+/// Whether walks enter in the direction by the entry.
 fn leads(entry: &Entry, dir: Dir) -> bool
     ensures { IsTrue result ↔ (entry.now.place.heading ≡ dir) }
 {

@@ -1,4 +1,4 @@
-//! What is searched.
+//! The problem of a search: a task over an arena.
 ghost use Rattle.std.specs.Prelude.{◌≡◌, ◌⊎◌, ◌+◌, ◌*◌, ◌^◌, ◌<◌, ◌≤◌, All, Any, IfOk, OnOk, length, vec_len};
 ghost use Rattle.move_model.specs.Problems.{IsProblem};
 ghost use Rattle.plane_geom.specs.Point.{PointIsOnSheet};
@@ -16,23 +16,23 @@ use plane_geom::{Dir, Point, Solid};
 use std::alloc::{AllocError, Global};
 use walk_model::Task;
 
-/// The directions, in their order.
+/// The directions, in order.
 pub const DIRS: [Dir; 4] = [Dir::East, Dir::South, Dir::West, Dir::North];
 
-/// What lies ahead of the end of a walk.
+/// What is ahead of the end of a walk.
 pub const NOTHING: Ahead = Ahead {
     cost: 0,
     runs: 0,
     lean: 0,
 };
 
-/// A first walk costs no more.
+/// No first walk costs more.
 pub const MOST_COST: u64 = 300_000_000_000_000_000;
 
-/// A first walk has no more runs.
+/// No first walk has more runs.
 pub const MOST_RUNS: u32 = 3_289_602;
 
-/// A task over an arena, and what a search reads of it again and again.
+/// A task over an arena, and what a search reads from it repeatedly.
 #[derive(Drop)]
 pub struct Problem<'a> {
     pub arena: &'a LineArena,
@@ -41,11 +41,11 @@ pub struct Problem<'a> {
     pub entries: Vec<Entry>,
     pub endings: Vec<Ending>,
     pub origins: Vec<Origin>,
-    /// What it costs at least to come to each checkpoint.
+    /// A lower bound on the cost of reaching each checkpoint.
     pub legs: Vec<u64>,
 }
 
-/// Puts in the origin of the direction, if it has one.
+/// Appends the origin of the direction, if it has one.
 fn push_origin(origins: &mut Vec<Origin>, entries: &[Entry], dir: Dir) -> Result<(), AllocError>
     requires entries { All IsSmallEntry entries.now }
     requires origins { All IsOrigin origins.old.items }
@@ -73,7 +73,7 @@ fn all_origins(alloc: Global, entries: &[Entry]) -> Result<Vec<Origin>, AllocErr
     Ok(origins)
 }
 
-/// What it costs at least to come to the first checkpoint.
+/// A lower bound on the cost of reaching the first checkpoint.
 fn first_leg(origins: &[Origin], to: Point) -> u64
     requires origins { All IsOrigin origins.now }
     requires within { PointIsOnSheet to }
@@ -87,7 +87,7 @@ fn first_leg(origins: &[Origin], to: Point) -> u64
     least
 }
 
-/// What it costs at least to come from one of the origins to the point in the heading.
+/// A lower bound on the cost of reaching the point with the heading from one of the origins.
 fn least_bound(origins: &[Origin], penalty: u64, to: Point, heading: Dir) -> u64
     requires origins { All IsOrigin origins.now }
     requires within { PointIsOnSheet to }
@@ -102,7 +102,8 @@ fn least_bound(origins: &[Origin], penalty: u64, to: Point, heading: Dir) -> u64
     least
 }
 
-/// What it costs at least to come to the checkpoint with the number, from 0, where the legs lead to those before it.
+/// A lower bound on the cost of reaching the next checkpoint, whose number is the length of `legs`;
+/// `legs` are the bounds for those before it.
 fn next_leg(origins: &[Origin], via: &[Point], legs: &[u64]) -> u64
     requires origins { All IsOrigin origins.now }
     requires within { All PointIsOnSheet via.now }
@@ -120,7 +121,7 @@ fn next_leg(origins: &[Origin], via: &[Point], legs: &[u64]) -> u64
     legs[last] + via[last].distance(to)
 }
 
-/// What it costs at least to come to each checkpoint by way of those before it.
+/// A lower bound on the cost of reaching each checkpoint by way of those before it.
 fn all_legs(alloc: Global, origins: &[Origin], via: &[Point]) -> Result<Vec<u64>, AllocError>
     requires origins { All IsOrigin origins.now }
     requires within { All PointIsOnSheet via.now }
@@ -136,8 +137,8 @@ fn all_legs(alloc: Global, origins: &[Origin], via: &[Point]) -> Result<Vec<u64>
     Ok(legs)
 }
 
-/// What a walk costs that enters by the entry and costs so much from the place, where both are one place;
-/// `MOST_COST` otherwise.
+/// The cost of a walk that enters by the entry and costs `cost` from the place, if the entry is at
+/// the place; `MOST_COST` otherwise.
 fn cost_through(entry: &Entry, place: &Place, cost: u64) -> u64
     requires lead { entry.now.lead ≤ 5 * 10 ^ 9 }
     requires cost { cost < 2 ^ 63 }
@@ -151,7 +152,8 @@ fn cost_through(entry: &Entry, place: &Place, cost: u64) -> u64
 }
 
 impl<'a> Problem<'a> {
-    /// The task over the arena of a floor with these solids. Its only error is want of memory.
+    /// The problem of the task over the arena of a floor with these solids. The only error is out
+    /// of memory.
     pub fn new(
         alloc: Global,
         arena: &'a LineArena,
@@ -180,7 +182,8 @@ impl<'a> Problem<'a> {
         })
     }
 
-    /// What it costs at least to come by way of so many checkpoints, one at least, to the point.
+    /// A lower bound on the cost of reaching the point by way of the first `stage` checkpoints, at
+    /// least one.
     fn cost_by(&self, stage: u32, at: Point) -> u64
         requires ready { IsReady self.now }
         requires within { PointIsOnSheet at }
@@ -193,7 +196,7 @@ impl<'a> Problem<'a> {
         self.legs[last] + self.task.via.as_slice()[last].distance(at)
     }
 
-    /// What it costs at least to come to the place, which stands at the point.
+    /// A lower bound on the cost of reaching the place, which is at the point.
     pub fn bound(&self, place: &Place, at: Point) -> u64
         requires ready { IsReady self.now }
         requires within { PointIsOnSheet at }
@@ -208,7 +211,7 @@ impl<'a> Problem<'a> {
         }
     }
 
-    /// Whether a walk may enter in the heading at the point.
+    /// Whether the point is in the box of the ports that walks leave with the heading.
     fn may_enter(&self, heading: Dir, at: Point) -> bool
         requires origins { All IsOrigin self.now.origins.items }
         requires within { PointIsOnSheet at }
@@ -221,8 +224,8 @@ impl<'a> Problem<'a> {
         false
     }
 
-    /// The least cost of a walk that enters at the place, which stands at the point, and costs so much from there;
-    /// `MOST_COST` where none does, or none costs less.
+    /// The least cost of a walk that enters at the place, which is at the point, and costs `cost`
+    /// from there; `MOST_COST` where there is none, or where none costs less.
     pub fn least_whole(&self, place: &Place, at: Point, cost: u64) -> u64
         requires ready { IsReady self.now }
         requires within { PointIsOnSheet at }

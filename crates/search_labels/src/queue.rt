@@ -1,4 +1,4 @@
-//! The places that are still to be handed on.
+//! The places that are still to be propagated.
 ghost use Rattle.std.specs.Prelude.{◌≡◌, ◌≤◌, [], ◌∷◌, All, IfSome, IsNone, IsPermutation, OnErr, OnOk};
 ghost use Rattle.std.proofs.Props.{props};
 ghost use Rattle.std.specs.BinaryHeap.{IsHeap, heap_items};
@@ -9,7 +9,7 @@ use std::alloc::{AllocError, Global};
 use std::cmp::Reverse;
 use std::collections::BinaryHeap;
 
-/// A place that is still to be handed on, and what a walk through it costs at least.
+/// A place that is still to be propagated, and a lower bound on the cost of a walk through it.
 ///
 /// Candidates are compared by their bounds alone.
 #[derive(Clone, Copy, Debug)]
@@ -37,7 +37,7 @@ impl Queue {
         }
     }
 
-    /// Puts in a candidate. Its only error is want of memory, and then the queue stays.
+    /// Adds a candidate. The only error is out of memory, which leaves the queue as it was.
     pub fn push(&mut self, candidate: Candidate) -> Result<(), AllocError>
         ensures ok { OnOk result (IsPermutation (record { 0 = candidate } ∷ heap_items self.old.heap) (heap_items self.new.heap)) }
         ensures err { OnErr result (heap_items self.new.heap ≡ heap_items self.old.heap) }
@@ -46,7 +46,7 @@ impl Queue {
         Ok(())
     }
 
-    /// Takes out a candidate with the least bound.
+    /// Removes a candidate with the least bound and returns it.
     pub fn pop(&mut self) -> Option<Candidate>
         ensures rest { IfSome result (λ c. IsPermutation (heap_items self.old.heap) (record { 0 = c } ∷ heap_items self.new.heap)) }
         ensures least { IfSome result (λ c. All (λ d. c.bound ≤ d.0.bound) (heap_items self.new.heap)) }
@@ -57,7 +57,7 @@ impl Queue {
         Some(candidate)
     }
 
-    /// Takes out all candidates.
+    /// Removes all candidates.
     pub fn clear(&mut self)
         ensures { heap_items self.new.heap ≡ [] }
     {

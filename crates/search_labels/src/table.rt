@@ -6,14 +6,14 @@ use crate::label::{EMPTY, Label, Row};
 use move_model::Place;
 use std::alloc::{AllocError, Global};
 
-/// The labels of all places. Between two searches there is none.
+/// The labels of all places. Between two searches there are none.
 #[derive(Drop)]
 pub struct Table {
-    /// What the numbers of crossings are below.
+    /// A number that is greater than the number of each crossing.
     pub places: usize,
-    /// The row of a crossing in a stage stands at `stage * places + number of the crossing`.
+    /// The row of a crossing in a stage is at `stage * places + number of the crossing`.
     pub rows: Vec<Row>,
-    /// Where the rows stand that may have labels.
+    /// The indexes of the rows that may have labels.
     pub marked: Vec<usize>,
 }
 
@@ -29,7 +29,7 @@ impl Table {
         }
     }
 
-    /// Makes room for the places of an arena in so many stages. No place has a label.
+    /// Makes room for the places of an arena in `stages` stages. No place has a label.
     pub fn fit(&mut self, places: usize, stages: usize) -> Result<(), AllocError>
         requires { IsClear self.old }
         ensures clear { IsClear self.new }
@@ -46,7 +46,7 @@ impl Table {
         Ok(())
     }
 
-    /// Where the row of the place stands, whose crossing has the number.
+    /// The index of the row of the place, whose crossing has the number.
     fn row(&self, place: &Place, number: usize) -> usize
         requires number { number ≡ place.now.crossing }
         requires room { HasRow self.now place.now }
@@ -65,7 +65,7 @@ impl Table {
         self.rows[at].label(place.heading)
     }
 
-    /// Marks the row that stands there, if it has no label yet.
+    /// Marks the row at the index, if it has no label yet.
     fn mark(&mut self, at: usize) -> Result<(), AllocError>
         requires at { at < length self.old.rows.items }
         requires marked { IsMarked self.old }
@@ -81,7 +81,7 @@ impl Table {
         Ok(())
     }
 
-    /// Gives the place, whose crossing has the number, this label.
+    /// Sets the label of the place, whose crossing has the number.
     pub fn put(&mut self, place: &Place, number: usize, label: Label) -> Result<(), AllocError>
         requires number { number ≡ place.now.crossing }
         requires room { HasRow self.old place.now }
@@ -96,7 +96,7 @@ impl Table {
         Ok(())
     }
 
-    /// Takes all labels away, in the time that it took to put them.
+    /// Removes all labels, in the time that it took to set them.
     pub fn clear(&mut self)
         requires { IsMarked self.old }
         ensures clear { IsClear self.new }

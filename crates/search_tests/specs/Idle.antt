@@ -1,4 +1,4 @@
--- A task without choices and checkpoints, which no walk fulfils.
+-- A task without choices and checkpoints, which has no legal walk.
 use Rattle.std.specs.Prelude.{[]}
 use Rattle.walk_model.specs.declared.task.Task.{Task}
 

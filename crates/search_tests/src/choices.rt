@@ -10,11 +10,12 @@ use std::alloc::{AllocError, Global};
 use std::test::Fail;
 use walk_model::{Choice, Choices, Task};
 
-/// A choice of an end by its pin's coordinates, its direction, how many steps its stub has after the first, and its cost.
+/// A choice of an end by its pin's coordinates, its direction, the number of steps of its stub
+/// after the first, and its cost.
 #[derive(Clone, Copy)]
 pub struct Stub(pub i16, pub i16, pub Dir, pub u8, pub u8);
 
-/// What a task asks: its choices, its checkpoints and what a bend costs.
+/// The description of a task: its choices, its checkpoints and the cost of a bend.
 #[derive(Clone, Copy)]
 pub struct Asked {
     pub starts: &'static [Stub],
@@ -43,7 +44,7 @@ pub fn points(alloc: Global, places: &[(i16, i16)]) -> Result<Vec<Point>, AllocE
     Ok(points)
 }
 
-/// The choice of the node whose stub has so many steps.
+/// The choice of the node whose stub has `steps` steps.
 fn choice(node: i64, x: i16, y: i16, dir: Dir, steps: u64, cost: u8) -> Choice
     requires some { 0 < steps }
     requires few { steps ≤ 256 }
@@ -59,7 +60,8 @@ fn choice(node: i64, x: i16, y: i16, dir: Dir, steps: u64, cost: u8) -> Choice
     }
 }
 
-/// Whether the two choices are of one node, and have one port where they are of one pin and in one direction.
+/// Whether the two choices are of one node, and have the same port if they are of one pin and in
+/// one direction.
 fn agree(a: &Choice, b: &Choice) -> bool
     ensures node { IsTrue result → a.now.node ≡ b.now.node }
     ensures port { IsTrue result → a.now.pin ≡ b.now.pin → a.now.dir ≡ b.now.dir → a.now.port ≡ b.now.port }
@@ -74,7 +76,7 @@ fn agrees_with_each(choice: &Choice, others: &[Choice]) -> bool
     others.iter().all(|c| agree(c, choice))
 }
 
-/// The choices of the node at the stubs, but for those that do not agree with the ones before them.
+/// The choices of the node at the stubs, except those that do not agree with earlier ones.
 fn choices(alloc: Global, node: i64, stubs: &[Stub]) -> Result<Choices, AllocError>
     ensures { IfOk result AreChoices }
 {
@@ -103,7 +105,7 @@ fn any_task(alloc: Global, asked: Asked) -> Result<Task, AllocError>
     })
 }
 
-/// Whether the task is one that a call may be handed: it has few choices and checkpoints.
+/// Whether a call accepts the task: it has few choices and checkpoints.
 fn is_task(task: &Task) -> bool
     requires starts { AreChoices task.now.starts }
     requires ends { AreChoices task.now.ends }
@@ -128,7 +130,7 @@ pub fn task(alloc: Global, asked: Asked) -> Result<Task, Fail>
     }
 }
 
-/// A task without choices and checkpoints, which no walk fulfils.
+/// A task without choices and checkpoints, which has no legal walk.
 pub fn idle(alloc: Global) -> Task
     ensures { result ≡ idle_task }
 {

@@ -92,7 +92,7 @@ fn are_anchors(anchors: &[Point]) -> bool
     anchors.len() <= 256 && are_on_sheet(anchors)
 }
 
-/// Whether the floor is one that a search may be handed.
+/// Whether a search accepts the floor.
 fn is_floor(floor: &Floor) -> bool
     requires { floor.now.solids ≡ [] }
     ensures { IsTrue result → IsFloor floor.now }

@@ -1,4 +1,4 @@
-//! What a search finds, as plain values.
+//! The results of searches as plain values.
 ghost use Rattle.plane_geom.specs.Floor.{IsFloor};
 ghost use Rattle.walk_model.specs.Floors.{IsFloorOf};
 ghost use Rattle.walk_model.specs.Legal.{IsTask};
@@ -13,7 +13,7 @@ use walk_model::{Route, Task};
 #[derive(Clone, Copy, Debug, PartialEq, Eq)]
 pub struct Corner(pub i64, pub i64);
 
-/// The cost, the choices and the corners of a route, if there is one, and how many searches it took.
+/// The cost, the choices and the corners of a route, if there is one, and the number of searches.
 #[derive(Debug, Drop)]
 pub struct Found {
     pub cost: Option<u64>,
@@ -23,13 +23,13 @@ pub struct Found {
 }
 
 impl Found {
-    /// Whether it is a route with these corners, or none where there are none.
+    /// Whether it is a route with these corners, or no route if there are none.
     pub fn is_along(&self, corners: &[Corner]) -> bool {
         self.corners.as_slice() == corners
     }
 }
 
-/// The corners of the route, of which there are none where there is no route.
+/// The corners of the route; none if there is no route.
 fn corners(alloc: Global, route: &Option<Route>) -> Result<Vec<Corner>, AllocError> {
     let mut corners = Vec::new(alloc);
     if let Some(route) = route {
@@ -40,7 +40,7 @@ fn corners(alloc: Global, route: &Option<Route>) -> Result<Vec<Corner>, AllocErr
     Ok(corners)
 }
 
-/// What the route is.
+/// The route as plain values.
 fn told(alloc: Global, route: Option<Route>, searches: u64) -> Result<Found, Fail> {
     Ok(Found {
         cost: route.as_ref().map(|r| r.cost),
@@ -50,7 +50,7 @@ fn told(alloc: Global, route: Option<Route>, searches: u64) -> Result<Found, Fai
     })
 }
 
-/// What is found of the task on the graph.
+/// The result of a search for the task on the graph.
 pub fn found_in(alloc: Global, graph: &Graph, task: &Task) -> Result<Found, Fail>
     requires floor { IsFloor graph.now.floor }
     requires task { IsTask task.now }

@@ -1,4 +1,5 @@
-//! Labels of a crossing, the order of a queue, bounds worked by hand, and checkpoints behind a walk.
+//! Labels of a crossing, the order of a queue, bounds worked by hand, and the checkpoints that a
+//! walk has passed.
 ghost use Rattle.std.specs.Prelude.{◌≡◌, ◌*◌, ◌<◌, ◌≤◌, All, IfOk, length};
 ghost use Rattle.plane_geom.specs.Floor.{IsFloor};
 ghost use Rattle.plane_geom.specs.Point.{PointIsOnSheet};
@@ -19,7 +20,7 @@ use std::test::Fail;
 use visibility_graph::Graph;
 use walk_model::Task;
 
-/// A crossing with its number, and what all numbers are below.
+/// A crossing with its number, and a number that is greater than all numbers.
 #[derive(Clone, Copy)]
 struct Numbered {
     crossing: CrossId,
@@ -56,7 +57,7 @@ fn crossed(alloc: Global) -> Result<Numbered, Fail>
     crossing_in(graph.arena(), point(5, 5))
 }
 
-/// The crossing in the heading, with one checkpoint behind.
+/// The place at the crossing with the heading, after one checkpoint.
 fn place(crossing: CrossId, heading: Dir) -> Place
     ensures crossing { result.crossing ≡ crossing }
     ensures stage { result.stage ≡ 1 }
@@ -109,7 +110,7 @@ fn is_held(origins: &[Origin], at: Point) -> bool
     false
 }
 
-/// The bound of the point in the heading East, with no checkpoint behind, if a walk enters at all.
+/// The bound of the point with the heading East, before any checkpoint, if a walk enters at all.
 fn bound_at(problem: &Problem<'_>, at: Point) -> Option<u64>
     requires ready { IsReady problem.now }
     requires within { PointIsOnSheet at }
@@ -141,7 +142,7 @@ fn bounds(
     Ok((is_held, beside, ahead))
 }
 
-/// The same of what is asked.
+/// The same for a described task.
 fn asked_bounds(alloc: Global, asked: Asked) -> Result<(bool, Option<u64>, Option<u64>), Fail> {
     let task = task(alloc, asked)?;
     let graph = graph(alloc, &task)?;
@@ -169,7 +170,7 @@ fn candidate(crossing: CrossId, bound: u64) -> Candidate {
     }
 }
 
-/// Puts in two candidates, and takes out the first.
+/// Adds two candidates, and removes the first.
 fn first_of_two(queue: &mut Queue, crossing: CrossId) -> Result<Candidate, Fail> {
     queue.push(candidate(crossing, 7))?;
     queue.push(candidate(crossing, 3))?;

@@ -1,4 +1,4 @@
-//! Tests of walks, of the search for first walks, and of verdicts: their rows, asked through public calls alone.
+//! Tests of walks, of the search for first walks, and of verdicts: rows that use only public calls.
 #![tactic(auto)]
 
 #[cfg(test)]

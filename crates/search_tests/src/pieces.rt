@@ -25,13 +25,13 @@ fn idle_tasks(alloc: Global, count: u32) -> Result<Vec<Task>, AllocError>
     Ok(tasks)
 }
 
-/// How many answers there are, and how many of them with a route.
+/// The number of answers, and of those with a route.
 fn counts(answers: Vec<Option<Route>>) -> (usize, usize) {
     let routes = answers.iter().filter(|answer| answer.is_some()).count();
     (answers.len(), routes)
 }
 
-/// How many of the tasks are answered, and how many of them with a route.
+/// The number of tasks that are answered, and of those with a route.
 fn answered_on<R: Threads + Sync, G: Gate>(
     rt: &R,
     alloc: Global,
@@ -49,7 +49,7 @@ fn answered_on<R: Threads + Sync, G: Gate>(
     Ok(counts(answers))
 }
 
-/// How many idle tasks are answered, and how many of them with a route.
+/// The number of idle tasks that are answered, and of those with a route.
 fn answered<R: Threads + Sync, G: Gate>(
     rt: &R,
     alloc: Global,

@@ -23,9 +23,10 @@ struct Place(i64, i64, i64, i64, i64);
 #[derive(Clone, Copy)]
 struct Offset(i64, i64, Dirs, i64);
 
-/// The nodes of a scene, the pins of nodes 1 and 2, and the checkpoints of a connector from the one to the other.
+/// The nodes of a scene, the pins of nodes 1 and 2, and the checkpoints of a connector from node 1
+/// to node 2.
 ///
-/// An end at a node with pins may use those alone, else the centre.
+/// An end at a node with pins may use only those, otherwise the centre.
 #[derive(Clone, Copy)]
 struct Plan {
     places: &'static [Place],
@@ -34,7 +35,7 @@ struct Plan {
     via: &'static [Corner],
 }
 
-/// A plan, and the cost and the corners of the route that is to be found.
+/// A plan, and the expected cost and corners of the route.
 #[derive(Clone, Copy)]
 struct Row {
     plan: Plan,
@@ -47,7 +48,7 @@ const SOURCE: Place = Place(1, 0, 0, 20_000, 20_000);
 const TARGET: Place = Place(2, 100_000, 0, 20_000, 20_000);
 
 const ROWS: [Row; 10] = [
-    // Round a box.
+    // Around a box.
     Row {
         plan: Plan {
             places: &[SOURCE, TARGET, Place(3, 50_000, 0, 20_000, 40_000)],
@@ -205,7 +206,7 @@ const ROWS: [Row; 10] = [
     },
 ];
 
-/// Whether a node may be loaded with the pin.
+/// Whether a node with the pin can be loaded.
 fn is_loadable(pin: Pin) -> bool
     ensures { IsTrue result → IsLoadablePin pin }
 {
@@ -282,7 +283,7 @@ fn is_connector(scene: &Scene, number: u32) -> bool
     }
 }
 
-/// What is found of the task on the graph of the floor.
+/// The result of a search for the task on the graph of the floor.
 fn found_on(alloc: Global, floor: &Floor, task: &Task) -> Result<Found, Fail>
     requires floor { IsFloor floor.now }
     requires task { IsTask task.now }
@@ -292,7 +293,7 @@ fn found_on(alloc: Global, floor: &Floor, task: &Task) -> Result<Found, Fail>
     found_in(alloc, &graph, task)
 }
 
-/// What is found of the connector.
+/// The result of a search for the connector.
 fn found_of(alloc: Global, scene: &Scene, number: u32) -> Result<Found, Fail>
     requires { IsSomeAnd (edge_with scene.now number) (λ e. e.from ≢ e.to) }
 {
@@ -302,7 +303,7 @@ fn found_of(alloc: Global, scene: &Scene, number: u32) -> Result<Found, Fail>
     found_on(alloc, &floor, &task)
 }
 
-/// What is found of the plan in the scene, which is empty.
+/// The result of a search for the plan in the scene, which is empty.
 fn found_by(alloc: Global, scene: &mut Scene, plan: Plan) -> Result<Found, Fail> {
     load_all(alloc, scene, plan)?;
     connect(scene, plan)?;
@@ -312,7 +313,7 @@ fn found_by(alloc: Global, scene: &mut Scene, plan: Plan) -> Result<Found, Fail>
     found_of(alloc, scene, 1)
 }
 
-/// What is found of the plan.
+/// The result of a search for the plan.
 fn found(alloc: Global, plan: Plan) -> Result<Found, Fail> {
     let mut scene = Scene::new(alloc);
     found_by(alloc, &mut scene, plan)

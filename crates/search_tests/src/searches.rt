@@ -31,7 +31,7 @@ fn counts_a_search(rt: HostRuntime) -> Result<(), Fail> {
     Ok(())
 }
 
-/// How many searches are counted where the finder is asked twice, if the task has no route.
+/// The number of searches that are counted after two calls of the finder, if the task has no route.
 fn searched_twice(finder: &mut Finder<'_>, task: &Task) -> Result<Option<u64>, AllocError>
     requires { (floor : Floor) × IsProblem floor finder.old.arena.now finder.old.solids.now task.now }
 {

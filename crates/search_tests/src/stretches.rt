@@ -1,4 +1,4 @@
-//! What a stretch in front adds to what is ahead of a walk.
+//! The effect of a stretch put in front of what is ahead of a walk.
 
 use move_model::{Ahead, Stretch};
 use plane_geom::{Dir, Point};

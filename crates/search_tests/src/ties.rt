@@ -1,4 +1,4 @@
-//! Tasks whose ends lie along one line, where walks tie and stubs are under way past the ports of others.
+//! Tasks whose ends lie along one line, where walks tie and stubs pass the ports of others.
 
 use crate::choices::{Asked, Stub, task};
 use crate::floors::graph;
@@ -18,7 +18,7 @@ struct Tied {
 }
 
 const TIED: [Tied; 12] = [
-    // East: three stubs tie, and the one that ends first is under way past the port of another.
+    // East: three stubs tie, and the one that ends first passes the port of another.
     Tied {
         asked: Asked {
             starts: &[Stub(3, 3, South, 4, 1)],
@@ -35,7 +35,7 @@ const TIED: [Tied; 12] = [
         cost: 30,
         corners: &[Corner(3, 3), Corner(3, 8), Corner(3, 3), Corner(9, 3)],
     },
-    // East: stubs tie behind a checkpoint.
+    // East: stubs tie after a checkpoint.
     Tied {
         asked: Asked {
             starts: &[Stub(2, 3, South, 1, 4)],
@@ -65,7 +65,7 @@ const TIED: [Tied; 12] = [
         cost: 15,
         corners: &[Corner(1, 3), Corner(12, 3)],
     },
-    // South: three stubs tie, and the one that ends first is under way past the port of another.
+    // South: three stubs tie, and the one that ends first passes the port of another.
     Tied {
         asked: Asked {
             starts: &[Stub(3, 3, North, 0, 1)],
@@ -82,7 +82,7 @@ const TIED: [Tied; 12] = [
         cost: 12,
         corners: &[Corner(3, 3), Corner(3, 2), Corner(3, 6)],
     },
-    // South: stubs tie behind a checkpoint.
+    // South: stubs tie after a checkpoint.
     Tied {
         asked: Asked {
             starts: &[Stub(3, 4, West, 0, 2), Stub(3, 2, North, 4, 4)],
@@ -105,7 +105,7 @@ const TIED: [Tied; 12] = [
             Corner(3, 9),
         ],
     },
-    // South: a stub under way ends later than one that begins after it.
+    // South: a stub that was begun earlier ends later than one that begins after it.
     Tied {
         asked: Asked {
             starts: &[Stub(3, 4, South, 4, 2)],
@@ -118,7 +118,7 @@ const TIED: [Tied; 12] = [
         cost: 14,
         corners: &[Corner(3, 4), Corner(3, 12)],
     },
-    // West: three stubs tie, and the one that ends first is under way past the port of another.
+    // West: three stubs tie, and the one that ends first passes the port of another.
     Tied {
         asked: Asked {
             starts: &[Stub(0, 3, West, 0, 1)],
@@ -135,7 +135,7 @@ const TIED: [Tied; 12] = [
         cost: 13,
         corners: &[Corner(0, 3), Corner(-9, 3)],
     },
-    // West: stubs tie behind a checkpoint.
+    // West: stubs tie after a checkpoint.
     Tied {
         asked: Asked {
             starts: &[Stub(-1, 3, West, 4, 4), Stub(-3, 3, North, 4, 3)],
@@ -177,7 +177,7 @@ const TIED: [Tied; 12] = [
             Corner(-11, 3),
         ],
     },
-    // North: three stubs tie, and the one that ends first is under way past the port of another.
+    // North: three stubs tie, and the one that ends first passes the port of another.
     Tied {
         asked: Asked {
             starts: &[Stub(3, 0, South, 4, 3)],
@@ -194,7 +194,7 @@ const TIED: [Tied; 12] = [
         cost: 33,
         corners: &[Corner(3, 0), Corner(3, 5), Corner(3, -10)],
     },
-    // North: stubs tie behind a checkpoint.
+    // North: stubs tie after a checkpoint.
     Tied {
         asked: Asked {
             starts: &[Stub(3, -4, South, 4, 4), Stub(3, -1, North, 0, 3)],
@@ -218,7 +218,7 @@ const TIED: [Tied; 12] = [
             Corner(3, -11),
         ],
     },
-    // North: a stub under way ends later than one that begins after it.
+    // North: a stub that was begun earlier ends later than one that begins after it.
     Tied {
         asked: Asked {
             starts: &[Stub(3, -2, North, 3, 4)],
@@ -237,7 +237,7 @@ const TIED: [Tied; 12] = [
     },
 ];
 
-/// What is found of what is asked.
+/// The result of a search for the described task.
 fn found(alloc: Global, asked: Asked) -> Result<Found, Fail> {
     let task = task(alloc, asked)?;
     let graph = graph(alloc, &task)?;

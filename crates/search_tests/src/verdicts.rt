@@ -1,4 +1,4 @@
-//! Verdicts on drawn lines, each once at least.
+//! Verdicts on drawn lines, each at least once.
 ghost use Rattle.std.specs.Prelude.{All, IfOk};
 ghost use Rattle.plane_geom.specs.Rect.{RectIsOnSheet};
 ghost use Rattle.walk_model.specs.Legal.{IsTask};
@@ -38,8 +38,8 @@ const STARTS: [Stub; 5] = [
     Stub(0, 0, North, 13, 0),
 ];
 
-/// The target has a pin at (100, 0), with two costs to the West, and one at (20, 0), which has no room for two stubs
-/// on the straight way.
+/// The target has a pin at (100, 0), with two costs to the West, and one at (20, 0), where the
+/// straight way has no room for two stubs.
 const ENDS: [Stub; 6] = [
     Stub(100, 0, East, 13, 0),
     Stub(100, 0, South, 13, 0),
@@ -300,7 +300,7 @@ fn solids(alloc: Global, boxes: &[NodeBox]) -> Result<Vec<Solid>, AllocError>
     Ok(all)
 }
 
-/// The verdict on the line beside the solids.
+/// The verdict on the line among the solids.
 fn verdict(
     alloc: Global,
     solids: &[Solid],

@@ -1,4 +1,5 @@
-//! What walks along lines cost and pass, how routes are ordered, and what is answered for a task.
+//! The costs of walks along lines and the checkpoints that they pass, the order of routes, and the
+//! answer of a task.
 ghost use Rattle.std.specs.Prelude.{◌≡◌, IfOk};
 ghost use Rattle.walk_model.specs.Line.{IsOrthogonal};
 
@@ -88,7 +89,7 @@ fn route(alloc: Global, end: u32, points: [Point; 3]) -> Result<Route, AllocErro
     })
 }
 
-/// The order of the routes along two lines, with these end choices, which cost as much.
+/// The order of the routes along two lines, with these end choices, at the same cost.
 fn compared(
     alloc: Global,
     a_end: u32,
@@ -111,11 +112,11 @@ fn orders_routes_of_one_cost(rt: HostRuntime) -> Result<(), Fail> {
     let long = [PIN, Point { x: 2, y: 0 }, Point { x: 2, y: 2 }];
     let later = [PIN, Point { x: 0, y: 2 }, Point { x: 2, y: 2 }];
     let back = [PIN, Point { x: 2, y: 0 }, Point { x: 1, y: 0 }];
-    // A list of steps that begins another stands first, whatever the end choices are.
+    // A list of steps that is the beginning of another comes first, whatever the end choices are.
     assert_eq!(rt; compared(alloc, 1, short, 0, long)?, Ordering::Less);
-    // Both have two runs and the lean 2, and East comes before South.
+    // Both have two runs and the sum of run coordinates 2, and East comes before South.
     assert_eq!(rt; compared(alloc, 0, long, 0, later)?, Ordering::Less);
-    // The lower lean stands first.
+    // The lower sum of run coordinates comes first.
     assert_eq!(rt; compared(alloc, 0, long, 0, back)?, Ordering::Greater);
     assert_eq!(rt; compared(alloc, 0, back, 0, back)?, Ordering::Equal);
     assert_eq!(rt; run_count(&back), 2);

@@ -7,7 +7,7 @@ use Rattle.plane_geom.specs.declared.point.Dir.{Dir}
 use Rattle.plane_geom.specs.declared.point.Dir.TheVariants.{East, South, West, North}
 use Rattle.plane_geom.specs.Point.{IsStraight, heading}
 
--- one goes straight from the one point to the other in the direction
+-- one goes straight from the first point to the second in the direction
 abbrev pub Goes : Dir → Point → Point → Type 0
 Goes East p q = (p.x <ℤ q.x) × (p.y ≡ q.y)
 Goes South p q = (p.y <ℤ q.y) × (p.x ≡ q.x)

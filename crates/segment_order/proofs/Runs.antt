@@ -21,7 +21,7 @@ use Rattle.segment_order.proofs.Headings.{Goes, goes}
 abbrev between_with : Dir → ℕ → ℕ → Point → Point → Run
 between_with d edge place p q = record { edge = edge; place = place; way = way_of d; heading = d; at = across (way_of d) p; lo = int_min (along (way_of d) p) (along (way_of d) q); hi = int_max (along (way_of d) p) (along (way_of d) q) }
 
--- the run begins at the one point and ends at the other; it is on the sheet where they are
+-- the run begins at the first point and ends at the second; it is on the sheet if they are
 pub record IsFromTo (r : Run) (p q : Point) : Type 0 where
   pub start : start_of_run r ≡ p
   pub finish : end_of_run r ≡ q

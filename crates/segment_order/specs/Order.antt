@@ -9,7 +9,7 @@ use Rattle.segment_order.specs.declared.run.Run.{Run}
 use Rattle.segment_order.specs.declared.ray.Entry.{Entry}
 use Rattle.segment_order.specs.Ray.{ray, entry_cmp}
 
--- by what runs are ordered
+-- the keys by which runs are ordered
 pub record Key : Type 0 where
   pub at : ℤ
   pub first : List Entry
@@ -21,7 +21,7 @@ pub record Key : Type 0 where
 abbrev pub key_of : List Run → Run → Key
 key_of route r = record { at = r.at; first = ray route r (opposite (rising r.way)); second = ray route r (rising r.way); edge = r.edge; place = r.place }
 
--- part by part
+-- compares two keys part by part
 abbrev pub compare_keys : Key → Key → Ordering
 compare_keys a b =
     ordering_then (int_cmp a.at b.at)

@@ -39,18 +39,18 @@ end_in South r = point_on r.way r.at r.hi
 end_in West r = point_on r.way r.at r.lo
 end_in North r = point_on r.way r.at r.lo
 
--- where the run begins and ends
+-- the points where the run begins and ends
 abbrev pub start_of_run : Run → Point
 start_of_run r = end_in (opposite r.heading) r
 
 abbrev pub end_of_run : Run → Point
 end_of_run r = end_in r.heading r
 
--- the run as a piece of its line
+-- the run as a piece of its whole line
 abbrev pub line_of_run : Run → Line
 line_of_run r = record { way = r.way; at = r.at; lo = r.lo; hi = r.hi }
 
--- what is read past the last run
+-- the value that is read past the last run
 abbrev pub no_run : Run
 no_run = record { edge = 0; place = 0; way = Vertical; heading = South; at = pos 0; lo = pos 0; hi = pos 0 }
 
@@ -79,7 +79,7 @@ pub record AreRunsOf (edge : ℕ) (runs : List Run) : Type 0 where
 abbrev pub point_at_index : List Point → ℕ → Point
 point_at_index points k = slice_index_or points k (record { x = pos 0; y = pos 0 })
 
--- corners of which the runs are those of a route: two at least, on the sheet, each straight from the one before it, and the heading goes on unchanged at none
+-- corners whose runs are those of a route: at least two, on the sheet, each straight from the one before it, and the heading changes at each of them
 pub record AreCorners (points : List Point) : Type 0 where
   pub some : 1 < length points
   pub on_sheet : All PointIsOnSheet points

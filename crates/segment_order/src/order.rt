@@ -15,7 +15,7 @@ use crate::run::Run;
 use plane_geom::{Dir, Way};
 use std::cmp::Ordering;
 
-/// The order of two rays. The first entries that differ decide, and no more are looked at.
+/// Compares two rays by the first entries that differ; later ones are not read.
 fn compare_rays(a: Ray<'_>, b: Ray<'_>) -> Ordering
     ensures { result ≡ slice_cmp entry_cmp (entries_of a.entry) (entries_of b.entry) }
 {
@@ -46,10 +46,11 @@ fn rising(way: Way) -> Dir
     }
 }
 
-/// The order of two runs on a line: by coordinate, by their two rays, by edge and by place.
+/// Compares two runs on a line: by coordinate, by their two rays, by edge and by place.
 ///
-/// A ray follows the route away from its run. The first leaves it at the end with the smaller coordinate. Each run is
-/// handed with all runs of its route, in order. No memory is taken.
+/// A ray follows the route away from its run. The first ray leaves the run at the end with the
+/// smaller coordinate. `a_route` and `b_route` are all runs of the routes of `a` and `b`, in order.
+/// Takes no memory.
 pub fn line_order(a: &Run, a_route: &[Run], b: &Run, b_route: &[Run]) -> Ordering
     ensures { result ≡ compare_keys (key_of a_route.now a.now) (key_of b_route.now b.now) }
 {
@@ -76,7 +77,7 @@ pub fn one_order()
         compare_keys (key_of a_route a) (key_of b_route b) ≢ Equal }
 {}
 
-/// Each ray ends with its only stop, so none goes on where another ends.
+/// Each ray ends with its only stop, so none continues where another ends.
 pub fn rays_stop()
     ensures stop { (route : List Run) (r : Run) (d : Dir) → EndsAtOnlyStop (ray route r d) }
     ensures no_prefix { (a b : List Entry) → EndsAtOnlyStop a → EndsAtOnlyStop b → (more : List Entry) → b ≡ a ++ more → more ≡ [] }

@@ -7,8 +7,8 @@ use crate::side::{Side, near_side, turn_to};
 use plane_geom::Dir;
 use std::cmp::Ordering;
 
-/// What a ray does at the end of a run that it follows: it turns to the near hand or to the far one, so far on in its
-/// direction, or it stops there.
+/// What a ray does at the end of a run: it turns to the near or to the far side, at the distance
+/// `reach` in its direction, or it stops there.
 #[derive(Clone, Copy, Debug)]
 pub enum Entry {
     Near(i128),
@@ -17,7 +17,7 @@ pub enum Entry {
 }
 
 impl Entry {
-    /// The entry of a turn to the side, so far on.
+    /// The entry of a turn to `side` at the distance `reach`.
     fn at(near: Side, reach: i128, side: Side) -> Entry
         ensures { result ≡ entry_of near reach side }
     {
@@ -28,8 +28,8 @@ impl Entry {
         }
     }
 
-    /// Entries to the near hand stand first, the nearest before the others, then a stop, then entries to the far hand,
-    /// the farthest before the others.
+    /// Entries to the near side come first, the nearest of them first; then a stop; then entries to
+    /// the far side, the farthest first.
     pub(crate) fn compare(self, other: Entry) -> Ordering
         ensures { result ≡ entry_cmp self other }
     {
@@ -45,7 +45,8 @@ impl Entry {
     }
 }
 
-/// A way along a route, away from one of its runs: the run that is followed, and those that are still to come.
+/// A way along a route, away from one of its runs: the run that is followed, and the runs that are
+/// still to come.
 #[derive(Clone, Copy)]
 pub(crate) struct Ray<'a> {
     near: Side,
@@ -55,7 +56,7 @@ pub(crate) struct Ray<'a> {
     rest: &'a [Run],
 }
 
-/// How far the run's end lies in the direction.
+/// How far the run's end is in the direction: its coordinate, negated for West and North.
 fn reach_in(dir: Dir, run: &Run) -> i128
     ensures { result ≡ reach_in dir run.now }
 {
@@ -86,7 +87,7 @@ impl<'a> Ray<'a> {
         }
     }
 
-    /// The first entry, and the ray behind it; none behind a stop.
+    /// The first entry, and the ray after it; no ray after a stop.
     pub(crate) fn split(self) -> (Entry, Option<Ray<'a>>)
         ensures entries { entries_of self.entry ≡ result.0 ∷ entries_left result.1 }
         ensures stop { (result.0 ≡ Entry.Stop) ↔ (result.1 ≡ None) }
@@ -98,7 +99,7 @@ impl<'a> Ray<'a> {
         }
     }
 
-    /// The side to which the ray turns next, and the ray from there on; none where it stops.
+    /// The side to which the ray turns next, and the ray after the turn; none where it stops.
     fn turned(self) -> Option<(Side, Ray<'a>)>
         ensures { MatchOption result (entries_of self.entry ≡ Entry.Stop ∷ [])
             (λ next. (entries_of self.entry ≡ entry_of self.entry.near self.entry.reach next.0 ∷ entries_of next.1)

@@ -5,10 +5,11 @@ ghost use Rattle.segment_order.specs.Run.{AreCorners, AreRunsOf, run_between, ru
 use plane_geom::{Dir, Point, Way};
 use std::alloc::{AllocError, Global};
 
-/// A straight piece of a route of the edge, between two neighbouring corners.
+/// A straight piece of the route of an edge, between two neighbouring corners.
 ///
-/// It runs at the coordinate `at` from `lo` to `hi`, in thousandths of a GML unit. Its place is counted from 1 along
-/// the route. The heading says in which direction the route goes along it, also where it has no length.
+/// It runs at the coordinate `at` from `lo` to `hi`, in thousandths of a GML unit. Its place is
+/// counted from 1 along the route. The heading is the direction in which the route goes along it,
+/// even if it has no length.
 #[derive(Clone, Copy, Debug, PartialEq, Eq)]
 pub struct Run {
     pub edge: u32,
@@ -45,14 +46,14 @@ impl Run {
         }
     }
 
-    /// Where the run begins.
+    /// The point where the run begins.
     pub fn start(&self) -> Point
         ensures { result ≡ start_of_run self.now }
     {
         self.end_in(self.heading.opposite())
     }
 
-    /// Where the run ends.
+    /// The point where the run ends.
     pub fn end(&self) -> Point
         ensures { result ≡ end_of_run self.now }
     {
@@ -89,7 +90,7 @@ fn run_between(edge: u32, place: u32, from: Point, to: Point) -> Run
     }
 }
 
-/// The runs of the edge's route through these corners, in order. Its only error is want of memory.
+/// The runs of the edge's route through these corners, in order. The only error is out of memory.
 pub fn runs_of(alloc: Global, edge: u32, points: &[Point]) -> Result<Vec<Run>, AllocError>
     requires { length points.now ≤ 2 ^ 32 }
     ensures along { IfOk result (λ runs. runs.items ≡ runs_along edge 1 points.now) }

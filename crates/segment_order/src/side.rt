@@ -1,17 +1,17 @@
-//! The two hands of one who travels.
+//! The two sides, left and right, of one who travels.
 ghost use Rattle.std.specs.Prelude.{◌≡◌};
 ghost use Rattle.segment_order.specs.Side.{near_side, turn_to};
 
 use plane_geom::Dir;
 
-/// A hand of one who travels.
+/// A side, left or right, of one who travels.
 #[derive(Clone, Copy, Debug, PartialEq, Eq)]
 pub enum Side {
     Left,
     Right,
 }
 
-/// The hand to which one turns; none where one goes on or doubles back.
+/// The side to which one turns from one direction to another; none if one goes on or doubles back.
 pub(crate) fn turn_to(from: Dir, to: Dir) -> Option<Side>
     ensures { result ≡ turn_to from to }
 {
@@ -28,7 +28,7 @@ pub(crate) fn turn_to(from: Dir, to: Dir) -> Option<Side>
     }
 }
 
-/// The hand on which the smaller coordinate across lies.
+/// The side with the smaller coordinate across, for one who travels in the direction.
 pub(crate) fn near_side(dir: Dir) -> Side
     ensures { result ≡ near_side dir }
 {

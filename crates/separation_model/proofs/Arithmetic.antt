@@ -1,4 +1,4 @@
--- Arithmetic: sums, products and the order of whole numbers, and lists put in order. Nothing here knows of bundles.
+-- Arithmetic: sums, products and the order of whole numbers, and lists put in order. Nothing here depends on bundles.
 pub mod Ring
 pub mod Order
 pub mod Sums

@@ -17,7 +17,7 @@ use Rattle.separation_model.proofs.Arithmetic.Order.{mul-mono, nat_mul_positive,
 use Rattle.separation_model.proofs.Optimum.Positions.{ends_within, limits_on_sheet}
 use Rattle.separation_model.proofs.Optimum.Middle.{one_place}
 
--- a number is its quotient by a positive one, so many times, and its rest
+-- a number is its quotient by a positive one, times that one, plus its remainder
 pub euclid : (top : ℤ) (den : ℕ) → 0 < den → top ≡ (int_div_euclid top (pos den) *ℤ pos den) +ℤ int_rem_euclid top (pos den)
 euclid (pos a) den h = omega (arith, ints)
 euclid (negsuc a) den h = omega (arith, ints)

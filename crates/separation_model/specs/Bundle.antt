@@ -1,4 +1,4 @@
--- What a bundle is, and what positions have to meet.
+-- Bundles, and the conditions on their positions.
 use Rattle.std.specs.Prelude.{◌≡◌, ℕ, false, ◌<◌, ◌≤◌, ℤ, pos, ◌*ℤ◌, ◌≤ℤ◌, List, length, All, EachIndex, slice_index, slice_index_or, if◌then◌else◌}
 use Rattle.plane_geom.specs.Point.{IsCoordinate}
 use Rattle.separation_model.specs.declared.bundle.Item.{Item}
@@ -7,7 +7,7 @@ use Rattle.separation_model.specs.declared.bundle.Bundle.{Bundle}
 use Rattle.separation_model.specs.declared.bundle.Solution.{Solution}
 use Rattle.separation_model.specs.Apart.{FractionIsOnSheet, fraction_slack}
 
--- what is read past the last item: one that stands at 0
+-- the value that is read past the last item: an item at 0
 abbrev pub no_item : Item
 no_item = record { want = pos 0; lo = pos 0; hi = pos 0; weight = 0 }
 
@@ -15,7 +15,7 @@ no_item = record { want = pos 0; lo = pos 0; hi = pos 0; weight = 0 }
 abbrev pub item_at : List Item → ℕ → Item
 item_at items i = slice_index_or items i no_item
 
--- what is read past the last rule: one of the first item with itself
+-- the value that is read past the last rule: a rule of the first item with itself
 abbrev pub no_rule : Rule
 no_rule = record { left = 0; right = 0; spaced = false }
 
@@ -27,7 +27,7 @@ rule_at rules j = slice_index_or rules j no_rule
 abbrev pub int_at : List ℤ → ℕ → ℤ
 int_at zs i = slice_index_or zs i (pos 0)
 
--- an item with limits on the sheet, which wants to stand within them, and a weight from 1 to 4
+-- an item with limits on the sheet, a want within them, and a weight from 1 to 4
 pub record IsItem (item : Item) : Type 0 where
   pub lo : IsCoordinate item.lo
   pub hi : IsCoordinate item.hi
@@ -36,7 +36,7 @@ pub record IsItem (item : Item) : Type 0 where
   pub weight_low : 1 ≤ item.weight
   pub weight_high : item.weight ≤ 4
 
--- a rule that goes on to a later item, which wants to stand at the left one's want or to the right of it
+-- a rule that goes forward to a later item, whose want is at least that of the left item
 pub record IsRule (items : List Item) (rule : Rule) : Type 0 where
   pub forward : rule.left < rule.right
   pub within : rule.right < length items
@@ -46,7 +46,7 @@ pub record IsRule (items : List Item) (rule : Rule) : Type 0 where
 abbrev pub most_items : ℕ
 most_items = 850000000
 
--- a bundle that may be handed to a call: not too many items, all rules go forward, and the wanted gap is from 0 to 10^6
+-- a bundle that calls accept: not too many items, all rules go forward, and the wanted gap is from 0 to 10^6
 pub record IsBundle (b : Bundle) : Type 0 where
   pub few : length b.items.items ≤ most_items
   pub items : All IsItem b.items.items
@@ -54,21 +54,21 @@ pub record IsBundle (b : Bundle) : Type 0 where
   pub wanted_low : pos 0 ≤ℤ b.wanted
   pub wanted_high : b.wanted ≤ℤ pos 1000000
 
--- a gap from 0 to the most
+-- a gap from 0 to the greatest one
 pub record IsGapUpTo (most gap : ℤ) : Type 0 where
   pub low : pos 0 ≤ℤ gap
   pub high : gap ≤ℤ most
 
--- how far apart a rule asks its items to stand, for a gap
+-- the least distance that a rule asks of its items, for a gap
 abbrev pub asked : ℤ → Rule → ℤ
 asked gap rule = if rule.spaced then gap else pos 0
 
--- the fraction num / den lies within the item's limits
+-- the fraction num / den is within the item's limits
 pub record IsWithinLimits (item : Item) (den : ℕ) (num : ℤ) : Type 0 where
   pub low : (item.lo *ℤ pos den) ≤ℤ num
   pub high : num ≤ℤ (item.hi *ℤ pos den)
 
--- by how much the rule's items stand further apart than it asks, over the product of their denominators
+-- by how much the distance of the rule's items exceeds what it asks, over the product of their denominators
 abbrev pub slack : ℤ → List ℕ → List ℤ → Rule → ℤ
 slack gap den nums rule = fraction_slack (int_at nums rule.left) (slice_index den rule.left) (int_at nums rule.right) (slice_index den rule.right) (asked gap rule)
 

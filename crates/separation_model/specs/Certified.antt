@@ -15,17 +15,17 @@ from_left = sum_at (λ r. r.right)
 abbrev pub from_right : ℕ → List Rule → List ℤ → ℤ
 from_right = sum_at (λ r. r.left)
 
--- a rule's multiplier is 0, or its items stand exactly as far apart as it asks, over one denominator
+-- a rule's multiplier is 0, or the distance of its items is exactly what it asks, over one denominator
 abbrev pub IsRuleTight : ℤ → List ℕ → List ℤ → Rule → ℤ → Type 0
 IsRuleTight gap den nums rule m =
     m ≢ pos 0 → (slack gap den nums rule ≡ pos 0) × (slice_index den rule.left ≡ slice_index den rule.right)
 
--- the multipliers of an item's limits are 0 unless it stands at the limit
+-- the multipliers of an item's limits are 0 unless it is at the limit
 pub record IsLimitTight (item : Item) (den : ℕ) (num low high : ℤ) : Type 0 where
   pub at_low : low ≢ pos 0 → num ≡ item.lo *ℤ pos den
   pub at_high : high ≢ pos 0 → num ≡ item.hi *ℤ pos den
 
--- twice the weighted displacement of the item at the index is what the multipliers push it by
+-- twice the weighted displacement of the item at the index equals the push of the multipliers
 abbrev pub IsBalanced : Bundle → Solution → ℕ → Type 0
 IsBalanced b s i =
     let item = item_at b.items.items i in
@@ -50,7 +50,7 @@ pub record IsCertified (b : Bundle) (s : Solution) : Type 0 where
 abbrev pub IsSmall : ℤ → Type 0
 IsSmall z = unsigned_abs z ≤ 2 ^ 100
 
--- all multipliers of the item at the index, together
+-- the sum of all multipliers of the item at the index
 abbrev pub all_multipliers : Bundle → Solution → ℕ → ℤ
 all_multipliers b s i =
     (from_left i b.rules.items s.mult.items +ℤ from_right i b.rules.items s.mult.items)

@@ -1,4 +1,4 @@
--- The conditions of a certificate, one item and one rule at a time. No public clause cites this module; what is promised is Certified.
+-- The conditions of a certificate, one item and one rule at a time. No public clause cites this module; `Certified` states what is promised.
 use Rattle.std.specs.Prelude.{◌≡◌, ◌≢◌, ℕ, ◌<◌, ◌^◌, ℤ, pos, ◌+ℤ◌, ◌≤ℤ◌, List, length, All, EachIndex, slice_index}
 use Rattle.separation_model.specs.declared.bundle.Item.{Item}
 use Rattle.separation_model.specs.declared.bundle.Rule.{Rule}
@@ -7,7 +7,7 @@ use Rattle.separation_model.specs.declared.bundle.Solution.{Solution}
 use Rattle.separation_model.specs.Bundle.{IsWithinLimits, item_at, rule_at, int_at, slack}
 use Rattle.separation_model.specs.Certified.{IsRuleTight, IsLimitTight, IsSmall, IsBalanced, all_multipliers}
 
--- each list of the solution has the length that the bundle asks for
+-- each list of the solution has the length that the bundle requires
 pub record HasLengths (b : Bundle) (s : Solution) : Type 0 where
   pub dens : length s.den.items ≡ length b.items.items
   pub places : length s.pos.items ≡ length b.items.items
@@ -26,12 +26,12 @@ pub record HasMultipliers (s : Solution) : Type 0 where
   pub lows : All IsMultiplier s.low.items
   pub highs : All IsMultiplier s.high.items
 
--- the one is at most the other, and equal to it unless the multiplier is 0
+-- the first is at most the second, and equal to it unless the multiplier is 0
 pub record IsMet (least most m : ℤ) : Type 0 where
   pub ordered : least ≤ℤ most
   pub tight : m ≢ pos 0 → least ≡ most
 
--- the item stands at a fraction within its limits that is not too large, and a limit's multiplier is 0 unless it stands at that limit
+-- the item is at a fraction within its limits that is not too large, and a limit's multiplier is 0 unless it is at that limit
 pub record KeepsLimits (item : Item) (den : ℕ) (num low high : ℤ) : Type 0 where
   pub positive : 0 < den
   pub within : IsWithinLimits item den num
@@ -57,12 +57,12 @@ pub record KeepsRule (gap : ℤ) (den : List ℕ) (nums : List ℤ) (rule : Rule
 abbrev pub KeepsRuleAt : Bundle → Solution → ℕ → Type 0
 KeepsRuleAt b s j = KeepsRule s.gap s.den.items s.pos.items (rule_at b.rules.items j) (int_at s.mult.items j)
 
--- the multipliers of the item balance its displacement, and are not too large together
+-- the multipliers of the item balance its displacement, and their sum is not too large
 pub record IsAtRest (b : Bundle) (s : Solution) (i : ℕ) : Type 0 where
   pub small : all_multipliers b s i ≤ℤ pos (2 ^ 126)
   pub balanced : IsBalanced b s i
 
--- the two numbers are the sums of the multipliers of an item's rules, which are not too large together
+-- the two numbers are the sums of the multipliers of an item's rules, whose total is not too large
 pub record IsPush (left right from_left from_right : ℤ) : Type 0 where
   pub left_is : from_left ≡ left
   pub right_is : from_right ≡ right

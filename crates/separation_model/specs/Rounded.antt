@@ -7,7 +7,7 @@ pub record IsRoundedDown (num : ℤ) (den : ℕ) (whole : ℤ) : Type 0 where
   pub not_above : (whole *ℤ pos den) ≤ℤ num
   pub next_above : num <ℤ ((whole +ℤ pos 1) *ℤ pos den)
 
--- the fraction num / den rounded down, toward minus infinity; the code once more, which `rounded_down_is_below` ties to `IsRoundedDown`
+-- the fraction num / den rounded down, toward minus infinity; this repeats the code, and `rounded_down_is_below` ties it to `IsRoundedDown`
 abbrev pub rounded_down : ℤ → ℕ → ℤ
 rounded_down num den = int_div_euclid num (pos den)
 

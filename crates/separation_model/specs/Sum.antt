@@ -11,11 +11,11 @@ abbrev pub product : List ℕ → ℕ
 product [] = 1
 product (n ∷ ns) = n * product ns
 
--- the number if the two indices are one, else 0
+-- the number if the two indexes are equal, otherwise 0
 abbrev pub here : ℕ → ℕ → ℤ → ℤ
 here k i z = if k == i then z else pos 0
 
--- the sum of the numbers beside those elements that have their end at the index
+-- the sum of the numbers whose elements have their end at the index
 abbrev pub sum_at : {A : Type 0} → (A → ℕ) → ℕ → List A → List ℤ → ℤ
 sum_at end i [] zs = pos 0
 sum_at end i (x ∷ xs) [] = pos 0

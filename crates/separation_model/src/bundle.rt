@@ -1,17 +1,19 @@
-//! Bundles and solutions: what is handed in, and what is answered.
+//! Bundles and solutions: the input and the output of the solver.
 
 ghost use Rattle.std.specs.Prelude.{◌≡◌};
 ghost use Rattle.separation_model.specs.Bundle.{asked};
 
 use crate::position::{Position, rounded_down};
 
-/// The most items that a bundle may have. The law `most_items_is_the_bound` says that it is the definitions' number.
+/// The most items that a bundle may have. The law `most_items_is_the_bound` says that definitions
+/// use the same number.
 pub const MOST_ITEMS: usize = 850_000_000;
 
-/// Something that wants to stand at `want` and has to stand from `lo` to `hi`, all in thousandths of a GML unit.
+/// Something that is wanted at `want` and has to be from `lo` to `hi`, all in thousandths of a GML
+/// unit.
 ///
-/// The limits are on the sheet, and the want is within them. The weight, from 1 to 4, counts its squared displacement
-/// so many times.
+/// The limits are on the sheet, and `want` is within them. The weight, from 1 to 4, is the factor
+/// of its squared displacement.
 #[derive(Clone, Copy, Debug, PartialEq, Eq)]
 pub struct Item {
     pub want: i64,
@@ -20,10 +22,11 @@ pub struct Item {
     pub weight: u32,
 }
 
-/// The left item stays before the right one: by the gap at least where the rule is spaced, else by nothing.
+/// The left item stays before the right one: by at least the gap if the rule is spaced, otherwise
+/// by at least 0.
 ///
-/// Items are named by their indices in the bundle, from 0. A rule goes forward: `left` is below `right`, and `right`
-/// is an item of the bundle, which wants to stand at the left one's want or to the right of it.
+/// Items are named by their indexes in the bundle, from 0. A rule goes forward: `left` is less than
+/// `right`, and `right` is an item of the bundle, whose `want` is at least that of the left item.
 #[derive(Clone, Copy, Debug, PartialEq, Eq)]
 pub struct Rule {
     pub left: u32,
@@ -32,7 +35,7 @@ pub struct Rule {
 }
 
 impl Rule {
-    /// How far apart the rule asks its items to stand, for a gap.
+    /// The least distance that the rule asks of its items, for a gap.
     pub fn asked(&self, gap: i64) -> i64
         ensures { result ≡ asked gap self.now }
     {
@@ -40,10 +43,10 @@ impl Rule {
     }
 }
 
-/// Items that rules join, and the gap that they want, from 0 to 1,000,000 thousandths.
+/// Items that rules join, and the wanted gap, from 0 to 1,000,000 thousandths.
 ///
-/// There are at most 850,000,000 items (`MOST_ITEMS`), each as `Item` says, and any number of rules, each as `Rule`
-/// says. All calls ask for these conditions.
+/// There are at most 850,000,000 items (`MOST_ITEMS`), each as described at `Item`, and any number
+/// of rules, each as described at `Rule`. All calls require these conditions.
 #[derive(Debug, PartialEq, Eq, Drop)]
 pub struct Bundle {
     pub items: Vec<Item>,
@@ -53,9 +56,9 @@ pub struct Bundle {
 
 /// Positions of a bundle's items for a gap, with the multipliers of its rules and limits.
 ///
-/// The item at an index stands at `pos / den` thousandths. `mult` has the multipliers of the rules, in their order, and
-/// `low` and `high` those of the items' limits.
-/// A multiplier of a limit is a numerator over the item's `den`, one of a rule over the `den` of both its items.
+/// The item at an index is at `pos / den` thousandths. `mult` has the multipliers of the rules, in
+/// their order, and `low` and `high` those of the items' limits. A multiplier of a limit is a
+/// numerator over the item's `den`, one of a rule over the `den` of both its items.
 #[derive(Debug, PartialEq, Eq, Drop)]
 pub struct Solution {
     pub gap: i64,
@@ -72,7 +75,7 @@ impl Solution {
     ghost use Rattle.separation_model.specs.Bundle.{SolutionIsOnSheet, int_at};
     ghost use Rattle.separation_model.specs.Rounded.{rounded_down};
 
-    /// Where the item stands.
+    /// The position of the item.
     pub(crate) fn position(&self, item: usize) -> Position
         requires den { item < length self.now.den.items }
         requires pos { item < length self.now.pos.items }
@@ -85,9 +88,10 @@ impl Solution {
         }
     }
 
-    /// The item's position in whole thousandths, rounded down, also left of 0.
+    /// The item's position in whole thousandths, rounded down, also if it is negative.
     ///
-    /// All positions have to be on the sheet. Those that meet a bundle are (`met_positions_are_on_sheet`).
+    /// All positions have to be on the sheet. Positions that meet a bundle are
+    /// (`met_positions_are_on_sheet`).
     pub fn rounded_down(&self, item: usize) -> i64
         requires item { item < length self.now.pos.items }
         requires on_sheet { SolutionIsOnSheet self.now }

@@ -1,4 +1,5 @@
-//! The check of a solution: its positions meet the bundle, and its multipliers show that they are least.
+//! The check of a solution: its positions meet the bundle, and its multipliers show that they are
+//! least.
 
 ghost use Rattle.std.specs.Prelude.{◌≡◌, ◌^◌, ◌+◌, ◌<◌, pos, ◌+ℤ◌, ◌-ℤ◌, ◌≤ℤ◌, ◌<ℤ◌, IsTrue, ◌↔◌, All, EachIndex, MatchOption, length};
 ghost use Rattle.std.specs.Ordering.{MatchOrdering};
@@ -13,19 +14,20 @@ use crate::displacement::{numerator_over, weighted_displacement};
 use crate::position::Position;
 use std::cmp::Ordering;
 
-/// The most that a multiplier may be.
+/// The greatest multiplier that is accepted.
 const MOST_MULTIPLIER: i128 = 1 << 100;
 
-/// The most that the multipliers of one item may be together.
+/// The greatest sum of the multipliers of one item that is accepted.
 const MOST_TOGETHER: i128 = 1 << 126;
 
-/// Whether the solution's multipliers show that its positions meet the bundle with its gap, with the least weighted
-/// sum of squared displacements. Takes no memory, and for each item a pass over all rules.
+/// Whether the solution's multipliers show that its positions meet the bundle with its gap, with
+/// the least weighted sum of squared displacements. Takes no memory, and for each item one pass
+/// over all rules.
 ///
-/// The multipliers are those of Karush, Kuhn and Tucker (Boyd and Vandenberghe, "Convex Optimization", section 5.5).
-/// Says no also where a list has the wrong length, a denominator is 0, the numerator of a position or a multiplier is
-/// above 2^100 in absolute value, the multipliers of one item are together above 2^126, or the gap is not from 0 to the
-/// wanted one.
+/// The multipliers are those of Karush, Kuhn and Tucker (Boyd and Vandenberghe, "Convex
+/// Optimization", section 5.5). Returns false also where a list has the wrong length, a denominator
+/// is 0, the numerator of a position or a multiplier is above 2^100 in absolute value, the sum of
+/// the multipliers of one item is above 2^126, or the gap is not from 0 to the wanted one.
 pub fn verify(bundle: &Bundle, solution: &Solution) -> bool
     requires { IsBundle bundle.now }
     ensures accepted { IsTrue result ↔ IsAccepted bundle.now solution.now }
@@ -53,7 +55,7 @@ pub fn verify(bundle: &Bundle, solution: &Solution) -> bool
     are_at_rest(bundle, solution)
 }
 
-/// Whether each list has the length that the bundle asks for.
+/// Whether each list has the length that the bundle requires.
 fn has_lengths(bundle: &Bundle, solution: &Solution) -> bool
     ensures { IsTrue result ↔ HasLengths bundle.now solution.now }
 {
@@ -65,14 +67,14 @@ fn has_lengths(bundle: &Bundle, solution: &Solution) -> bool
         && solution.high.len() == items
 }
 
-/// Whether none is negative or too large.
+/// Whether no multiplier is negative or too large.
 fn are_multipliers(multipliers: &[i128]) -> bool
     ensures { IsTrue result ↔ All IsMultiplier multipliers.now }
 {
     multipliers.iter().all(|m| 0 <= *m && *m <= MOST_MULTIPLIER)
 }
 
-/// Whether the one is at most the other, and equal to it where the multiplier is not 0.
+/// Whether `least` is at most `most`, and equal to it where the multiplier is not 0.
 fn is_met(least: i128, most: i128, multiplier: i128) -> bool
     ensures { IsTrue result ↔ IsMet least most multiplier }
 {
@@ -93,7 +95,7 @@ fn has_multipliers(solution: &Solution) -> bool
 }
 
 impl Item {
-    /// Whether it may stand at the fraction with these multipliers of its limits.
+    /// Whether the item may be at the fraction with these multipliers of its limits.
     fn keeps_limits(&self, den: u64, place: i128, low: i128, high: i128) -> bool
         requires item { IsItem self.now }
         requires den { 0 < den }
@@ -104,7 +106,8 @@ impl Item {
     }
 }
 
-/// Whether each item stands within its limits, with multipliers only where it stands at one.
+/// Whether each item is within its limits, with a nonzero multiplier only for a limit that it is
+/// at.
 fn keeps_limits(bundle: &Bundle, solution: &Solution) -> bool
     requires bundle { IsBundle bundle.now }
     requires lengths { HasLengths bundle.now solution.now }
@@ -124,7 +127,7 @@ fn keeps_limits(bundle: &Bundle, solution: &Solution) -> bool
 }
 
 impl Solution {
-    /// How far apart the rule's items stand, against what it asks.
+    /// Compares the distance of the rule's items with the distance that the rule asks.
     fn compare_to_rule(&self, rule: &Rule) -> Ordering
         requires { PlacesRule self.now rule.now }
         ensures { let beyond = slack self.now.gap self.now.den.items self.now.pos.items rule.now in
@@ -150,7 +153,7 @@ impl Solution {
     }
 }
 
-/// Whether the positions meet each rule, with multipliers only where they meet it exactly.
+/// Whether the positions meet each rule, with a nonzero multiplier only where they meet it exactly.
 fn keeps_rules(bundle: &Bundle, solution: &Solution) -> bool
     requires bundle { IsBundle bundle.now }
     requires limits { KeepsAllLimits bundle.now solution.now }
@@ -165,7 +168,7 @@ fn keeps_rules(bundle: &Bundle, solution: &Solution) -> bool
     true
 }
 
-/// The multiplier of a rule that has an end at the item; else 0.
+/// The multiplier if the rule's end is the item, and 0 otherwise.
 fn multiplier_at(end: u32, item: usize, multiplier: i128) -> i128
     requires { IsMultiplier multiplier }
     ensures value { result ≡ here end item multiplier }
@@ -174,14 +177,15 @@ fn multiplier_at(end: u32, item: usize, multiplier: i128) -> i128
     if end as usize == item { multiplier } else { 0 }
 }
 
-/// What the multipliers of an item's rules are together: of those in which it is on the right, and on the left.
+/// The sums of the multipliers of an item's rules: of those in which it is on the right, and of
+/// those in which it is on the left.
 #[derive(Drop)]
 struct Push {
     from_left: i128,
     from_right: i128,
 }
 
-/// The push of the item's rules; `None` where it is above the most that an item's multipliers may be.
+/// The push of the item's rules; `None` where it exceeds the greatest sum that is accepted.
 fn push_of(rules: &[Rule], multipliers: &[i128], item: usize) -> Option<Push>
     requires same { length multipliers.now ≡ length rules.now }
     requires multipliers { All IsMultiplier multipliers.now }
@@ -214,7 +218,8 @@ fn multiplier_of(multipliers: &[i128], index: usize) -> i128
     multipliers[index]
 }
 
-/// Whether what pushes an item to the right and to the left balances its displacement, and is not too large together.
+/// Whether the pushes to the right and to the left balance the displacement of an item, and their
+/// sum is not too large.
 fn balances(displacement: i128, rightward: i128, leftward: i128) -> bool
     requires rightward { pos 0 ≤ℤ rightward }
     requires leftward { pos 0 ≤ℤ leftward }
@@ -225,7 +230,8 @@ fn balances(displacement: i128, rightward: i128, leftward: i128) -> bool
     rightward + leftward <= MOST_TOGETHER && displacement == rightward - leftward
 }
 
-/// Whether the multipliers of the item at the index balance its displacement, and are not too large together.
+/// Whether the multipliers of the item at the index balance its displacement, and their sum is not
+/// too large.
 fn is_item_at_rest(bundle: &Bundle, solution: &Solution, item: usize) -> bool
     requires bundle { IsBundle bundle.now }
     requires limits { KeepsAllLimits bundle.now solution.now }
@@ -243,7 +249,7 @@ fn is_item_at_rest(bundle: &Bundle, solution: &Solution, item: usize) -> bool
     }
 }
 
-/// Whether each item's multipliers balance its displacement, and are not too large together.
+/// Whether each item's multipliers balance its displacement, and their sum is not too large.
 fn are_at_rest(bundle: &Bundle, solution: &Solution) -> bool
     requires bundle { IsBundle bundle.now }
     requires limits { KeepsAllLimits bundle.now solution.now }

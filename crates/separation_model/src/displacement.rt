@@ -13,8 +13,8 @@ pub fn numerator_over(coordinate: i64, den: u64) -> i128
     i128::from(coordinate) * i128::from(den)
 }
 
-/// Twice the weighted way from the want to the fraction `num / den`, over its denominator. Both are in thousandths and
-/// on the sheet, and the weight is at most 4.
+/// Twice the weighted displacement from `want` to the fraction `num / den`, over its denominator.
+/// Both are in thousandths and on the sheet, and the weight is at most 4.
 pub fn weighted_displacement(weight: u32, want: i64, num: i128, den: u64) -> i128
     requires weight { weight ≤ 4 }
     requires want { IsCoordinate want }

@@ -11,7 +11,7 @@ use crate::bundle::{Bundle, Rule};
 use crate::latest::{latest_positions, rules_by_left};
 use std::alloc::{AllocError, Global};
 
-/// Whether some positions meet the bundle with the gap. The rules are handed in by their left items.
+/// Whether some positions meet the bundle with the gap. `by_left` is its rules by their left items.
 fn has_room(alloc: Global, bundle: &Bundle, by_left: &[Rule], gap: i64) -> Result<bool, AllocError>
     requires bundle { IsBundle bundle.now }
     requires same { IsPermutation bundle.now.rules.items by_left.now }
@@ -25,7 +25,7 @@ fn has_room(alloc: Global, bundle: &Bundle, by_left: &[Rule], gap: i64) -> Resul
     }
 }
 
-/// A gap between the two, as far from the one as from the other.
+/// The gap halfway between the two, rounded.
 fn halfway(met: i64, unmet: i64) -> i64
     requires low { pos 0 ≤ℤ met }
     requires apart { (met +ℤ pos 1) <ℤ unmet }
@@ -36,10 +36,11 @@ fn halfway(met: i64, unmet: i64) -> i64
     met + (unmet - met) / 2
 }
 
-/// The largest gap, in whole thousandths from 0 to the wanted one, for which some positions meet all rules and limits.
+/// The largest gap, in whole thousandths from 0 to the wanted one, for which some positions meet
+/// all rules and limits.
 ///
-/// By bisection: at most twenty passes over items and rules, and the rules are sorted once. The only error is want of
-/// memory.
+/// By bisection: at most twenty passes over items and rules, and the rules are sorted once. The
+/// only error is out of memory.
 pub fn widest_gap(alloc: Global, bundle: &Bundle) -> Result<i64, AllocError>
     requires { IsBundle bundle.now }
     ensures { IfOk result (IsWidestGap bundle.now) }

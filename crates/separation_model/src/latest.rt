@@ -8,7 +8,7 @@ ghost use Rattle.separation_model.specs.Latest.{HasNoPositions, IsLatest};
 use crate::bundle::{Bundle, Item, Rule};
 use std::alloc::{AllocError, Global};
 
-/// The rules by their left items, in ascending order. The only error is want of memory.
+/// The rules by their left items, in ascending order. The only error is out of memory.
 pub fn rules_by_left(alloc: Global, rules: &[Rule]) -> Result<Vec<Rule>, AllocError>
     ensures same { IfOk result (λ sorted. IsPermutation rules.now sorted.items) }
     ensures sorted { IfOk result (λ sorted. IsNonDecreasingBy (λ rule. rule.left) sorted.items) }
@@ -24,13 +24,14 @@ fn upper_limits(alloc: Global, items: &[Item]) -> Result<Vec<i64>, AllocError>
     items.iter().map(|item| item.hi).collect(alloc)
 }
 
-/// The whole positions that meet the bundle with the gap, each as far right as any that do; `None` where none do.
+/// The whole positions that meet the bundle with the gap, each as far right as in any that do;
+/// `None` if there are none.
 ///
-/// The gap is in thousandths, from 0 to 1,000,000, and the rules are handed in by their left items (`rules_by_left`).
-/// The only error is want of memory.
+/// The gap is in thousandths, from 0 to 1,000,000, and `by_left` is the rules by their left items
+/// (`rules_by_left`). The only error is out of memory.
 ///
-/// Each item begins at its upper limit. Every rule goes forward, so with the rules taken by their left items from the
-/// last one down, an item's place is settled before it limits another.
+/// Each item begins at its upper limit. Every rule goes forward, so with the rules taken by their
+/// left items from the last one down, an item's place is settled before it limits another.
 pub fn latest_positions(
     alloc: Global,
     bundle: &Bundle,

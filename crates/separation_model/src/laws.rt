@@ -1,4 +1,4 @@
-//! The laws of the definitions, as functions with no body: a caller cites one by a call.
+//! The laws of the definitions, as functions with an empty body: a caller cites one by a call.
 
 ghost use Rattle.std.specs.Prelude.{◌≡◌, ◌↔◌, ℕ, ◌<◌, ℤ, ◌*ℤ◌, pos, List, EachIndex, length, replicate, slice_index};
 ghost use Rattle.separation_model.specs.declared.bundle.TheConstants.{MOST_ITEMS};
@@ -10,7 +10,7 @@ ghost use Rattle.separation_model.specs.Least.{IsLeast};
 ghost use Rattle.separation_model.specs.Certified.{IsCertified};
 ghost use Rattle.separation_model.specs.Rounded.{IsRoundedDown, all_rounded_down, rounded_down};
 
-/// Each bundle has one widest gap.
+/// Each bundle has exactly one widest gap.
 pub fn one_widest_gap()
     ensures some { (b : Bundle) → IsBundle b → (gap : ℤ) × IsWidestGap b gap }
     ensures one { (b : Bundle) (gap other : ℤ) →
@@ -23,7 +23,7 @@ pub fn certified_is_least()
         IsLeast b s.gap s.den.items s.pos.items }
 {}
 
-/// Of a bundle and a gap there is at most one list of least fractions.
+/// For a bundle and a gap there is at most one list of least fractions.
 pub fn one_least()
     ensures { (b : Bundle) (gap : ℤ) (den other_den : List ℕ) (nums other : List ℤ) →
         IsBundle b → IsLeast b gap den nums → IsLeast b gap other_den other →
@@ -37,26 +37,28 @@ pub fn least_positions_exist()
         (den : List ℕ) × (nums : List ℤ) × IsLeast b gap den nums }
 {}
 
-/// Positions that meet a bundle stand on the sheet.
+/// Positions that meet a bundle are on the sheet.
 pub fn met_positions_are_on_sheet()
     ensures { (b : Bundle) (gap : ℤ) (s : Solution) → IsBundle b →
         MeetsBundle b gap s.den.items s.pos.items → SolutionIsOnSheet s }
 {}
 
-/// A position has one whole coordinate that is not above it while the next one is.
+/// The rounded-down coordinate of a position is the only whole one that is not above it while the
+/// next one is.
 pub fn rounded_down_is_below()
     ensures { (num whole : ℤ) (den : ℕ) → 0 < den →
         IsRoundedDown num den whole ↔ (whole ≡ rounded_down num den) }
 {}
 
-/// Rounding down keeps whole limits and whole gaps: where positions meet a bundle, so do the coordinates next below.
+/// Rounding down keeps whole limits and whole gaps: where positions meet a bundle, so do the
+/// coordinates next below.
 pub fn rounded_down_meets()
     ensures { (b : Bundle) (gap : ℤ) (den : List ℕ) (nums : List ℤ) → IsBundle b →
         MeetsBundle b gap den nums →
         MeetsBundle b gap (replicate (length b.items.items) 1) (all_rounded_down den nums) }
 {}
 
-/// Equal fractions have one rounding, and so have all least positions of a bundle and a gap.
+/// Equal fractions have the same rounding, and so have all least positions of a bundle and a gap.
 pub fn one_rounded()
     ensures fractions { (num other : ℤ) (den other_den : ℕ) → 0 < den → 0 < other_den →
         (num *ℤ pos other_den) ≡ (other *ℤ pos den) →
@@ -66,7 +68,7 @@ pub fn one_rounded()
         all_rounded_down den nums ≡ all_rounded_down other_den other }
 {}
 
-/// `MOST_ITEMS` is the number that bundles are bounded by.
+/// `MOST_ITEMS` is the number by which bundles are bounded.
 pub fn most_items_is_the_bound()
     ensures { MOST_ITEMS ≡ most_items }
 {}

@@ -1,7 +1,8 @@
-//! What separation constraints on one axis are, and their laws: bundles, the widest gap, least positions, and
-//! multipliers that show positions to be least.
+//! Separation constraints on one axis, and their laws: bundles, the widest gap, least positions,
+//! and multipliers that show positions to be least.
 //!
-//! Positions are exact fractions of a thousandth of a GML unit. `separation_solve` finds the least ones.
+//! Positions are exact fractions of a thousandth of a GML unit. `separation_solve` finds the least
+//! ones.
 #![tactic(auto)]
 
 mod bundle;

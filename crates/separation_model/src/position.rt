@@ -1,4 +1,4 @@
-//! One position on the sheet: how far it is from another, and its whole coordinate.
+//! A position on the sheet: its distance from another, and its whole coordinate.
 
 ghost use Rattle.std.specs.Prelude.{◌≡◌, ◌≤◌, pos, ◌≤ℤ◌, ◌<ℤ◌};
 ghost use Rattle.std.specs.Ordering.{MatchOrdering};
@@ -8,7 +8,7 @@ ghost use Rattle.plane_geom.specs.Point.{IsCoordinate};
 
 use std::cmp::Ordering;
 
-/// Half the breadth of the sheet, in thousandths.
+/// Half the width of the sheet, in thousandths.
 const SHEET_HALF: i128 = 2_000_000_000;
 
 /// A position on the sheet, at `pos / den` thousandths.
@@ -19,7 +19,7 @@ pub struct Position {
 }
 
 impl Position {
-    /// The whole thousandths from the sheet's start, and what is left over, as a numerator.
+    /// The whole thousandths from the sheet's start, and the remainder, as a numerator.
     fn split(self) -> (u128, u128)
         requires { FractionIsOnSheet self.den self.pos }
         ensures split { IsSplit self.pos self.den result.0 result.1 }
@@ -30,9 +30,10 @@ impl Position {
         (from_start / den, from_start % den)
     }
 
-    /// How far the other place stands to the right of this one, against the whole gap that is asked for.
+    /// Compares the distance from this position to the other one, on its right, with the whole gap
+    /// that is asked.
     ///
-    /// The cross products may not fit, so whole parts are compared first, and then the rests.
+    /// The cross products may not fit, so whole parts are compared first, and then the remainders.
     pub fn compare_gap(self, other: Position, asked: i64) -> Ordering
         requires place { FractionIsOnSheet self.den self.pos }
         requires other { FractionIsOnSheet other.den other.pos }
@@ -52,7 +53,7 @@ impl Position {
     }
 }
 
-/// The whole thousandths at or next below the fraction.
+/// The fraction rounded down to whole thousandths.
 pub fn rounded_down(num: i128, den: u64) -> i64
     requires { FractionIsOnSheet den num }
     ensures value { result ≡ rounded_down num den }

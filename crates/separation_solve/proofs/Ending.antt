@@ -131,7 +131,7 @@ parts_sum b gap n s ends i end =
 own_number : (i : ℕ) → 0 + i ≡ i
 own_number i = omega arith
 
--- the flow that comes in at an item
+-- the flow into an item
 comes_in : (b : Bundle) (gap : ℤ) (n : Network) (s : Solution) (i : ℕ) → IsEnding b gap n s → i < item_count b →
     sum_at (λ l. l.to) i n.links.items n.flow.items ≡ from_left i b.rules.items s.mult.items +ℤ int_at s.low.items i
 comes_in b gap n s i end h =
@@ -371,6 +371,6 @@ read_accepted b gap n s bundle is_gap sound balanced upright of same read =
       highs = omega (arith, ap length read.high, length-drop (item_count b) read.rest, rest_long);
     })
 
--- what is balanced is so on either side
+-- what is balanced is balanced on either side
 pub balanced-negated : (old new : List ℤ) → new ≡ map neg_ℤ old → All (λ z. z ≡ pos 0) old → All (λ z. z ≡ pos 0) new
 balanced-negated old new e none = subst (All (λ z. z ≡ pos 0)) (sym e) (All-map (λ z. z ≡ pos 0) neg_ℤ old (All-weaker (λ z. z ≡ pos 0) (λ z. neg_ℤ z ≡ pos 0) (λ z q. ap neg_ℤ q) old none))

@@ -1,4 +1,4 @@
--- The proofs, in the order of docs/PROOFS.md, behind those of the laws, which are passed on.
+-- The proofs, in the order of docs/PROOFS.md, after those of the laws, which are re-exported.
 pub use Rattle.separation_model.proofs.Optimum
 pub use Rattle.separation_model.proofs.Gaps
 pub use Rattle.separation_model.proofs.Rounding

@@ -1,4 +1,4 @@
--- Blocks: the nodes that were reached, as they move together.
+-- Blocks: the nodes that were reached, which move together.
 use Rattle.std.specs.Prelude.{◌≡◌, ℕ, zero, suc, ◌*◌, ◌/◌, ◌<◌, ◌≤◌, Bool, true, false, ℤ, pos, ◌+ℤ◌, ◌-ℤ◌, ◌*ℤ◌, ◌<ℤ◌, List, length, is_some, unwrap_or, Option, Some, option_map, slice_index, if◌then◌else◌}
 use Rattle.separation_solve.specs.declared.fraction.Fraction.{Fraction}
 use Rattle.separation_solve.specs.declared.network.Link.{Link}
@@ -16,7 +16,7 @@ use Rattle.separation_solve.specs.Reach.{found_at, step_at}
 abbrev pub IsFound : Reach → Type 0
 IsFound r = (i k : ℕ) → found_at r.found.items i ≡ Some k → k < length r.steps.items
 
--- how far from the start the node was reached, if it was
+-- the distance from the start to the node, if it was reached
 abbrev pub offset_of : Reach → ℕ → Option ℤ
 offset_of r node = option_map (λ step. (step_at r.steps.items step).offset) (found_at r.found.items node)
 
@@ -28,19 +28,19 @@ is_member r node = is_some (offset_of r node)
 abbrev pub member_offset : Reach → ℕ → ℤ
 member_offset r node = unwrap_or (offset_of r node) (pos 0)
 
--- the item's weight if it is a member, else 0
+-- the item's weight if it is a member, otherwise 0
 abbrev pub member_weight : Network → Reach → ℕ → ℤ
 member_weight n r i = if is_member r i then pos (slice_index n.weights.items i) else pos 0
 
--- how far right of its want the item would stand if the start stood at 0
+-- how far right of its want the item is when the start is at 0
 abbrev pub ahead_of_want : Network → Reach → ℕ → ℤ
 ahead_of_want n r i = member_offset r i -ℤ int_at n.wants.items i
 
--- the weight of the members among the first items
+-- the sum of the weights of the members among the first items
 abbrev pub block_weight : Network → Reach → ℕ → ℤ
 block_weight n r items = sum_below items (member_weight n r)
 
--- by how much they are, with their weights, right of their wants if the start stands at 0
+-- how far right of their wants they are together, weighted, when the start is at 0
 abbrev pub block_moment : Network → Reach → ℕ → ℤ
 block_moment n r items = sum_below items (λ i. member_weight n r i *ℤ ahead_of_want n r i)
 
@@ -55,7 +55,7 @@ pub record IsAim (n : Network) (start : ℕ) (place : Fraction) : Type 0 where
 abbrev pub LeadsOut : Reach → Link → Type 0
 LeadsOut r link = (is_member r link.from ≡ true) × (is_member r link.to ≡ false)
 
--- where the start would stand if the link were tight
+-- the place of the start at which the link is tight
 abbrev pub contact_of : Network → Reach → Link → Fraction
 contact_of n r link =
     let to = place_at n.places.items link.to in
@@ -71,14 +71,14 @@ pub record IsContact (n : Network) (start : ℕ) (r : Reach) (link : Link) (plac
   pub is : place ≡ contact_of n r link
   pub aim : IsAim n start place
 
--- the members among the first items stand as far from the place as they do from the start, and all others where they stood
+-- the members among the first items are as far from the place as they are from the start, and all others are where they were
 pub record PlacesBlock (old : List Fraction) (items : ℕ) (r : Reach) (place : Fraction) (new : List Fraction) : Type 0 where
   pub count : length new ≡ length old
   pub members : (i : ℕ) → i < items → is_member r i ≡ true → place_at new i ≡ record { num = place.num +ℤ (member_offset r i *ℤ pos place.den); den = place.den }
   pub others : (i : ℕ) → i < items → is_member r i ≡ false → place_at new i ≡ place_at old i
   pub beyond : (i : ℕ) → items ≤ i → place_at new i ≡ place_at old i
 
--- nothing but places has changed
+-- only places have changed
 pub record ChangesPlaces (old new : Network) : Type 0 where
   pub links : new.links ≡ old.links
   pub tight : new.tight ≡ old.tight

@@ -3,7 +3,7 @@ use Rattle.std.specs.Prelude.{ℕ, ◌≤◌, ℤ, pos, ◌*ℤ◌, ◌≤ℤ◌
 use Rattle.separation_solve.specs.declared.fraction.Fraction.{Fraction}
 use Rattle.separation_solve.specs.Reduced.{IsWithin}
 
--- the most that the weights of a bundle are together
+-- the greatest sum of the weights of a bundle
 abbrev pub most_weight : ℕ
 most_weight = 3400000000
 

@@ -1,4 +1,4 @@
--- What a bundle, a gap, least positions and a certificate are (from below), and the definitions of the solver's parts.
+-- Bundles, gaps, least positions and certificates (re-exported from below), and the definitions of the solver's parts.
 pub use Rattle.separation_model.specs.Sum
 pub use Rattle.separation_model.specs.Apart
 pub use Rattle.separation_model.specs.Bundle

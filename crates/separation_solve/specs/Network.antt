@@ -13,7 +13,7 @@ use Rattle.separation_model.specs.Bundle.{asked, int_at, most_items}
 use Rattle.separation_solve.specs.Reduced.{IsReduced, IsWithin}
 use Rattle.separation_solve.specs.Fraction.{most_weight}
 
--- what is read past the last place: 0
+-- the value that is read past the last place: 0
 abbrev pub no_place : Fraction
 no_place = record { num = pos 0; den = 1 }
 
@@ -21,7 +21,7 @@ no_place = record { num = pos 0; den = 1 }
 abbrev pub place_at : List Fraction → ℕ → Fraction
 place_at places i = slice_index_or places i no_place
 
--- what is read past the last link: one of the first node with itself
+-- the value that is read past the last link: a link of the first node with itself
 abbrev pub no_link : Link
 no_link = record { from = 0; to = 0; gap = pos 0 }
 
@@ -33,19 +33,19 @@ link_at links j = slice_index_or links j no_link
 abbrev pub items_of : Network → ℕ
 items_of n = length n.wants.items
 
--- the nodes stand at least the gap apart
+-- the distance of the nodes is at least the gap
 abbrev pub IsKept : List Fraction → Link → Type 0
 IsKept places link =
     let a = place_at places link.from in
     let b = place_at places link.to in
     (link.gap *ℤ pos a.den *ℤ pos b.den) ≤ℤ ((b.num *ℤ pos a.den) -ℤ (a.num *ℤ pos b.den))
 
--- the nodes stand exactly the gap apart, over one denominator
+-- the distance of the nodes is exactly the gap, over one denominator
 pub record IsTight (places : List Fraction) (link : Link) : Type 0 where
   pub den : (place_at places link.from).den ≡ (place_at places link.to).den
   pub apart : (place_at places link.to).num -ℤ (place_at places link.from).num ≡ link.gap *ℤ pos (place_at places link.from).den
 
--- the flow that comes in at the node, less the flow that goes out
+-- the flow into the node, less the flow out of it
 abbrev pub net_flow : List Link → List ℤ → ℕ → ℤ
 net_flow links flow i = sum_at (λ l. l.to) i links flow -ℤ sum_at (λ l. l.from) i links flow
 
@@ -63,18 +63,18 @@ total_size zs = sum_below (length zs) (λ i. pos (unsigned_abs (int_at zs i)))
 abbrev pub total_flow : List ℤ → ℤ
 total_flow zs = sum_below (length zs) (int_at zs)
 
--- the most that the forces of all items are together
+-- the greatest sum of the forces of all items
 abbrev pub most_force : ℕ
 most_force = 92480000000000000000000000000
 
--- two different nodes of so many, and a gap that is a coordinate
+-- two different nodes below `nodes`, and a gap that is a coordinate
 pub record IsLink (nodes : ℕ) (link : Link) : Type 0 where
   pub from : link.from < nodes
   pub to : link.to < nodes
   pub apart : link.from ≢ link.to
   pub gap : IsCoordinate link.gap
 
--- the index stands in the lists of both nodes of its link
+-- the index is in the lists of both nodes of its link
 pub record IsListed (links : List Link) (lists : List (Vec ℕ Global)) (j : ℕ) : Type 0 where
   pub at_from : (d : Vec ℕ Global) → Contains (slice_index_or lists (link_at links j).from d).items j
   pub at_to : (d : Vec ℕ Global) → Contains (slice_index_or lists (link_at links j).to d).items j
@@ -84,7 +84,7 @@ pub record IsTightAt (places : List Fraction) (links : List Link) (j : ℕ) : Ty
   pub link : j < length links
   pub tight : IsTight places (link_at links j)
 
--- the tight links stand in the lists of both their nodes, and no others stand there
+-- the tight links are in the lists of both their nodes, and no others are
 pub record ListsTight (places : List Fraction) (links : List Link) (lists : List (Vec ℕ Global)) : Type 0 where
   pub listed : (j : ℕ) → IsTightAt places links j → IsListed links lists j
   pub no_others : All (λ (v : Vec ℕ Global). All (IsTightAt places links) v.items) lists
@@ -127,7 +127,7 @@ pub record AreKept (n : Network) : Type 0 where
   pub wall_den : (place_at n.places.items (items_of n)).den ≡ 1
   pub kept : EachIndex n.links.items (λ j. IsKept n.places.items (link_at n.links.items j))
 
--- a flow over tight links, what it leaves to each item, and that it is not too large
+-- a flow over tight links, the excess that it leaves to each item, and that it is not too large
 pub record IsFlow (n : Network) : Type 0 where
   pub sign : EachIndex n.flow.items (λ j. pos 0 ≤ℤ int_at n.flow.items j)
   pub tight : EachIndex n.flow.items (λ j. int_at n.flow.items j ≢ pos 0 → IsTight n.places.items (link_at n.links.items j))
@@ -136,34 +136,34 @@ pub record IsFlow (n : Network) : Type 0 where
   pub small_each : EachIndex n.flow.items (λ j. (int_at n.flow.items j +ℤ total_size n.excess.items) ≤ℤ pos most_force)
   pub small_all : (total_flow n.flow.items +ℤ (pos (items_of n) *ℤ total_size n.excess.items)) ≤ℤ (pos (items_of n) *ℤ pos most_force)
 
--- the network is as the calls on it leave it
+-- the invariant of a network between calls
 pub record IsSound (n : Network) : Type 0 where
   pub frame : IsFrame n
   pub kept : AreKept n
   pub tight : ListsTight n.places.items n.links.items n.tight.items
   pub flow : IsFlow n
 
--- the link as it is when left and right change sides
+-- the link after left and right are exchanged
 abbrev pub turned_link : Link → Link
 turned_link link = record { from = link.to; to = link.from; gap = link.gap }
 
--- the place as it is then
+-- the place after left and right are exchanged
 abbrev pub turned_place : Fraction → Fraction
 turned_place place = record { num = neg_ℤ place.num; den = place.den }
 
--- the links with left and right on their own sides
+-- the links, with left and right as in the bundle
 abbrev pub upright_links : Network → List Link
 upright_links n = if n.mirrored then map turned_link n.links.items else n.links.items
 
--- the wants with left and right on their own sides
+-- the wants, with left and right as in the bundle
 abbrev pub upright_wants : Network → List ℤ
 upright_wants n = if n.mirrored then map neg_ℤ n.wants.items else n.wants.items
 
--- the places with left and right on their own sides
+-- the places, with left and right as in the bundle
 abbrev pub upright_places : Network → List Fraction
 upright_places n = if n.mirrored then map turned_place n.places.items else n.places.items
 
--- nothing of the bundle has changed, nor which side is left
+-- the bundle's data have not changed, nor which side is left
 pub record KeepsBundle (old new : Network) : Type 0 where
   pub links : new.links ≡ old.links
   pub wants : new.wants ≡ old.wants
@@ -180,12 +180,12 @@ pub record IsSameBundle (old new : Network) : Type 0 where
 abbrev pub rule_link : ℤ → Rule → Link
 rule_link gap rule = record { from = rule.left; to = rule.right; gap = asked gap rule }
 
--- the lower limits of items that stand from the index on
+-- the lower limits of the items from the index on, as links
 abbrev pub lower_links : ℕ → ℕ → List Item → List Link
 lower_links wall i [] = []
 lower_links wall i (item ∷ items) = record { from = wall; to = i; gap = item.lo } ∷ lower_links wall (i + 1) items
 
--- their upper limits
+-- the upper limits of the items from the index on, as links
 abbrev pub upper_links : ℕ → ℕ → List Item → List Link
 upper_links wall i [] = []
 upper_links wall i (item ∷ items) = record { from = i; to = wall; gap = neg_ℤ item.hi } ∷ upper_links wall (i + 1) items

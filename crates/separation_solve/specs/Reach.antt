@@ -7,7 +7,7 @@ use Rattle.separation_solve.specs.declared.reach.Reach.{Reach}
 use Rattle.separation_model.specs.Bundle.{int_at}
 use Rattle.separation_solve.specs.Network.{IsTight, items_of, link_at, place_at}
 
--- what is read past the last step: one at the first node
+-- the value that is read past the last step: a step at the first node
 abbrev pub no_step : Step
 no_step = record { node = 0; via = None; offset = pos 0; capacity = pos 0 }
 
@@ -19,26 +19,26 @@ step_at steps k = slice_index_or steps k no_step
 abbrev pub found_at : List (Option ℕ) → ℕ → Option ℕ
 found_at found i = slice_index_or found i None
 
--- flow can go from the one node to the other over the link
+-- flow can go from the first node to the second over the link
 abbrev pub IsLead : Network → ℕ → ℕ → ℕ → Type 0
 IsLead n j a b =
     let link = link_at n.links.items j in
     ((link.from ≡ a) × (link.to ≡ b) × IsTight n.places.items link)
     ⊎ ((link.to ≡ a) × (link.from ≡ b) × (pos 0 <ℤ int_at n.flow.items j))
 
--- flow can go on over the link from the one step to the other, and no more comes there than comes back over it
+-- flow can go over the link from the first step to the next: at most the first step's capacity, and against the link at most its flow
 pub record IsAfter (n : Network) (j : ℕ) (step next : Step) : Type 0 where
   pub link : j < length n.links.items
   pub lead : IsLead n j step.node next.node
   pub less : next.capacity ≤ℤ step.capacity
   pub back : (link_at n.links.items j).from ≡ next.node → next.capacity ≤ℤ int_at n.flow.items j
 
--- the second place is so far to the right of the first one, over its denominator
+-- the second place is at this offset to the right of the first one, over its denominator
 pub record StandsAt (offset : ℤ) (first second : Fraction) : Type 0 where
   pub num : second.num ≡ first.num +ℤ (offset *ℤ pos first.den)
   pub den : second.den ≡ first.den
 
--- a step stands where it says, and flow can go there
+-- a step is at its offset, and flow can go there
 pub record IsStep (n : Network) (start : ℕ) (step : Step) : Type 0 where
   pub node : step.node ≤ items_of n
   pub stands : StandsAt step.offset (place_at n.places.items start) (place_at n.places.items step.node)
@@ -47,16 +47,16 @@ pub record IsStep (n : Network) (start : ℕ) (step : Step) : Type 0 where
   pub some : pos 0 <ℤ step.capacity
   pub most : step.capacity ≤ℤ neg_ℤ (int_at n.excess.items start)
 
--- how the step at the index was come by
+-- how the step at the index was reached
 abbrev pub IsComeBy : Network → List Step → ℕ → Type 0
 IsComeBy n steps k = MatchOption (step_at steps k).via (k ≡ 0)
     (λ via. (via.parent < k) × IsAfter n via.link (step_at steps via.parent) (step_at steps k))
 
--- 1 for a node that was not reached
+-- 1 for a node that was not reached, otherwise 0
 abbrev pub not_found : Option ℕ → ℕ
 not_found found = if is_none found then 1 else 0
 
--- steps to which flow can go from the start, an item that wants to go right, each node once
+-- steps to which flow can go from the start, an item that is pulled to the right, each node once
 pub record IsReach (n : Network) (start : ℕ) (r : Reach) : Type 0 where
   pub nodes : length r.found.items ≡ items_of n + 1
   pub start_item : start < items_of n
@@ -69,7 +69,7 @@ pub record IsReach (n : Network) (start : ℕ) (r : Reach) : Type 0 where
   pub found : (i k : ℕ) → found_at r.found.items i ≡ Some k → (k < length r.steps.items) × ((step_at r.steps.items k).node ≡ i)
   pub count : length r.steps.items + sum_by not_found r.found.items ≡ length r.found.items
 
--- the step that the table gives a node, if any, is one of the steps and stands at the node
+-- the step that the table gives a node, if any, is one of the steps and is at the node
 pub record IsTable (count : ℕ) (r : Reach) : Type 0 where
   pub nodes : length r.found.items ≡ count
   pub steps : EachIndex r.steps.items (λ k. (step_at r.steps.items k).node < count)
@@ -79,18 +79,18 @@ pub record IsTable (count : ℕ) (r : Reach) : Type 0 where
 abbrev pub start_of : Reach → ℕ
 start_of r = (step_at r.steps.items 0).node
 
--- a step that comes after one of those there are
+-- a step that follows one of those already there
 pub record IsFollowing (n : Network) (r : Reach) (step : Step) : Type 0 where
   pub is_step : IsStep n (start_of r) step
   pub come_by : MatchOption step.via ⊥ (λ via. (via.parent < length r.steps.items) × IsAfter n via.link (step_at r.steps.items via.parent) step)
 
--- a step over the link is as good as the one before it
+-- a step over the link satisfies the invariant of steps, if the one before it does
 pub record IsLedTo (n : Network) (j parent : ℕ) (step next : Step) : Type 0 where
   pub via : next.via ≡ Some (record { parent = parent; link = j })
   pub after : IsAfter n j step next
   pub is_step : (start : ℕ) → IsStep n start step → IsStep n start next
 
--- the earlier steps stand, and so do the nodes that they found
+-- the earlier steps stay, and so do the nodes that they found
 pub record KeepsSteps (old new : Reach) : Type 0 where
   pub fewer : length old.steps.items ≤ length new.steps.items
   pub steps : EachIndex old.steps.items (λ k. step_at new.steps.items k ≡ step_at old.steps.items k)
@@ -108,7 +108,7 @@ IsNoLead n j a = (b : ℕ) → ¬ IsLead n j a b
 abbrev pub TakesFlow : Network → ℕ → Type 0
 TakesFlow n i = (i ≡ items_of n) ⊎ (pos 0 <ℤ int_at n.excess.items i)
 
--- nodes that are free to move to the right, and want to
+-- nodes that are free to move to the right, and are pulled there
 pub record IsBlock (n : Network) (start : ℕ) (r : Reach) : Type 0 where
   pub reach : IsReach n start r
   pub closed : (j a b k : ℕ) → j < length n.links.items → IsLead n j a b → found_at r.found.items a ≡ Some k → IsSome (found_at r.found.items b)

@@ -18,7 +18,7 @@ pub record IsReduced (num : ℤ) (den : ℕ) : Type 0 where
   pub den_times : ℤ
   pub one : (num_times *ℤ num) +ℤ (den_times *ℤ pos den) ≡ pos 1
 
--- the fraction is at most so far from 0
+-- the absolute value of the fraction is at most this
 pub record IsWithin (bound : ℕ) (num : ℤ) (den : ℕ) : Type 0 where
   pub low : (neg_ℤ (pos bound) *ℤ pos den) ≤ℤ num
   pub high : num ≤ℤ (pos bound *ℤ pos den)

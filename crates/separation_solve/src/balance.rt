@@ -1,4 +1,4 @@
-//! Flow is pushed until each item is balanced, or a block is found that is free to move.
+//! Pushes flow until each item is balanced, or a block is found that is free to move.
 
 ghost use Rattle.std.specs.Prelude.{◌≡◌, ◌<◌, pos, ◌≤ℤ◌, ◌<ℤ◌, IfOk, All, MatchOption, length};
 ghost use Rattle.separation_model.specs.Bundle.{int_at};
@@ -11,7 +11,8 @@ impl Network {
     ghost use Rattle.separation_solve.specs.Network.{IsSameBundle, IsSound, items_of, upright_places, total_size};
     ghost use Rattle.separation_solve.specs.Reach.{IsBlock, start_of};
 
-    /// Pushes flow until each item is balanced, or a block is found that wants to go right and is free to.
+    /// Pushes flow until each item is balanced, or until it finds a block that is pulled to the
+    /// right and free to move there.
     pub fn balance(&mut self, alloc: Global) -> Result<Option<Reach>, AllocError>
         requires { IsSound self.old }
         ensures sound { IsSound self.new }
@@ -31,7 +32,7 @@ impl Network {
         Ok(None)
     }
 
-    /// An item that wants to go right, after the sides are changed if need be.
+    /// An item that is pulled to the right, after left and right are exchanged if necessary.
     fn next_start(&mut self) -> Option<usize>
         requires { IsSound self.old }
         ensures sound { IsSound self.new }
@@ -49,7 +50,8 @@ impl Network {
         self.first_deficit()
     }
 
-    /// The first item with a deficit, which wants to go right, in the order in which rules go forward.
+    /// The first item with a deficit, which is pulled to the right, in the order in which rules go
+    /// forward.
     fn first_deficit(&self) -> Option<usize>
         ensures { MatchOption result (All (λ z. pos 0 ≤ℤ z) self.now.excess.items)
             (λ start. (start < length self.now.excess.items)

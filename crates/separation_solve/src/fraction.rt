@@ -10,7 +10,7 @@ pub struct Fraction {
     pub den: u64,
 }
 
-/// The greatest common divisor, by Euclid.
+/// The greatest common divisor, by Euclid's algorithm.
 fn greatest_common_divisor(a: u64, b: u64) -> u64
     ensures { IsGreatestDivisor a b result }
 {
@@ -62,7 +62,7 @@ impl Fraction {
         }
     }
 
-    /// The fraction so much greater.
+    /// The fraction plus `by`.
     pub fn moved(self, by: i64) -> Fraction
         requires { IsLight self }
         ensures num { result.num ≡ self.num +ℤ (by *ℤ pos self.den) }

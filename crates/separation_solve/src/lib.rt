@@ -1,7 +1,9 @@
-//! The least positions of a bundle of separation constraints, with multipliers that show them to be least.
+//! The least positions of a bundle of separation constraints, with multipliers that show them to be
+//! least.
 //!
-//! What bundles and solutions are, the widest gap, the check of a solution and the laws are those of
-//! `separation_model`, and are passed on. Positions are exact fractions of a thousandth of a GML unit.
+//! Bundles, solutions, the widest gap, the check of a solution and the laws are those of
+//! `separation_model`, which are re-exported. Positions are exact fractions of a thousandth of a
+//! GML unit.
 #![tactic(auto)]
 
 mod balance;

@@ -1,4 +1,4 @@
-//! The mirror image of a network, in which left and right have changed sides.
+//! The mirror image of a network, in which left and right are exchanged.
 
 ghost use Rattle.std.specs.Prelude.{◌≡◌, ◌≤◌, map, neg_ℤ, not, All, unsigned_abs};
 ghost use Rattle.plane_geom.specs.Point.{IsCoordinate};
@@ -7,7 +7,7 @@ ghost use Rattle.separation_solve.specs.Network.{IsSameBundle, IsSound, IsSpot, 
 use crate::fraction::Fraction;
 use crate::network::{Link, Network};
 
-/// Lets each link's nodes change places.
+/// Exchanges the nodes of each link.
 fn turn_links(links: &mut [Link])
     ensures { links.new ≡ map turned_link links.old }
 {
@@ -53,7 +53,7 @@ fn turn_excess(excess: &mut [i128])
 }
 
 impl Network {
-    /// Lets left and right change sides.
+    /// Exchanges left and right.
     pub fn mirror(&mut self)
         requires { IsSound self.old }
         ensures sound { IsSound self.new }

@@ -1,4 +1,4 @@
-//! The network of a bundle: its links, where its nodes stand, and the flow along the links.
+//! The network of a bundle: its links, the places of its nodes, and the flow along the links.
 
 ghost use Rattle.std.specs.Prelude.{◌≡◌, IfOk, length, map, All, OnOk, ◌++◌};
 ghost use Rattle.separation_model.specs.Bundle.{IsBundle, IsItem};
@@ -10,7 +10,7 @@ use crate::start::start_places;
 use separation_model::{Bundle, Item, Rule};
 use std::alloc::{AllocError, Global};
 
-/// The node `to` stands at least the gap to the right of the node `from`.
+/// The node `to` is at least the gap to the right of the node `from`.
 #[derive(Clone, Copy)]
 pub struct Link {
     pub from: usize,
@@ -20,8 +20,8 @@ pub struct Link {
 
 /// Places of a bundle's items for a gap, and the multipliers of its rules and limits as a flow.
 ///
-/// The nodes are the items and, last, the wall, which stands at 0. The links are the rules, then each item's
-/// lower limit, from the wall, and then each item's upper limit, to the wall.
+/// The nodes are the items and, last, the wall, which is at 0. The links are the rules, then each
+/// item's lower limit, from the wall, and then each item's upper limit, to the wall.
 #[derive(Drop)]
 pub struct Network {
     pub links: Vec<Link>,
@@ -29,12 +29,13 @@ pub struct Network {
     pub tight: Vec<Vec<usize>>,
     pub wants: Vec<i64>,
     pub weights: Vec<u32>,
-    /// Whether left and right have changed sides.
+    /// Whether left and right are exchanged.
     pub mirrored: bool,
     pub places: Vec<Fraction>,
     /// Each link's multiplier.
     pub flow: Vec<i128>,
-    /// By how much twice each item's weighted displacement, over its denominator, is more than the flow pushes it by.
+    /// By how much twice each item's weighted displacement, over its denominator, exceeds the push
+    /// of the flow.
     pub excess: Vec<i128>,
 }
 

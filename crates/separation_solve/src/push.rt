@@ -1,4 +1,4 @@
-//! Flow that is sent along a way which a search has found.
+//! Sends flow along a way that a search has found.
 
 ghost use Rattle.std.specs.Prelude.{◌≡◌, ◌<◌, pos, ◌<ℤ◌, ◌≤ℤ◌, length};
 ghost use Rattle.separation_solve.specs.Reach.{IsReach, IsWay, start_of, step_at};
@@ -10,7 +10,7 @@ impl Network {
     ghost use Rattle.separation_solve.specs.Network.{IsSound, KeepsBundle, total_size};
     ghost use Rattle.separation_solve.specs.Push.{IsSent, KeepsRest, TakesAmount};
 
-    /// Sends as much flow as can go from the start to the step's node, which takes it.
+    /// Sends the greatest possible flow from the start to the step's node, which takes it.
     pub fn push(&mut self, reach: &Reach, target: usize)
         requires sound { IsSound self.old }
         requires way { IsWay self.old (start_of reach.now) reach.now target }
@@ -29,7 +29,7 @@ impl Network {
         }
     }
 
-    /// How much flow can go from the start to the step's node, and stay there.
+    /// The greatest flow that can go from the start to the step's node, and stay there.
     fn sendable(&self, reach: &Reach, target: usize) -> i128
         requires sound { IsSound self.now }
         requires way { IsWay self.now (start_of reach.now) reach.now target }

@@ -8,7 +8,7 @@ ghost use Rattle.separation_solve.specs.Reach.{AddsLeads, IsFollowing, IsLedTo, 
 use crate::network::Network;
 use std::alloc::{AllocError, Global};
 
-/// How a step was come by: over a link, from an earlier step.
+/// How a step was reached: over a link, from an earlier step.
 #[derive(Clone, Copy)]
 pub struct Via {
     pub parent: usize,
@@ -21,13 +21,14 @@ pub struct Step {
     pub node: usize,
     /// None at the start.
     pub via: Option<Via>,
-    /// How far to the right of the start it stands.
+    /// How far it is to the right of the start.
     pub offset: i64,
-    /// How much flow can go there from the start.
+    /// The greatest flow that can go there from the start.
     pub capacity: i128,
 }
 
-/// Nodes to which flow can go from the first one: forward over a tight link, or back over a link with flow.
+/// Nodes to which flow can go from the first one: forward over a tight link, or back over a link
+/// with flow.
 #[derive(Drop)]
 pub struct Reach {
     pub steps: Vec<Step>,
@@ -38,7 +39,7 @@ pub struct Reach {
 impl Reach {
     ghost use Rattle.separation_solve.specs.declared.network.Network.{Network};
 
-    /// No steps yet, for so many nodes.
+    /// No steps yet, for the given number of nodes.
     pub fn new(alloc: Global, nodes: usize) -> Result<Reach, AllocError>
         ensures { IfOk result (IsTable nodes) }
     {
@@ -48,8 +49,9 @@ impl Reach {
         })
     }
 
-    /// Looks, breadth first, for a node that takes flow from the start, and answers the index of its step. Where no
-    /// node that can be reached takes any, the answer is none, and the steps are a block.
+    /// Looks, breadth first, for a node that takes flow from the start, and returns the index of
+    /// its step. If no node that can be reached takes any, it returns `None`, and the steps are a
+    /// block.
     pub fn search(&mut self, network: &Network, start: usize) -> Result<Option<usize>, AllocError>
         requires sound { IsSound network.now }
         requires item { start < items_of network.now }
@@ -71,7 +73,7 @@ impl Reach {
         Ok(None)
     }
 
-    /// Takes all earlier steps away, and begins at the start.
+    /// Removes all earlier steps, and begins at the start.
     fn begin(&mut self, network: &Network, start: usize) -> Result<(), AllocError>
         requires sound { IsSound network.now }
         requires item { start < items_of network.now }
@@ -90,7 +92,7 @@ impl Reach {
         Ok(())
     }
 
-    /// Takes all steps away, in the time that it took to add them.
+    /// Removes all steps, in the time that it took to add them.
     fn clear(&mut self)
         requires { IsTable (length self.old.found.items) self.old }
         ensures steps { self.new.steps.items ≡ [] }
@@ -103,7 +105,7 @@ impl Reach {
         self.steps.clear();
     }
 
-    /// Adds the nodes to which flow can go from the step's.
+    /// Adds the nodes to which flow can go from the step's node.
     fn extend(&mut self, network: &Network, parent: usize) -> Result<(), AllocError>
         requires sound { IsSound network.now }
         requires reach { IsReach network.now (start_of self.old) self.old }
@@ -149,7 +151,8 @@ impl Network {
         node == self.wall() || self.excess[node] > 0
     }
 
-    /// The step over the tight link, from the step at the index `parent`, if flow can go that way.
+    /// The step over the tight link from `step`, which is at the index `parent`, if flow can go
+    /// that way.
     fn lead(&self, index: usize, parent: usize, step: Step) -> Option<Step>
         requires sound { IsSound self.now }
         requires link { IsTightAt self.now.places.items self.now.links.items index }

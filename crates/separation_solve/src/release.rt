@@ -1,4 +1,4 @@
-//! All flow taken away, and the excess that each item then has.
+//! Removes all flow, and sets the excess that each item then has.
 
 ghost use Rattle.std.specs.Prelude.{◌≡◌, ◌<◌, length};
 ghost use Rattle.separation_solve.specs.Network.{AreKept, IsFrame, IsSound, KeepsBundle, ListsTight, force};
@@ -7,7 +7,7 @@ use crate::network::Network;
 use separation_model::weighted_displacement;
 
 impl Network {
-    /// Takes all flow away.
+    /// Removes all flow.
     pub fn release(&mut self)
         requires frame { IsFrame self.old }
         requires kept { AreKept self.old }

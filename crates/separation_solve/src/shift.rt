@@ -12,7 +12,7 @@ use crate::network::Network;
 use crate::reach::Reach;
 use std::alloc::AllocError;
 
-/// The way from the offset to the want, so many times as the weight says.
+/// The distance from the offset to the want, times the weight.
 fn moment_of(weight: u32, want: i64, offset: i64) -> i128
     requires weight { weight ≤ 4 }
     requires want { IsCoordinate want }
@@ -24,7 +24,7 @@ fn moment_of(weight: u32, want: i64, offset: i64) -> i128
 }
 
 impl Reach {
-    /// How far to the right of the start the node was reached, if it was.
+    /// The distance to the right of the start at which the node was reached, if it was.
     fn offset(&self, node: usize) -> Option<i64>
         requires node { node < length self.now.found.items }
         requires steps { IsFound self.now }
@@ -36,7 +36,8 @@ impl Reach {
 }
 
 impl Network {
-    /// Moves the nodes that were reached to the right, all as far: to their best place, or to the first contact.
+    /// Moves the nodes that were reached to the right, all by the same distance: to their best
+    /// place, or to the first contact.
     pub fn shift(&mut self, block: &Reach) -> Result<(), AllocError>
         requires sound { IsSound self.old }
         requires block { IsBlock self.old (start_of block.now) block.now }
@@ -53,7 +54,7 @@ impl Network {
         Ok(())
     }
 
-    /// Where the start would stand if only the nodes that were reached counted: their weighted mean.
+    /// The place of the start if only the nodes that were reached counted: their weighted mean.
     fn best_place(&self, block: &Reach) -> Fraction
         requires sound { IsSound self.now }
         requires block { IsBlock self.now (start_of block.now) block.now }
@@ -72,7 +73,8 @@ impl Network {
         Fraction::ratio(moment, weight)
     }
 
-    /// The first place of the start at which a link to a node outside is tight, but the best one if that comes first.
+    /// The first place of the start at which a link to a node outside is tight, or the best one if
+    /// that comes first.
     fn first_contact(&self, block: &Reach, best: Fraction) -> Fraction
         requires sound { IsSound self.now }
         requires block { IsBlock self.now (start_of block.now) block.now }
@@ -91,7 +93,8 @@ impl Network {
         place
     }
 
-    /// Where the start would stand if the link were tight, for one that leads from a node that was reached to one that was not.
+    /// The place of the start at which the link is tight, if it leads from a node that was reached
+    /// to one that was not.
     fn contact(&self, block: &Reach, index: usize) -> Option<Fraction>
         requires sound { IsSound self.now }
         requires block { IsBlock self.now (start_of block.now) block.now }
@@ -108,7 +111,7 @@ impl Network {
         Some(self.places[link.to].moved(-link.gap - offset))
     }
 
-    /// Moves the nodes that were reached along with the start, which comes to this place.
+    /// Moves the nodes that were reached along with the start, which moves to this place.
     fn move_block(&mut self, block: &Reach, place: Fraction)
         requires sound { IsSound self.old }
         requires reach { IsReach self.old (start_of block.now) block.now }

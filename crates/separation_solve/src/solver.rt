@@ -1,4 +1,5 @@
-//! The public call: balances and moves in turn, and the balanced network as a solution.
+//! The public call, which balances and moves in turn, and returns the balanced network as a
+//! solution.
 
 ghost use Rattle.std.specs.Prelude.{◌≡◌, false, pos, All, IfOk, map};
 ghost use Rattle.separation_model.specs.Bundle.{IsBundle};
@@ -11,13 +12,14 @@ use crate::network::Network;
 use separation_model::{Bundle, Solution};
 use std::alloc::{AllocError, Global};
 
-/// The least positions of the bundle for a gap in thousandths, from 0 to the widest, with multipliers that show it.
-/// The only error is want of memory.
+/// The least positions of the bundle for a gap in thousandths, from 0 to the widest, with
+/// multipliers that show it. The only error is out of memory.
 ///
-/// The multipliers are a flow along rules and limits that stand tight. It is pushed along paths (Ford and Fulkerson,
-/// "Maximal flow through a network", 1956) from the items that want to go right, until each item is balanced or some
-/// of them are free to move together, as the blocks of VPSC (Dwyer, Marriott and Stuckey, 2006). Those then move to
-/// their best place or to the first contact.
+/// The multipliers are a flow along rules and limits that are tight. It is pushed along paths (Ford
+/// and Fulkerson, "Maximal flow through a network", 1956) from the items that are pulled to the
+/// right, until each item is balanced or some of them are free to move together, as the blocks of
+/// VPSC (Dwyer, Marriott and Stuckey, 2006). Those then move to their best place or to the first
+/// contact.
 pub fn solve(alloc: Global, bundle: &Bundle, gap: i64) -> Result<Solution, AllocError>
     requires bundle { IsBundle bundle.now }
     requires gap { IsGap bundle.now gap }

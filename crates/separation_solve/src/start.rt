@@ -1,4 +1,4 @@
-//! The places at which the solver begins: whole ones that meet the bundle.
+//! The places at which the solver begins: whole numbers that meet the bundle.
 
 ghost use Rattle.std.specs.Prelude.{◌≡◌, ◌≤◌, pos, All, EachIndex, IfOk, length, map, ◌++◌, ◌∷◌, []};
 ghost use Rattle.std.specs.Int.{int_min};
@@ -15,10 +15,10 @@ use crate::network::wants_of;
 use separation_model::{Bundle, Rule, latest_positions, rules_by_left};
 use std::alloc::{AllocError, Global};
 
-/// Whole places that meet the bundle with the gap, and last the wall's.
+/// Whole places that meet the bundle with the gap, and last the wall's place.
 ///
-/// Each item stands at its want, or as little to the right of it as the rules let it, but never right of its latest
-/// place.
+/// Each item is at its want, or as little to the right of it as the rules allow, but never to the
+/// right of its latest place.
 pub fn start_places(alloc: Global, bundle: &Bundle, gap: i64) -> Result<Vec<Fraction>, AllocError>
     requires bundle { IsBundle bundle.now }
     requires gap { IsGap bundle.now gap }
@@ -34,7 +34,8 @@ pub fn start_places(alloc: Global, bundle: &Bundle, gap: i64) -> Result<Vec<Frac
     with_wall(alloc, &places)
 }
 
-/// Presses items on until all rules are met. Every rule goes forward, so none is broken again.
+/// Moves items to the right until all rules are met. Every rule goes forward, so none is broken
+/// again.
 fn press_on(places: &mut [i64], by_left: &[Rule], gap: i64)
     requires rules { All (IsForward (length places.old)) by_left.now }
     requires sorted { IsNonDecreasingBy (λ rule. rule.left) by_left.now }
@@ -54,7 +55,7 @@ fn press_on(places: &mut [i64], by_left: &[Rule], gap: i64)
     }
 }
 
-/// Draws each item back to its latest place, if it stands to the right of it.
+/// Moves each item back to its latest place, if it is to the right of it.
 fn draw_back(places: &mut [i64], latest: &[i64])
     requires { length places.old ≡ length latest.now }
     ensures { EachIndex latest.now (λ i.
@@ -67,7 +68,7 @@ fn draw_back(places: &mut [i64], latest: &[i64])
     }
 }
 
-/// The whole places, and the wall's.
+/// The whole places, followed by the wall's place.
 fn with_wall(alloc: Global, places: &[i64]) -> Result<Vec<Fraction>, AllocError>
     ensures { IfOk result (λ all. all.items ≡ map whole places.now ++ whole (pos 0) ∷ []) }
 {

@@ -1,4 +1,4 @@
-//! Which links are tight, listed at each node.
+//! The tight links, listed at each node.
 
 ghost use Rattle.std.specs.Prelude.{◌≡◌, ◌↔◌, IsTrue, OnOk, [], All, length};
 ghost use Rattle.separation_solve.specs.Network.{AreKept, IsFrame, IsLink, IsSpot, IsTight, KeepsBundle, ListsTight};
@@ -8,7 +8,7 @@ use crate::network::{Link, Network};
 use std::alloc::AllocError;
 
 impl Link {
-    /// Whether its nodes stand exactly its gap apart.
+    /// Whether the distance of its nodes is exactly its gap.
     fn is_tight(self, places: &[Fraction]) -> bool
         requires spots { All IsSpot places.now }
         requires link { IsLink (length places.now) self }
@@ -52,7 +52,7 @@ fn list_tight(
 }
 
 impl Network {
-    /// Lists anew which links are tight.
+    /// Lists the tight links anew.
     pub fn relist(&mut self) -> Result<(), AllocError>
         requires frame { IsFrame self.old }
         requires kept { AreKept self.old }

@@ -1,4 +1,5 @@
-//! Laws of a history and of a session's calls: they lead to the scenes of the world, with right answers of each.
+//! Laws of a history and of a session's calls: they lead to the scenes of the world, with the right
+//! answers of each.
 #![tactic(auto)]
 
 mod calls;

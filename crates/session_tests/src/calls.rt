@@ -1,5 +1,5 @@
-//! A session through its calls, what its graph is written, and each of its faults from one state, after which all is
-//! as before.
+//! The calls of a session, the number of writes to its graph, and each of its faults from one
+//! state, after which everything is as before.
 ghost use Rattle.scene_model.specs.Edits.{IsDirected};
 
 use par_route::OpenGate;
@@ -8,8 +8,8 @@ use scene_store::{Dirs, Edit, Scene, SceneFault, Setting};
 use std::alloc::{AllocError, Global};
 use std::thread::Threads;
 
-/// What is compared: whether a transaction is open, where the second box stands, the next edge number, the cost of the
-/// first connector's route, and both counts.
+/// The values that are compared: whether a transaction is open, where the second box is, the next
+/// edge number, the cost of the first connector's route, and both counts.
 #[derive(Clone, Copy, Debug, PartialEq, Eq)]
 struct Sight {
     open: bool,
@@ -33,7 +33,7 @@ fn look(session: &Session) -> Sight {
     }
 }
 
-/// How many nudged lines there are, and the connector of the first one.
+/// The number of nudged lines, and the connector of the first one.
 fn lines(session: &Session) -> Result<(usize, Option<u32>), AllocError> {
     let lines = session.nudged()?;
     Ok((
@@ -45,8 +45,8 @@ fn lines(session: &Session) -> Result<(usize, Option<u32>), AllocError> {
 /// The scenes on which sessions are opened.
 #[derive(Clone, Copy)]
 enum Drawing {
-    /// Three boxes of 20 units in a row, of which the first has a pin of class 7, and a connector from that pin to the
-    /// second box with two checkpoints.
+    /// Three boxes of 20 units in a row, of which the first has a pin of class 7, and a connector
+    /// from that pin to the second box with two checkpoints.
     Small,
     /// The second box alone.
     OneBox,
@@ -69,7 +69,7 @@ fn draw(scene: &mut Scene, drawing: Drawing) -> Result<(), SceneFault> {
     }
 }
 
-/// An edit. Where it leaves something out, that is 0, or 20 units for a height.
+/// An edit. A value that is left out is 0, or 20 units for a height.
 #[derive(Clone, Copy)]
 enum Ask {
     /// A new box's id, x and width.
@@ -155,7 +155,7 @@ fn give_up(session: &mut Session) -> Result<(), SessionFault> {
     Ok(())
 }
 
-/// Makes a call. It promises nothing, so that a test compares what it sees alone.
+/// Makes a call. It has no contract, so that a test compares only what it observes.
 fn make<R: Threads + Sync>(rt: &R, session: &mut Session, call: Call) -> Result<(), SessionFault> {
     match call {
         Call::Begin => session.begin(),
@@ -180,14 +180,14 @@ fn make_all<R: Threads + Sync>(
     Ok(())
 }
 
-/// What is wanted after calls.
+/// The expected state after calls.
 #[derive(Clone, Copy)]
 enum Wanted {
-    /// All as it was when the session was opened.
+    /// Everything as it was when the session was opened.
     AsOpened,
     /// The place of the second box, the cost of the first route and the number of searches.
     Moved(i64, u64, u64),
-    /// How many lines and crossings the graph was written.
+    /// The number of lines and crossings that were written into the graph.
     Written(u64),
 }
 
@@ -201,14 +201,15 @@ fn is_wanted(opened: Sight, seen: Sight, wanted: Wanted) -> bool {
     }
 }
 
-/// What a session is asked, and what must come of it.
+/// The calls of a session, and their expected result.
 #[derive(Clone, Copy)]
 enum Step {
     /// None of the calls is refused.
     Made(&'static [Call], Wanted),
-    /// The last of the calls is refused, and all is as it was when the session was opened.
+    /// The last of the calls is refused, and everything is as it was when the session was opened.
     Refused(&'static [Call], SessionFault),
-    /// In a transaction that changed something the edit is refused, and all is as it was when the session was opened.
+    /// In a transaction that changed something the edit is refused, and everything is as it was
+    /// when the session was opened.
     Edit(Ask, SceneFault),
 }
 
@@ -219,7 +220,7 @@ const CHANGED: [Call; 3] = [
     Call::Edit(Ask::Edge(3, 2, 0)),
 ];
 
-/// What the last of the calls of a step answers.
+/// The result of the last of the calls of a step.
 fn answer<R: Threads + Sync>(
     rt: &R,
     session: &mut Session,
@@ -234,7 +235,7 @@ fn answer<R: Threads + Sync>(
     }
 }
 
-/// Whether the step comes out as it must.
+/// Whether the step has its expected result.
 fn is_right<R: Threads + Sync>(rt: &R, session: &mut Session, opened: Sight, step: Step) -> bool {
     let answer = answer(rt, session, step);
     let seen = look(session);
@@ -245,7 +246,7 @@ fn is_right<R: Threads + Sync>(rt: &R, session: &mut Session, opened: Sight, ste
     }
 }
 
-/// The first of the steps that comes out otherwise.
+/// The first of the steps with another result.
 fn wrong_step<R: Threads + Sync>(rt: &R, session: &mut Session, steps: &[Step]) -> Option<usize> {
     let opened = look(session);
     for (place, step) in steps.iter().enumerate() {
@@ -256,8 +257,8 @@ fn wrong_step<R: Threads + Sync>(rt: &R, session: &mut Session, steps: &[Step]) 
     None
 }
 
-/// What comes of steps: the first one that comes out otherwise, how many nudged lines there are at the end with the
-/// connector of the first one, and the count of the tally.
+/// The result of steps: the first one with another result than expected, the number of nudged lines
+/// at the end with the connector of the first one, and the count of the tally.
 #[derive(Clone, Copy, Debug, PartialEq, Eq)]
 struct Outcome {
     wrong: Option<usize>,
@@ -265,7 +266,7 @@ struct Outcome {
     searches: u64,
 }
 
-/// What comes of the steps in a session on the drawing.
+/// The result of the steps in a session on the drawing.
 fn told<R: Threads + Sync>(
     rt: &R,
     alloc: Global,
@@ -326,7 +327,7 @@ const REFUSED_EDITS: &[Step] = &[
     Step::Edit(Ask::Penalty(-1), SceneFault::OutOfRange { word: 3 }),
 ];
 
-/// Further than a scene reaches.
+/// Further than a scene may extend.
 const FAR: i64 = 2_000_000_000;
 
 /// Calls of which the last is refused, and why.
@@ -365,7 +366,7 @@ const PASSED: &[Step] = &[
     ),
 ];
 
-/// What is open is given up, and where nothing is.
+/// An open transaction is dropped; without one nothing changes.
 const GIVEN_UP: &[Step] = &[
     Step::Made(
         &[
@@ -379,11 +380,12 @@ const GIVEN_UP: &[Step] = &[
     Step::Made(&[Call::GiveUp], Wanted::AsOpened),
 ];
 
-/// Calls on the second box alone, and how many lines and crossings the graph was written after them.
+/// Calls on the second box alone, and the number of lines and crossings that were written into the
+/// graph after them.
 ///
-/// The box has 8 lines: that of each side, through the whole sheet, and one outward from each port. They cross at its
-/// corners and at its ports, so there are 8 crossings. Where it goes east, the lines of its upper and its lower side
-/// stay; the other 6 are new, and so is each crossing.
+/// The box has 8 lines: that of each side, through the whole sheet, and one outward from each port.
+/// They cross at its corners and at its ports, so there are 8 crossings. If it moves east, the
+/// lines of its upper and its lower side stay; the other 6 are new, and so is each crossing.
 const WRITTEN: &[Step] = &[
     Step::Made(&[], Wanted::Written(16)),
     Step::Made(&EAST, Wanted::Written(30)),
@@ -394,10 +396,10 @@ const WRITTEN: &[Step] = &[
     Step::Made(&[Call::Redo], Wanted::Written(58)),
 ];
 
-/// The second box goes east.
+/// The second box moves east.
 const EAST: [Call; 3] = [Call::Begin, Call::Edit(Ask::Move(2, 100_000)), Call::Commit];
 
-/// Steps in a session on the drawing, and how many searches there are in all.
+/// Steps in a session on the drawing, and the number of searches in all.
 #[derive(Clone, Copy)]
 struct Row {
     name: &'static str,

@@ -1,4 +1,4 @@
-//! Small scenes whose edges are nudged, and a crowd of edges, through a session.
+//! Small scenes whose edges are nudged, and a large number of edges, through a session.
 use par_route::OpenGate;
 use plane_geom::Point;
 use route_session::Session;
@@ -8,12 +8,12 @@ use std::alloc::{AllocError, Global};
 use std::thread::Threads;
 use walk_model::WrittenRoute;
 
-/// What a scene is made of, in order. Lengths are in units.
+/// The parts of a scene, in order. Lengths are in units.
 #[derive(Clone, Copy)]
 enum Part {
     /// A box's id, centre and sizes.
     Node(i64, i16, i16, i16, i16),
-    /// A pin of class 1 at the centre of this box, whose way is north.
+    /// A pin of class 1 at the centre of this box, which leads north.
     North(i64),
     /// The same, south.
     South(i64),
@@ -27,12 +27,12 @@ enum Part {
     Nudge(i64),
 }
 
-/// So many units.
+/// The number of units, in thousandths.
 fn milli(units: i16) -> i64 {
     i64::from(units) * 1000
 }
 
-/// Adds a connector of weight 3 between the first boxes, where the scene has a number left.
+/// Adds a connector of weight 3 between the first boxes, if the scene has a number left.
 fn add_heavy(scene: &mut Scene, alloc: Global) -> Result<(), SceneFault> {
     let number = scene.next_edge();
     if number == u32::MAX {
@@ -69,7 +69,7 @@ fn add_all(scene: &mut Scene, alloc: Global, parts: &[Part]) -> Result<(), Scene
     Ok(())
 }
 
-/// Puts these parts into the scene, one list after the other, and then this one so many times.
+/// Loads these parts into the scene, one list after the other, and then one part a number of times.
 fn draw(scene: &mut Scene, alloc: Global, row: &Row) -> Result<(), SceneFault> {
     for parts in row.parts {
         add_all(scene, alloc, parts)?;
@@ -80,11 +80,12 @@ fn draw(scene: &mut Scene, alloc: Global, row: &Row) -> Result<(), SceneFault> {
     Ok(())
 }
 
-/// A scene, and what its nudging must come to: the gap of each bundle of both phases, and the corners of each line.
+/// A scene, and the expected result of its nudging: the gap of each bundle of both phases, and the
+/// corners of each line.
 struct Row {
     name: &'static str,
     parts: &'static [&'static [Part]],
-    /// How often the first two boxes are joined beside.
+    /// The number of additional connectors between the first two boxes.
     crowd: u16,
     x_gaps: &'static [i64],
     y_gaps: &'static [i64],
@@ -98,17 +99,18 @@ const ROUND: &[Part] = &[
     Part::Node(3, 50, 0, 20, 40),
 ];
 
-/// The same, lower, so that the way above the one between them lies at height 0.
+/// The same, lower, so that the way above the middle box is at height 0.
 const LOW_ROUND: &[Part] = &[
     Part::Node(1, 0, 24, 20, 20),
     Part::Node(2, 100, 24, 20, 20),
     Part::Node(3, 50, 24, 20, 40),
 ];
 
-/// The first box joined to the second.
+/// The first box connected to the second.
 const JOINED: Part = Part::Edge(1, 2, 0);
 
-/// Boxes round which two ways share a line, one with its boxes below it and one with a box above it.
+/// Boxes around which two ways share a line, one with its boxes below it and one with a box above
+/// it.
 const MEETING: &[Part] = &[
     Part::Node(1, 0, 24, 20, 20),
     Part::Node(2, 200, 24, 20, 20),
@@ -308,8 +310,8 @@ const ROWS: [Row; 11] = [
             ],
         ],
     },
-    // The first and the last run of each are fixed, so each of these is a bundle by itself. The middle runs are one
-    // bundle, above which there is room.
+    // The first and the last run of each are fixed, so each of these is a bundle by itself. The
+    // middle runs are one bundle, above which there is room.
     Row {
         name: "a crowd",
         parts: &[ROUND],
@@ -340,7 +342,8 @@ fn are_lines(lines: &[WrittenRoute], wanted: &[&[(i64, i64)]]) -> bool {
     lines.len() == wanted.len()
 }
 
-/// Whether each line's middle run lies a gap above the next one's, and the last one's as near to the box as may be.
+/// Whether each line's middle run is one gap above the next one's, and the last one's as near to
+/// the box as possible.
 fn are_apart(lines: &[WrittenRoute], crowd: u16) -> bool {
     for (behind, line) in (0..crowd).rev().zip(lines) {
         let y = -24_000 - 4000 * i64::from(behind);
@@ -387,7 +390,7 @@ fn compared(session: &Session, row: &Row) -> Result<Outcome, AllocError> {
     })
 }
 
-/// What comes of the row in a session.
+/// The result of the row in a session.
 fn told<R: Threads + Sync>(rt: &R, alloc: Global, row: &Row) -> Result<Outcome, SceneFault> {
     let mut scene = Scene::new(alloc);
     let drawn = draw(&mut scene, alloc, row);

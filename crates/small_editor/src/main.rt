@@ -1,4 +1,5 @@
-//! The smallest editor: two boxes with a connector, and a third box that is moved between them and back.
+//! The smallest editor: two boxes with a connector, and a third box that is moved between them and
+//! back.
 //!
 //! It shows how a program calls the engine. Lengths are in thousandths of a GML unit.
 #![tactic(auto)]
@@ -11,7 +12,7 @@ use std::io;
 use std::thread::Threads;
 use walk_model::WrittenRoute;
 
-/// How many searches are made side by side.
+/// The number of searches side by side.
 const WORKERS: u32 = 2;
 
 /// Two boxes of 20 units with a connector between their centres, and a third box below them.
@@ -24,7 +25,7 @@ fn drawing(alloc: Global) -> Result<Scene, SceneFault> {
     Ok(scene)
 }
 
-/// Moves a box in a transaction of its own. The connectors that this makes stale are searched again.
+/// Moves a box in a transaction of its own. The connectors that become stale are searched again.
 fn move_box<R: Threads + Sync>(
     rt: &R,
     session: &mut Session,
@@ -55,7 +56,7 @@ fn print_lines(rt: &HostRuntime, title: &str, session: &Session) -> io::Result<(
     Ok(())
 }
 
-/// What the program ends with where a call is refused or wants memory.
+/// The error with which the program ends if a call is refused or runs out of memory.
 fn refused() -> io::Error {
     io::ErrorKind::InvalidInput.into()
 }

@@ -106,7 +106,7 @@ lt_told a b e = grind (arith, ints)
 lt_tells : (a b : ℤ) → a <ℤ b → int_lt a b ≡ true
 lt_tells a b h = grind (arith, ints)
 
--- what it tells that a mark keeps a piece
+-- the consequences if a mark keeps a piece
 record Keeps (p : Piece) (m : Mark) : Type 0 where
   from : m.lo ≤ℤ p.hi
   to : p.lo ≤ℤ m.hi

@@ -25,7 +25,7 @@ use Rattle.sweep_lines.specs.Marks.{begin_mark, end_mark, sides_from, begins, en
 use Rattle.sweep_lines.specs.Open.{span_of, IsSpanOf, AreSpansOf, AreOpened}
 use Rattle.sweep_lines.proofs.Members.{Among, among_of_contains, contains_of_among, any_of_among, among_of_any}
 
--- what comes in
+-- what is added
 inserted_by : (b : Bool) (s t u : Span) (ts rest : List Span) → Among u (cond b (s ∷ t ∷ ts) (t ∷ rest)) → (Among u rest → (u ≡ s) ⊎ Among u ts) → (u ≡ s) ⊎ Among u (t ∷ ts)
 inserted_by true s t u ts rest (inl e) f = inl e
 inserted_by true s t u ts rest (inr h) f = inr h
@@ -207,7 +207,7 @@ module _ (here : List Mark) (i : ℕ) (d : Mark) (l : i < length here) (ss : Lis
       let a = list_any (λ (m : Mark). ends s.key m.kind) (take i here) in
       sym (ap not (list_any_more (λ (m : Mark). ends s.key m.kind) here i d l) ∙ or_none a (ends s.key (get_or here i d).kind) (f s.key))) ss
 
--- the span that begins with one more mark comes in
+-- the span that begins with one more mark is added
 begun_key : (kind : Kind) (lo hi : ℤ) (s : Span) → span_begun kind lo hi ≡ Some s → begins s.key kind ≡ true
 begun_key (Begin n) lo hi s e = let t : Span = record { key = n; lo = lo; hi = hi } in let z : t ≡ s = cc in subst (λ (s : Span). (n == s.key) ≡ true) z ((Decides-eqb n n).1 refl)
 begun_key (End n) lo hi s e = absurd (cc)

@@ -17,7 +17,7 @@ use Rattle.sweep_lines.specs.Open.{span_of, AreSpansOf, HasBegun, IsCrossed, Has
 use Rattle.sweep_lines.proofs.Members.{among_of_contains, contains_of_among, among_filter, among_filtered, among_of_any, any_of_among}
 use Rattle.sweep_lines.proofs.Standing.{marks_have_sides, kind_of_begins, kind_of_ends, ends_of_kind, begun_by, ended_by}
 
--- spans of bars of which something holds, where something else holds of the same bars
+-- spans of bars with a property, where another property holds of the same bars
 pub spans_alike : (bars : List Bar) (Is Becomes : Bar → Type 0) (ss : List Span) → AreSpansOf bars Is ss →
     ((k : ℕ) (b : Bar) → slice_get bars k ≡ Some b → Is b → Becomes b) → ((k : ℕ) (b : Bar) → slice_get bars k ≡ Some b → Becomes b → Is b) → AreSpansOf bars Becomes ss
 spans_alike bars Is Becomes ss a f g = record {
@@ -33,7 +33,7 @@ true_not : (b : Bool) → not b ≡ true → b ≡ true → ⊥
 true_not true h e = cc
 true_not false h e = cc
 
--- what it tells that a span begins with a mark
+-- the consequences if a span begins with a mark
 record Begun (m : Mark) (s : Span) : Type 0 where
   kind : m.kind ≡ Begin s.key
   lo : m.lo ≡ s.lo

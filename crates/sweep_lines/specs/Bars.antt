@@ -1,4 +1,4 @@
--- Solids as lines of one way see them.
+-- Solids relative to lines of one way.
 use Rattle.std.specs.Prelude.{List, map}
 use Rattle.plane_geom.specs.declared.point.Point.{Point}
 use Rattle.plane_geom.specs.declared.point.Way.{Way}
@@ -13,7 +13,7 @@ near_corner r = record { x = r.left; y = r.top }
 abbrev pub far_corner : Rect → Point
 far_corner r = record { x = r.right; y = r.bottom }
 
--- the coordinates that the rectangle spans across lines of the way, and where it is along them
+-- the coordinates that the rectangle spans across lines of the way, and its extent along them
 abbrev pub bar_of : Way → Rect → Bar
 bar_of way r = record {
   begin = across way (near_corner r);

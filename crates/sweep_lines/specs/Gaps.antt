@@ -1,4 +1,4 @@
--- What is free of open spans on one whole line.
+-- The gaps between open spans on one whole line.
 use Rattle.std.specs.Prelude.{cond, ℤ, ◌≤ℤ◌, ◌⊎◌, List, [], ◌∷◌, int_lt}
 use Rattle.std.specs.Int.{int_max}
 use Rattle.std.specs.List.{AllByRecursion}
@@ -10,7 +10,7 @@ pub record Piece : Type 0 where
   pub lo : ℤ
   pub hi : ℤ
 
--- what the spans, which stand by rising begins, leave free from a number to the end of the sheet
+-- the gaps between the spans, which are ordered by their begins, from a number to the end of the sheet
 abbrev pub gaps : ℤ → List Span → List Piece
 gaps from [] = record { lo = from; hi = sheet_end } ∷ []
 gaps from (s ∷ ss) =
@@ -21,7 +21,7 @@ gaps from (s ∷ ss) =
 abbrev pub IsClear : Piece → List Span → Type 0
 IsClear p = AllByRecursion (λ s. (p.hi ≤ℤ s.lo) ⊎ (s.hi ≤ℤ p.lo))
 
--- the one piece lies in the other
+-- the first piece lies in the second
 pub record LiesIn (p q : Piece) : Type 0 where
   pub lo : q.lo ≤ℤ p.lo
   pub hi : p.hi ≤ℤ q.hi

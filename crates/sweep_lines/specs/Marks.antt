@@ -1,4 +1,4 @@
--- What stands on whole lines, and which pieces are kept for its sake.
+-- The marks on whole lines, and which pieces they keep.
 use Rattle.std.specs.Prelude.{◌≡◌, ℕ, ◌+◌, Bool, true, false, not, cond, ◌&&◌, ◌||◌, ◌==◌, int_lt, ℤ, List, [], ◌∷◌, ◌++◌, map, filter, Contains, Option, Some, None}
 use Rattle.std.specs.List.{list_any}
 use Rattle.plane_geom.specs.declared.point.Point.{Point}
@@ -27,7 +27,7 @@ abbrev pub sides_from : ℕ → List Bar → List Mark
 sides_from n [] = []
 sides_from n (b ∷ bs) = begin_mark n b ∷ end_mark n b ∷ sides_from (n + 1) bs
 
--- all that stands on whole lines of the way
+-- all marks on whole lines of the way
 abbrev pub marks_of : Way → List Bar → List Point → List Mark
 marks_of way bars anchors = sides_from 0 bars ++ map (anchor_mark way) anchors
 
@@ -57,26 +57,26 @@ span_begun Anchor lo hi = None
 abbrev pub begun_span : Mark → Option Span
 begun_span m = span_begun m.kind m.lo m.hi
 
--- whether a free piece of the mark's whole line is kept for its sake
+-- whether the mark keeps a free piece of its whole line
 abbrev pub keeps : Piece → Mark → Bool
 keeps p m = not (int_lt p.hi m.lo) && not (int_lt m.hi p.lo) && (int_lt p.lo p.hi || is_anchor m.kind)
 
 abbrev pub line_of : Way → ℤ → Piece → Line
 line_of way at p = record { way = way; at = at; lo = p.lo; hi = p.hi }
 
--- the piece, where it has a point and is kept for the sake of a mark
+-- the piece, if it has a point and a mark keeps it
 abbrev pub kept_one : Way → ℤ → List Mark → Piece → List Line
 kept_one way at marks p = cond (not (int_lt p.hi p.lo) && list_any (keeps p) marks) (line_of way at p ∷ []) []
 
--- the pieces that are kept for the sake of a mark
+-- the pieces that a mark keeps
 abbrev pub kept_pieces : Way → ℤ → List Mark → List Piece → List Line
 kept_pieces way at marks ps = map (line_of way at) (filter (λ p. list_any (keeps p) marks) ps)
 
--- the gaps between the spans that are kept for the sake of a mark
+-- the gaps between the spans that a mark keeps
 abbrev pub kept_gaps : Way → ℤ → List Mark → List Span → List Line
 kept_gaps way at marks ss = kept_pieces way at marks (gaps sheet_start ss)
 
--- those of the marks that stand at the coordinate
+-- the marks at the coordinate
 pub record AreAt (at : ℤ) (marks here : List Mark) : Type 0 where
   pub each : (m : Mark) → Contains here m → Contains marks m × (m.at ≡ at)
   pub all : (m : Mark) → Contains marks m → m.at ≡ at → Contains here m

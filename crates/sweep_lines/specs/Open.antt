@@ -16,23 +16,23 @@ pub record HasLength (lo hi : ℤ) : Type 0 where
   pub to : IsCoordinate hi
   pub long : lo <ℤ hi
 
--- where the bar with the number lies along
+-- the extent of the bar with the number along the lines
 abbrev pub span_of : ℕ → Bar → Span
 span_of k b = record { key = k; lo = b.lo; hi = b.hi }
 
--- a span, and the numbered bar whose it is, of which something holds
+-- a span, and the numbered bar that has it, with a property
 pub record IsSpanOf (bars : List Bar) (Is : Bar → Type 0) (s : Span) : Type 0 where
   pub bar : Bar
   pub numbered : slice_get bars s.key ≡ Some bar
   pub span : s ≡ span_of s.key bar
   pub is : Is bar
 
--- the spans are those of the numbered bars of which something holds
+-- the spans are those of the numbered bars with the property
 pub record AreSpansOf (bars : List Bar) (Is : Bar → Type 0) (ss : List Span) : Type 0 where
   pub each : (s : Span) → Contains ss s → IsSpanOf bars Is s
   pub all : (k : ℕ) (b : Bar) → slice_get bars k ≡ Some b → Is b → Contains ss (span_of k b)
 
--- the bar has begun before the coordinate, and ends there or later
+-- the bar has begun before the coordinate, and ends at it or later
 abbrev pub HasBegun : ℤ → Bar → Type 0
 HasBegun at b = (b.begin <ℤ at) × (at ≤ℤ b.end)
 
@@ -40,7 +40,7 @@ HasBegun at b = (b.begin <ℤ at) × (at ≤ℤ b.end)
 abbrev pub IsCrossed : ℤ → Bar → Type 0
 IsCrossed at b = (b.begin <ℤ at) × (at <ℤ b.end)
 
--- the bar has begun there or before, and ends later
+-- the bar has begun at it or before, and ends later
 abbrev pub HasNotEnded : ℤ → Bar → Type 0
 HasNotEnded at b = (b.begin ≤ℤ at) × (at <ℤ b.end)
 

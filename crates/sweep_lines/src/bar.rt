@@ -1,4 +1,4 @@
-//! Solids as lines of one way see them.
+//! Solids relative to lines of one way.
 ghost use Rattle.std.specs.Prelude.{◌≡◌, ◌≤◌, All, IfOk, length};
 ghost use Rattle.sweep_lines.specs.Bars.{bar_of, bars_of};
 ghost use Rattle.sweep_lines.specs.Open.{AreSpansOf, HasBegun, HasLength};
@@ -7,7 +7,8 @@ use interval_index::{IntervalIndex, Span};
 use plane_geom::{Axis, Floor, Point, Rect};
 use std::alloc::{AllocError, Global};
 
-/// A solid as lines of one way see it: which coordinates it spans across, and where it is along.
+/// A solid relative to lines of one way: the coordinates that it spans across, and its extent
+/// along.
 #[derive(Clone, Copy, Debug)]
 pub struct Bar {
     pub begin: i64,
@@ -20,14 +21,14 @@ impl Bar {
     ghost use Rattle.std.specs.Prelude.{IsTrue, ◌↔◌};
     ghost use Rattle.sweep_lines.specs.Open.{span_of};
 
-    /// Whether it has begun before the coordinate, and ends there or later.
+    /// Whether the bar begins before the coordinate and ends at it or later.
     fn has_begun(&self, at: i64) -> bool
         ensures { IsTrue result ↔ HasBegun at self.now }
     {
         self.begin < at && at <= self.end
     }
 
-    /// Where the bar lies along, under a number.
+    /// The extent of the bar along the lines, under a number.
     fn span(&self, number: u32) -> Span
         ensures { result ≡ span_of number self.now }
     {
@@ -39,7 +40,7 @@ impl Bar {
     }
 }
 
-/// The solids of the floor as lines of the axis see them, by number.
+/// The solids of the floor relative to lines of the axis, by number.
 pub fn bars<A: Axis>(alloc: Global, floor: &Floor) -> Result<Vec<Bar>, AllocError>
     ensures { IfOk result (λ v. v.items ≡ bars_of A.way_of floor.now.solids) }
 {
@@ -69,7 +70,8 @@ fn bar_along<A: Axis>(rect: &Rect) -> Bar
     }
 }
 
-/// The spans of the bars that are open when a sweep comes to the coordinate, each under the bar's number.
+/// The spans of the bars that are open when a sweep reaches the coordinate, each under the bar's
+/// number.
 pub fn open_before(alloc: Global, bars: &[Bar], at: i64) -> Result<IntervalIndex, AllocError>
     requires few { length bars.now ≤ 256 }
     requires lengths { All (λ b. HasLength b.lo b.hi) bars.now }

@@ -1,4 +1,4 @@
-//! What stands on whole lines: the sides of solids, and anchors.
+//! Marks on whole lines: the sides of solids, and anchors.
 ghost use Rattle.std.specs.Prelude.{◌≡◌, ◌≤◌, ◌≤ℤ◌, ◌++◌, OnOk, IfOk, AllPairs, IsPermutation, length, map};
 ghost use Rattle.sweep_lines.specs.Marks.{anchor_mark, keeps, marks_of, sides_from};
 
@@ -7,7 +7,7 @@ use interval_index::Span;
 use plane_geom::{Axis, Floor, Point};
 use std::alloc::{AllocError, Global};
 
-/// Why something stands on a whole line.
+/// The reason for a mark on a whole line.
 #[derive(Clone, Copy, Debug, PartialEq, Eq)]
 pub enum Kind {
     /// The side with which the solid of this number begins.
@@ -41,7 +41,7 @@ impl Mark {
         }
     }
 
-    /// The side with which it ends.
+    /// The side with which the bar of this number ends.
     fn end(number: u32, bar: &Bar) -> Mark
         ensures { result ≡ end_mark number bar.now }
     {
@@ -65,7 +65,7 @@ impl Mark {
         }
     }
 
-    /// The span of the solid that begins with the side.
+    /// The span of the solid that begins with this side.
     pub fn begun(&self) -> Option<Span>
         ensures { result ≡ begun_span self.now }
     {
@@ -79,7 +79,7 @@ impl Mark {
         }
     }
 
-    /// Whether the free piece of its whole line is kept for its sake.
+    /// Whether this mark keeps the free piece of its whole line from `lo` to `hi`.
     pub fn keeps_piece(&self, lo: i64, hi: i64) -> bool
         ensures { result ≡ keeps (record { lo = lo; hi = hi }) self.now }
     {
@@ -87,7 +87,7 @@ impl Mark {
     }
 }
 
-/// All that stands on whole lines of the axis.
+/// All marks on whole lines of the axis.
 pub fn marks<A: Axis>(alloc: Global, bars: &[Bar], floor: &Floor) -> Result<Vec<Mark>, AllocError>
     requires { length bars.now ≤ 256 }
     ensures { IfOk result (λ v. v.items ≡ marks_of A.way_of bars.now floor.now.anchors) }

@@ -20,8 +20,8 @@ use std::alloc::{AllocError, Global};
 
 /// The kept lines on one whole line, by rising `lo`.
 ///
-/// The whole line runs the given way at the coordinate `at`, in thousandths, which lies on the sheet.
-/// The only error is want of memory.
+/// The whole line runs the given way at the coordinate `at`, in thousandths, which lies on the
+/// sheet. The only error is out of memory.
 pub fn lines_at(alloc: Global, floor: &Floor, way: Way, at: i64) -> Result<Vec<Line>, AllocError>
     requires floor { IsFloor floor.now }
     requires within { IsCoordinate at }
@@ -35,8 +35,8 @@ pub fn lines_at(alloc: Global, floor: &Floor, way: Way, at: i64) -> Result<Vec<L
 
 /// All kept lines of the floor: vertical ones first, by `at` and then by `lo`.
 ///
-/// A sweep over the sides of the solids and the anchors for each way, with the spans of the solids that are open
-/// across it in an index. The only error is want of memory.
+/// A sweep over the sides of the solids and the anchors for each way, with the spans of the solids
+/// that are open across it in an index. The only error is out of memory.
 pub fn all_lines(alloc: Global, floor: &Floor) -> Result<Vec<Line>, AllocError>
     requires floor { IsFloor floor.now }
     ensures { IfOk result (λ ls. AreAllKept floor.now ls.items) }
@@ -50,12 +50,12 @@ pub fn all_lines(alloc: Global, floor: &Floor) -> Result<Vec<Line>, AllocError>
     lines_near(alloc, floor, &sheet)
 }
 
-/// The kept lines whose coordinate is from the one to the other side of the rectangle across them, in the order of
-/// `all_lines`.
+/// The kept lines whose coordinate is between the two sides of the rectangle across them, or on one
+/// of them, in the order of `all_lines`.
 ///
-/// Sweeps only the sides and anchors that lie there, from the solids that are open where it begins. The rectangle, in
-/// thousandths, may reach past the sheet. Where it ends before it begins, no line of that way is found. The only error
-/// is want of memory.
+/// Sweeps only the sides and anchors that lie there, from the solids that are open where it begins.
+/// The rectangle, in thousandths, may reach past the sheet. Where it ends before it begins, no line
+/// of that way is found. The only error is out of memory.
 pub fn lines_near(alloc: Global, floor: &Floor, near: &Rect) -> Result<Vec<Line>, AllocError>
     requires floor { IsFloor floor.now }
     ensures { IfOk result (λ ls. AreKept floor.now (λ l. is_near near.now l ≡ true) ls.items) }
@@ -66,7 +66,7 @@ pub fn lines_near(alloc: Global, floor: &Floor, near: &Rect) -> Result<Vec<Line>
     Ok(lines)
 }
 
-/// There is one list of all kept lines, and one of those that pass a test.
+/// The list of all kept lines is unique, and so is the list of those that pass a test.
 pub fn one_list_of_kept_lines()
     ensures all { (floor : Floor) (ls ms : List Line) → AreAllKept floor ls → AreAllKept floor ms → ls ≡ ms }
     ensures asked { (floor : Floor) (is_asked : Line → Bool) (ls ms : List Line) → AreKept floor (λ l. is_asked l ≡ true) ls → AreKept floor (λ l. is_asked l ≡ true) ms → ls ≡ ms }
@@ -112,14 +112,14 @@ fn sweep<A: Axis>(
     Ok(())
 }
 
-/// Keeps the marks that stand from one coordinate to another.
+/// Keeps only the marks from one coordinate to another.
 fn keep_within(marks: &mut Vec<Mark>, from: i64, to: i64)
     ensures { marks.new.items ≡ filter (λ m. is_within from to m.at) marks.old.items }
 {
     marks.retain(|mark| is_within(from, to, mark.at));
 }
 
-/// How many of the marks, which rise by coordinate, stand at the coordinate or before it.
+/// The number of marks, which rise by coordinate, at the coordinate or before it.
 fn count_upto(marks: &[Mark], at: i64) -> usize
     requires { AllPairs (λ m n. m.at ≤ℤ n.at) marks.now }
     ensures bound { result ≤ length marks.now }
@@ -129,7 +129,7 @@ fn count_upto(marks: &[Mark], at: i64) -> usize
     marks.partition_point(|mark| mark.at <= at)
 }
 
-/// Takes the solids out that end here.
+/// Removes the spans of the solids that end here.
 fn close(index: &mut IntervalIndex, here: &[Mark])
     ensures { index.new ≡ filter (λ s. not (list_any (λ m. ends s.key m.kind) here.now)) index.old }
 {
@@ -140,7 +140,7 @@ fn close(index: &mut IntervalIndex, here: &[Mark])
     }
 }
 
-/// Puts the solids in that begin here.
+/// Adds the spans of the solids that begin here.
 fn open(index: &mut IntervalIndex, here: &[Mark]) -> Result<(), AllocError>
     requires once { (k : ℕ) → count_by (λ m. begins k m.kind) here.now ≤ 1 }
     requires lengths { (s : Span) → Any (λ m. begun_span m ≡ Some s) here.now → HasLength s.lo s.hi }
@@ -155,7 +155,7 @@ fn open(index: &mut IntervalIndex, here: &[Mark]) -> Result<(), AllocError>
     Ok(())
 }
 
-/// Appends the gaps between the spans that are kept for the sake of a mark.
+/// Appends the gaps between the spans that a mark keeps.
 fn push_kept(
     way: Way,
     at: i64,
@@ -177,7 +177,7 @@ fn push_kept(
     push_if_kept(way, at, lo, SHEET_END, here, lines)
 }
 
-/// Appends the piece from `lo` to `hi` where there is one and a mark keeps it.
+/// Appends the piece from `lo` to `hi`, if there is one and a mark keeps it.
 fn push_if_kept(
     way: Way,
     at: i64,

@@ -7,7 +7,7 @@ use gml_text::{Doc, GmlFault, find, parse, print};
 use std::alloc::{AllocError, Global};
 use std::test::Fail;
 
-/// What an ordinary editor writes.
+/// A document as an ordinary editor writes it.
 const EDITOR_FILE: &str = r##"Creator "yFiles"
 Version "2.22"
 graph [
@@ -91,20 +91,20 @@ graph [
 ]
 "##;
 
-/// What is printed of the document.
+/// The printed form of the document.
 fn print_out(alloc: Global, doc: Doc) -> Result<Vec<u8>, AllocError>
     requires { IsPrintable (tree doc) }
 {
     print(alloc, &doc)
 }
 
-/// What is printed of the bytes as they are read.
+/// The printed form of the bytes.
 fn printed(alloc: Global, bytes: &[u8]) -> Result<Vec<u8>, Fail> {
     let doc = parse(alloc, bytes)?;
     Ok(print_out(alloc, doc)?)
 }
 
-/// The text so many times.
+/// The text repeated.
 fn repeated(alloc: Global, text: &[u8], times: usize) -> Result<Vec<u8>, AllocError> {
     let mut bytes = Vec::new(alloc);
     for _ in 0..times {
@@ -155,7 +155,7 @@ fn refuses_the_first_byte_that_no_document_has_there(rt: HostRuntime) {
     }
 }
 
-/// So many lists that are opened, each in the one before, and so many that are closed.
+/// A number of lists, each opened in the one before, and a number of closing brackets.
 fn lists(alloc: Global, opened: usize, closed: usize) -> Result<Vec<u8>, AllocError> {
     let mut bytes = repeated(alloc, b"a[", opened)?;
     for _ in 0..closed {
@@ -164,7 +164,7 @@ fn lists(alloc: Global, opened: usize, closed: usize) -> Result<Vec<u8>, AllocEr
     Ok(bytes)
 }
 
-/// Why the lists are not read.
+/// The fault of the lists.
 fn fault_of(alloc: Global, opened: usize, closed: usize) -> Result<Option<GmlFault>, AllocError> {
     let bytes = lists(alloc, opened, closed)?;
     Ok(parse(alloc, &bytes).err())
@@ -184,7 +184,7 @@ fn reads_lists_up_to_the_limit(rt: HostRuntime) -> Result<(), Fail> {
     Ok(())
 }
 
-/// Whether what is printed of the bytes is printed again as it stands.
+/// Whether the printed form of the bytes is unchanged when it is printed again.
 fn is_kept(alloc: Global, bytes: &[u8]) -> Result<bool, Fail> {
     let once = printed(alloc, bytes)?;
     let twice = printed(alloc, &once)?;
@@ -198,7 +198,7 @@ fn prints_the_deepest_lists(rt: HostRuntime) -> Result<(), Fail> {
     Ok(())
 }
 
-/// Where the first pair with the key stands.
+/// The index of the first pair with the key.
 fn found(alloc: Global, text: &[u8], key: &[u8]) -> Result<Option<usize>, GmlFault> {
     let doc = parse(alloc, text)?;
     Ok(find(&doc.pairs, key))

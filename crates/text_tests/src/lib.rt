@@ -1,4 +1,4 @@
-//! Tests of the crates that read and write text: their rows, asked through public calls alone.
+//! Tests of the crates that read and write text: rows that use only public calls.
 #![tactic(auto)]
 
 #[cfg(test)]

@@ -12,7 +12,7 @@ use scene_model::{SceneFault, SessionFault};
 use std::alloc::AllocError;
 use std::test::Fail;
 
-/// The lines of words and files.
+/// The lines for arguments and files.
 fn push_file_lines(out: &mut Vec<u8>) -> Result<(), AllocError> {
     push_words_line(out)?;
     push_read_fault_line(out, "d.gml")?;
@@ -77,7 +77,7 @@ fn says_faults(rt: HostRuntime) -> Result<(), Fail> {
     Ok(())
 }
 
-/// What is found of the line of the edge.
+/// The result of checking the line of the edge.
 fn found(edge: u32, finding: Finding) -> EdgeFinding {
     EdgeFinding { edge, finding }
 }

@@ -19,7 +19,7 @@ use std::{env, fs, io, process};
 /// More bytes than any small buffer has.
 const MEGABYTE: usize = 1_000_000;
 
-/// Copies a file to a sink, through the bounds alone.
+/// Copies a file to a sink, using only the traits.
 fn copy<F: Folder, O: Sink>(
     folder: &mut F,
     name: &str,
@@ -56,7 +56,7 @@ fn files(alloc: Global) -> Result<Vec<NamedFile>, AllocError> {
     Ok(files)
 }
 
-/// Whether the next read of the folder answers so.
+/// Whether the next read of the folder has this result.
 fn answers<F: Folder>(
     folder: &mut F,
     name: &str,
@@ -88,7 +88,8 @@ fn reads_files_in_memory(rt: HostRuntime) -> Result<(), Fail> {
     Ok(())
 }
 
-/// Whether all is written so, and held after it, by a sink that takes so many bytes at once and fails at the call.
+/// Whether everything is written as expected, and held after it, by a sink that takes a given
+/// number of bytes at once and fails at the given call.
 fn writes(mut sink: MemSink, text: &str, want: Result<(), WriteFailed>, held: &str) -> bool {
     let none = sink.write(b"");
     let written = write_all_to(&mut sink, text.as_bytes());
@@ -161,7 +162,7 @@ fn file_name(rt: &HostRuntime, what: &str) -> Result<String, Fail> {
     Ok(name?)
 }
 
-/// Whether the file with the name, written as the bytes, is read so.
+/// Whether the file with the name, written with the bytes, is read as expected.
 fn is_read(
     rt: &HostRuntime,
     name: &str,
@@ -219,7 +220,7 @@ fn writes_to_standard_output(rt: HostRuntime) -> Result<(), Fail> {
     Ok(())
 }
 
-/// A standard output that was closed.
+/// A closed standard output.
 struct Closed;
 
 impl Print for Closed {

@@ -1,10 +1,10 @@
-//! Words of the command line: rows of them, each with its form.
+//! Arguments of the command line: rows of them, each with its subcommand.
 
 use command_words::{Form, read_words};
 use std::alloc::{AllocError, Global};
 use std::test::Fail;
 
-/// The words of a row, with a bar between two.
+/// The arguments of a row, with a bar between two.
 fn words(alloc: Global, row: &str) -> Result<Vec<String>, AllocError> {
     let mut words = Vec::new(alloc);
     for text in row.split('|') {
@@ -13,7 +13,7 @@ fn words(alloc: Global, row: &str) -> Result<Vec<String>, AllocError> {
     Ok(words)
 }
 
-/// Whether the words are read as the form, or as none.
+/// Whether the arguments are read as the subcommand, or as none.
 fn are_read(alloc: Global, words: Vec<String>, form: Option<Form<'_>>) -> Result<bool, AllocError> {
     match read_words(alloc, &words) {
         Ok(read) => Ok(read == form),
@@ -21,7 +21,7 @@ fn are_read(alloc: Global, words: Vec<String>, form: Option<Form<'_>>) -> Result
     }
 }
 
-/// Whether the row is read as the form, or as none.
+/// Whether the row is read as the subcommand, or as none.
 fn is_read(alloc: Global, row: &str, form: Option<Form<'_>>) -> Result<bool, AllocError> {
     are_read(alloc, words(alloc, row)?, form)
 }

@@ -1,4 +1,4 @@
-//! The steps behind and the steps ahead, in two rings.
+//! The past steps and the future steps, in two rings.
 ghost use Rattle.std.specs.Borrow.{sem};
 ghost use Rattle.std.specs.Option.{option_copied_mut};
 ghost use Rattle.std.specs.Prelude.{◌≡◌, ◌∷◌, [], take, slice_get, option_copied, IfOk};
@@ -8,18 +8,18 @@ use circular_buffer::HeapCircularBuffer;
 use std::alloc::{AllocError, Global};
 use std::marker::Model;
 
-/// How many steps are kept, behind and ahead together.
+/// The greatest number of steps that are kept, past and future together.
 const MOST_STEPS: usize = 100;
 
-/// The history: the steps behind, the latest first, and the steps ahead, the next first.
+/// The history: the past steps, the latest first, and the future (undone) steps, the next first.
 ///
-/// There are at most 100 of both together, and each ring has room for as many, so that no step that is kept
-/// already is ever lost by going back and forth. Only `new` takes memory, and only `new` can fail.
+/// There are at most 100 of both together, and each ring has room for 100, so that going back and
+/// forth never loses a step that is kept. Only `new` takes memory, and only `new` can fail.
 #[derive(Drop)]
 pub struct UndoLog<C: Drop> {
-    // The latest stands in front.
+    // The latest comes first.
     past: HeapCircularBuffer<Step<C>>,
-    // The next stands in front.
+    // The next comes first.
     future: HeapCircularBuffer<Step<C>>,
 }
 
@@ -39,8 +39,8 @@ impl<C: Drop> UndoLog<C> {
     ghost use Rattle.undo_log.specs.Lending.{LendsBack, LendsForth};
     ghost use Rattle.undo_log.specs.Log.{most_steps};
 
-    /// A history without steps, with room for as many as it keeps. Its only error is want of memory, and no
-    /// later call takes memory.
+    /// A history without steps, with room for 100. The only error is out of memory, and no later
+    /// call takes memory.
     pub fn new(alloc: Global) -> Result<UndoLog<C>, AllocError>
         ensures past { IfOk result (λ l. l.past ≡ []) }
         ensures future { IfOk result (λ l. l.future ≡ []) }
@@ -51,22 +51,22 @@ impl<C: Drop> UndoLog<C> {
         })
     }
 
-    /// The latest step behind, if there is one.
+    /// The latest past step, if there is one.
     pub fn past_step(&self) -> Option<&Step<C>>
         ensures { option_copied result ≡ slice_get self.now.past 0 }
     {
         self.past.front()
     }
 
-    /// The next step ahead, if there is one.
+    /// The next future step, if there is one.
     pub fn future_step(&self) -> Option<&Step<C>>
         ensures { option_copied result ≡ slice_get self.now.future 0 }
     {
         self.future.front()
     }
 
-    /// Puts a step behind, as the latest, and drops those ahead. Hands the oldest back exactly where 100 were
-    /// behind already.
+    /// Adds a step to the past, as the latest, and drops all future steps. Returns the oldest past
+    /// step exactly if there were already 100.
     pub fn push(&mut self, step: Step<C>) -> Option<Step<C>>
         ensures past { self.new.past ≡ take most_steps (step ∷ self.old.past) }
         ensures future { self.new.future ≡ [] }
@@ -76,8 +76,8 @@ impl<C: Drop> UndoLog<C> {
         self.past.push_front(step)
     }
 
-    /// Moves the latest step behind to the front of those ahead, and lends it there. Where none is behind it
-    /// answers none, and all stays as it was.
+    /// Moves the latest past step to the front of the future, and lends it there. If there is no
+    /// past step it returns `None`, and everything stays as it was.
     pub fn go_back(&mut self) -> Option<&mut Step<C>>
         ensures* writes_back { sem 𝓛 (LendsBack C.row self.entry result) }
         ensures value { option_copied_mut result ≡ slice_get self.old.past 0 }
@@ -87,8 +87,8 @@ impl<C: Drop> UndoLog<C> {
         self.future.get_mut(0)
     }
 
-    /// Moves the next step ahead to the front of those behind, and lends it there. Where none is ahead it
-    /// answers none, and all stays as it was.
+    /// Moves the next future step to the front of the past, and lends it there. If there is no
+    /// future step it returns `None`, and everything stays as it was.
     pub fn go_forth(&mut self) -> Option<&mut Step<C>>
         ensures* writes_back { sem 𝓛 (LendsForth C.row self.entry result) }
         ensures value { option_copied_mut result ≡ slice_get self.old.future 0 }

@@ -2,12 +2,12 @@
 
 use scene_model::{Edits, Inverses};
 
-/// A transaction that was committed, with a value of the caller's that is kept with it.
+/// A committed transaction, with a value of the caller that is kept with it.
 #[derive(Drop)]
 pub struct Step<C: Drop> {
-    /// What takes the transaction back, in the order of its edits.
+    /// The inverses of the transaction's edits, in the order of the edits.
     pub back: Inverses,
-    /// The edits that do it again, in order.
+    /// The edits that redo the transaction, in order.
     pub forth: Edits,
     pub changes: C,
 }

@@ -16,7 +16,7 @@ module _ {X : Type 0} (p : X → Bool) where
   nothing (x ∷ xs) h =
       ap (λ b. cond b (x ∷ filter p xs) (filter p xs)) (h zero x (omega arith)) ∙ nothing xs (λ k d l. h (suc k) d (omega arith))
 
-  -- what passes stands behind a front where nothing does
+  -- the elements that pass come after a beginning in which none passes
   pub filter_behind : (xs : List X) (n : ℕ) → AllWithin (λ x. p x ≡ false) xs 0 n → filter p (drop n xs) ≡ filter p xs
   filter_behind xs zero h = refl
   filter_behind [] (suc n) h = refl
@@ -46,14 +46,14 @@ count_append p (x ∷ xs) ys =
     let g = count_cons p x (xs ++ ys) in
     omega arith
 
--- two tests that agree on each element pass as many
+-- the same number of elements passes two tests that agree on each element
 pub count_agree : {X : Type 0} (p q : X → Bool) (xs : List X) → All (λ x. p x ≡ q x) xs → count_by p xs ≡ count_by q xs
 count_agree p q [] h = refl
 count_agree p q (x ∷ xs) h =
     count_cons p x xs ∙ ap (λ b. cond b 1 0 + count_by p xs) (h zero x (omega arith))
     ∙ ap (λ n. cond (q x) 1 0 + n) (count_agree p q xs (λ k d l. h (suc k) d (omega arith))) ∙ sym (count_cons q x xs)
 
--- the pairs of a list with one more element behind it
+-- the pairs of a list with one more element after it
 pub pairs_push : {X : Type 0} (t : X → X → Bool) (xs : List X) (y : X) → pairs_by t (xs ++ y ∷ []) ≡ pairs_by t xs + count_by (λ x. t x y) xs
 pairs_push t [] y = refl
 pairs_push t (x ∷ xs) y =
@@ -106,7 +106,7 @@ coming_front xs ys stay =
     let g = sum_by-append (λ l. count_by (meets l) stay) xs ys in
     omega arith
 
--- no more crossings come with a front of the lines
+-- the first of the lines add at most the crossings of all
 pub coming_part : (new stay : List Line) (i : ℕ) → coming (take i new) stay ≤ coming new stay
 coming_part new stay i = subst (λ ls. coming (take i new) stay ≤ coming ls stay) (take-append-drop i new) (coming_front (take i new) (drop i new) stay)
 

@@ -1,4 +1,4 @@
--- A line comes to have its crossings, one by one.
+-- A line gets its crossings, one by one.
 use Rattle.std.proofs.Common.{◌≡◌, ◌⊎◌, inl, inr, ℕ, zero, suc, ◌+◌, ◌-◌, ◌^◌, ◌<◌, ◌≤◌, min, Bool, true, false, cond, List, [], ◌∷◌, ◌++◌, length, get_or, take, None, Some, refl, sym, ap, subst, ◌∙◌, arith, append-nil}
 use Rattle.std.specs.Prelude.{Contains, count_by, filter}
 use Rattle.std.specs.FinMap.{get, insert, len}
@@ -73,7 +73,7 @@ only_one x y h = by h.0 h.1 h.2
 pub the_one : {X : Type 0} (x : X) → Contains (x ∷ []) x
 the_one x = (0, omega arith, refl)
 
--- the crossing with one line is put in
+-- the crossing with one line is added
 pub crossed_one : (a b : Arena) (id other_id c : ℕ) (way : Way) (pair : Pair) (other : Line) → pair ≡ pair_along way id other_id → IsArena a → get a.lines other_id ≡ Some other → get a.crossings c ≡ None → 0 < a.spare_crossings →
     b ≡ record a { crossings = insert a.crossings c pair; spare_crossings = a.spare_crossings - 1; written = counted_by 1 a.written } → IsCrossed a b id way (other ∷ [])
 crossed_one a b id other_id c way pair other this arena is free room after =

@@ -1,4 +1,4 @@
--- Lines of an arena, and what maps hold behind a put.
+-- Lines of an arena, and the contents of maps after a put.
 use Rattle.std.proofs.Common.{◌≡◌, ◌⊎◌, inl, inr, ℕ, ℤ, ◌+◌, ◌≤ℤ◌, Bool, true, false, not, ◌&&◌, cond, Option, Some, None, is_some, refl, sym, ap, ◌∙◌, arith}
 use Rattle.std.specs.Prelude.{int_lt}
 use Rattle.std.specs.Ordering.{nat_cmp}
@@ -21,7 +21,7 @@ same_some x y e = cc
 pub not_none : {X : Type 0} (x : X) → ◌≡◌ {A = Option X} None (Some x) → ⊥
 not_none x e = cc
 
--- what is in a map behind a put was put in or was there
+-- what is in a map after a put was put in or was there
 pub in_put : {X : Type 0} (m : FinMap nat_cmp X) (id q : ℕ) (new x : X) → get (insert m id new) q ≡ Some x → ((q ≡ id) × (x ≡ new)) ⊎ (get m q ≡ Some x)
 in_put {X} m id q new x is =
     let law = get-insert nat_cmp_total m id new q in

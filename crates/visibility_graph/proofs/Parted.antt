@@ -36,7 +36,7 @@ behind_by Vertical Horizontal l m e = beyond l m e
 behind_by Horizontal Vertical l m e = beyond l m e
 behind_by Horizontal Horizontal l m e = refl
 
--- nor does what stands behind them
+-- nor does what comes after them
 pub not_met_behind : (l m : Line) → sorted_out l.way m.way (not (int_lt l.hi m.at)) ≡ false → meets l m ≡ false
 not_met_behind l m e = behind_by l.way m.way l m e
 

@@ -1,4 +1,4 @@
--- What it takes to put lines into an arena, and what is there then.
+-- The conditions for putting lines into an arena, and the contents of the arena after it.
 use Rattle.std.specs.Prelude.{◌≡◌, ◌↔◌, ◌⊎◌, ℕ, ◌+◌, ◌≤◌, ◌≤ℤ◌, Some, List, length, Contains, All}
 use Rattle.std.specs.FinMap.{get, len}
 use Rattle.plane_geom.specs.declared.point.Point.{Point}
@@ -16,7 +16,7 @@ use Rattle.line_arena.specs.Count.{counted_by}
 abbrev pub AreLines : Arena → List Line → Type 0
 AreLines a ls = (l : Line) → HasLine a l ↔ Contains ls l
 
--- no line stands in both lists
+-- no line is in both lists
 abbrev pub AreStrange : List Line → List Line → Type 0
 AreStrange ls ms = (l : Line) → Contains ls l → Contains ms l → ⊥
 
@@ -36,7 +36,7 @@ pub record CanPut (a : Arena) (new stay : List Line) : Type 0 where
   pub room_for_lines : length new ≤ a.spare_lines
   pub room_for_crossings : coming new stay ≤ a.spare_crossings
 
--- lines came, and with them so many crossings: all that are wanting
+-- the lines were added, with this number of crossings, so that none is missing
 pub record ArePut (old new : Arena) (lines : List Line) (crossings : ℕ) : Type 0 where
   pub stands : (l : Line) → HasLine new l ↔ (HasLine old l ⊎ Contains lines l)
   pub complete : IsComplete new
@@ -63,7 +63,7 @@ pub record IsWithOneOf (a : Arena) (id : ℕ) (way : Way) (others : List Line) (
   pub is : get a.lines other_id ≡ Some other
   pub pair_is : pair ≡ pair_along way id other_id
 
--- the line under the id, which runs this way, came to have a crossing with each of the others
+-- the line under the id, which runs this way, has a crossing with each of the others now
 pub record IsCrossed (old new : Arena) (id : ℕ) (way : Way) (others : List Line) : Type 0 where
   pub lines : new.lines ≡ old.lines
   pub stay : (c : ℕ) (p : Pair) → get old.crossings c ≡ Some p → get new.crossings c ≡ Some p

@@ -1,4 +1,4 @@
--- What a graph is seen as, which lines meet, and what it takes to put lines into an arena.
+-- The model of a graph, which lines meet, and the conditions for putting lines into an arena.
 pub mod Drawing
 pub mod Meeting
 pub mod Fill

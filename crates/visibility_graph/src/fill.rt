@@ -12,7 +12,8 @@ use crate::meeting::{beside, is_reached};
 use line_arena::{LineArena, LineId};
 use plane_geom::{Line, Way};
 
-/// Puts `new` lines beside those that stay, which are all lines of the arena, with all crossings that they have.
+/// Adds the `new` lines to those that stay, which are all lines of the arena, with all their
+/// crossings.
 ///
 /// Takes no memory.
 pub fn put_lines(arena: &mut LineArena, new: &[Line], stay: &[Line])
@@ -26,7 +27,7 @@ pub fn put_lines(arena: &mut LineArena, new: &[Line], stay: &[Line])
     }
 }
 
-/// Puts a line and its crossings with the lines that stay and those that were put before it.
+/// Adds a line and its crossings with the lines that stay and with those that were added before it.
 fn put_crossed(arena: &mut LineArena, line: &Line, stay: &[Line], before: &[Line])
     requires lines { AreLines arena.old (stay.now ++ before.now) }
     requires complete { IsComplete arena.old }
@@ -45,7 +46,7 @@ fn put_crossed(arena: &mut LineArena, line: &Line, stay: &[Line], before: &[Line
     cross(arena, id, line, before);
 }
 
-/// Puts the crossings of the line, which stands under the id, with those of the others that it meets.
+/// Puts the crossings of the line, which has the id, with those of the others that it meets.
 fn cross(arena: &mut LineArena, id: LineId, line: &Line, others: &[Line])
     requires ordered { AreOrdered others.now }
     requires there { map.get arena.old.lines id ≡ Some line.now }
@@ -66,9 +67,10 @@ fn cross(arena: &mut LineArena, id: LineId, line: &Line, others: &[Line])
     }
 }
 
-/// Puts the crossing of the line, which stands under the id, with one that it meets, and tells the place of that one.
+/// Puts the crossing of the line, which has the id, with one that it meets, and returns the place
+/// of that one.
 ///
-/// Takes constant time to find it where it stands near: at the given place among the lines of the arena.
+/// Takes constant time to find it at the place `near` among the lines of the arena.
 fn put_meeting(arena: &mut LineArena, id: LineId, line: &Line, other: &Line, near: usize) -> usize
     requires there { map.get arena.old.lines id ≡ Some line.now }
     requires other_there { HasLine arena.old other.now }

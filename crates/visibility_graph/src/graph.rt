@@ -1,4 +1,4 @@
-//! A floor together with the arena that stands for it.
+//! A floor together with the arena that represents it.
 ghost use Rattle.std.specs.Prelude.{◌≡◌, ◌+◌, ◌≤ℤ◌, [], All, Contains, IfOk};
 ghost use Rattle.std.specs.FinMap.{len};
 ghost use Rattle.plane_geom.specs.Floor.{IsFloor};
@@ -21,7 +21,7 @@ pub struct Graph {
     arena: LineArena,
 }
 
-/// The floor and the arena of a graph by themselves.
+/// The floor and the arena of a graph, separately.
 #[derive(Drop)]
 pub struct GraphParts {
     pub arena: LineArena,
@@ -48,7 +48,7 @@ impl Model for Graph {
 impl Graph {
     /// The graph of the floor. `written` of its arena is the number of its lines and crossings.
     ///
-    /// The only error is want of memory.
+    /// The only error is out of memory.
     pub fn build(alloc: Global, floor: &Floor) -> Result<Graph, AllocError>
         requires floor { IsFloor floor.now }
         ensures floor { IfOk result (λ g. g.floor ≡ floor.now) }
@@ -82,14 +82,14 @@ impl Graph {
         &self.arena
     }
 
-    /// The floor for which the arena stands.
+    /// The floor that the arena represents.
     pub fn floor(&self) -> &Floor
         ensures { result.now ≡ self.now.floor }
     {
         &self.floor
     }
 
-    /// The floor and the arena by themselves. Takes no memory.
+    /// The floor and the arena, separately. Takes no memory.
     pub fn into_parts(self) -> GraphParts
         ensures floor { result.floor ≡ self.floor }
         ensures arena { result.arena ≡ self.arena }
@@ -101,7 +101,7 @@ impl Graph {
         }
     }
 
-    /// The graph of a floor and of an arena that stands for it. Takes no memory.
+    /// The graph of a floor and an arena that represents it. Takes no memory.
     pub fn from_parts(parts: GraphParts) -> Graph
         requires { StandsFor parts.floor parts.arena }
         ensures floor { result.floor ≡ parts.floor }
@@ -124,7 +124,7 @@ fn filled(alloc: Global, lines: &[Line]) -> Result<LineArena, AllocError>
     ensures written { IfOk result (λ a. a.written ≡ len a.lines + len a.crossings) }
 {
     let crossings = crossings_of(lines, &[])?;
-    // The number of writes is to fit `written`.
+    // The number of writes has to fit `written`.
     added(lines.len(), crossings)?;
     let mut arena = LineArena::new(alloc);
     arena.reserve(lines.len(), crossings)?;

@@ -1,4 +1,4 @@
-//! Which lines meet, and how many.
+//! Which lines meet, and the numbers of crossings.
 ghost use Rattle.std.specs.Prelude.{◌≡◌, ◌+◌, ◌≤◌, true, false, not, int_lt, filter, count_by, length, All, IsTrue, IfOk, OnOk};
 ghost use Rattle.std.specs.List.Sorted.{IsPartitionPoint};
 ghost use Rattle.plane_geom.specs.declared.point.Way.{Way};
@@ -8,9 +8,10 @@ ghost use Rattle.visibility_graph.specs.Meeting.{coming, meets, reaches, sorted_
 use plane_geom::{Line, Way};
 use std::alloc::AllocError;
 
-/// How many crossings come where `new` lines are put beside those that stay.
+/// The number of crossings that are added when `new` lines are put beside those that stay.
 ///
-/// Both lists are in order. The only error is want of memory: what no `usize` counts fits no memory.
+/// Both lists are in order. The only error is out of memory: it also stands for a number that no
+/// `usize` holds.
 pub fn crossings_of(new: &[Line], stay: &[Line]) -> Result<usize, AllocError>
     requires new_ordered { AreOrdered new.now }
     requires stay_ordered { AreOrdered stay.now }
@@ -25,7 +26,7 @@ pub fn crossings_of(new: &[Line], stay: &[Line]) -> Result<usize, AllocError>
     Ok(count)
 }
 
-/// The sum, or want of memory where no `usize` holds it.
+/// The sum, or out of memory where no `usize` holds it.
 pub(crate) fn added(a: usize, b: usize) -> Result<usize, AllocError>
     ensures sum { IfOk result (λ n. n ≡ a + b) }
     ensures within { OnOk result (a + b ≤ usize.MAX) }
@@ -33,7 +34,7 @@ pub(crate) fn added(a: usize, b: usize) -> Result<usize, AllocError>
     a.checked_add(b).ok_or(AllocError)
 }
 
-/// How many of the others the line meets.
+/// The number of the others that the line meets.
 fn count_met(line: &Line, others: &[Line]) -> usize
     requires { AreOrdered others.now }
     ensures { result ≡ count_by (meets line.now) others.now }
@@ -41,22 +42,23 @@ fn count_met(line: &Line, others: &[Line]) -> usize
     let (_, here) = beside(line, others);
     let mut count = 0;
     for other in here {
-        // Without a branch, since which lines are reached follows no pattern.
+        // Without a branch, since there is no pattern in which lines are reached.
         count += usize::from(is_reached(line, other));
     }
     count
 }
 
-/// Whether the other runs past the line's coordinate, or ends there.
+/// Whether the other line runs past the coordinate of the line, or ends there.
 pub(crate) fn is_reached(line: &Line, other: &Line) -> bool
     ensures { result ≡ reaches other.now line.now.at }
 {
     (other.lo <= line.at) & (line.at <= other.hi)
 }
 
-/// Those of the others that run across the line's whole line between its ends, and how many stand before them.
+/// The part of the others that run across at coordinates between the line's ends, and the number
+/// of lines before that part.
 ///
-/// The line meets no more of the others than of these, and of these exactly those that reach its whole line.
+/// The line meets no others than these, and of these exactly those that reach its whole line.
 pub(crate) fn beside<'a>(line: &Line, others: &'a [Line]) -> (usize, &'a [Line])
     requires { AreOrdered others.now }
     ensures met { filter (meets line.now) result.1.now ≡ filter (meets line.now) others.now }
@@ -72,7 +74,7 @@ pub(crate) fn beside<'a>(line: &Line, others: &'a [Line]) -> (usize, &'a [Line])
     (before, here)
 }
 
-/// Whether the line and all others are vertical, which the last of them tells.
+/// Whether the line and all others are vertical; the last of them decides.
 fn are_all_vertical(line: &Line, others: &[Line]) -> bool
     requires { AreOrdered others.now }
     ensures { IsTrue result → All (λ m. meets line.now m ≡ false) others.now }
@@ -83,7 +85,7 @@ fn are_all_vertical(line: &Line, others: &[Line]) -> bool
     }
 }
 
-/// How many of the others stand before all those that the line may meet.
+/// The number of others that come before all those that the line may meet.
 fn count_before(line: &Line, others: &[Line]) -> usize
     requires { AreOrdered others.now }
     ensures bound { result ≤ length others.now }
@@ -93,7 +95,7 @@ fn count_before(line: &Line, others: &[Line]) -> usize
     others.partition_point(|other| sorts_out(way, other.way, other.at < lo))
 }
 
-/// How many of the others stand before all those that run across beyond the line's end.
+/// The number of others that come before all those across beyond the line's end.
 fn count_upto_end(line: &Line, others: &[Line]) -> usize
     requires { AreOrdered others.now }
     ensures bound { result ≤ length others.now }
@@ -103,9 +105,10 @@ fn count_upto_end(line: &Line, others: &[Line]) -> usize
     others.partition_point(|other| sorts_out(way, other.way, other.at <= hi))
 }
 
-/// Whether a line of the other way stands before those across a line of this way; `rest` tells lines across.
+/// Whether a line of the way `other` comes before the lines across a line of the way `way`; `rest`
+/// decides for lines across.
 ///
-/// Vertical lines stand first.
+/// Vertical lines come first.
 fn sorts_out(way: Way, other: Way, rest: bool) -> bool
     ensures { result ≡ sorted_out way other rest }
 {

@@ -1,4 +1,4 @@
--- Small cases at coordinates of a few thousandths: what the definitions say, and that a premise of the laws is needed.
+-- Small cases at coordinates of a few thousandths: the meaning of the definitions, and that a premise of the laws is needed.
 use Rattle.std.proofs.Common.{◌≡◌, ℤ, pos, [], ◌∷◌, get_or, All, refl, sym, ap, subst, ◌∙◌, arith}
 use Rattle.std.proofs.lemmas.Int.{ints}
 use Rattle.std.proofs.lemmas.List.Elements.{All-cons, All-nil}

@@ -43,13 +43,13 @@ run_line p North n = record { way = Vertical; at = p.x; lo = p.y -ℤ pos n; hi 
 abbrev pub IsHeld : List Solid → List Point → Line → Type 0
 IsHeld solids via l = Any (λ s. SharesSide l s.rect) solids ⊎ Any (Holds l) via
 
--- each run of the walk that begins behind its point number `from` and ends before its point number `to` is held
+-- each run of the walk that begins after its point number `from` and ends before its point number `to` is held
 abbrev pub AreRunsHeld : List Solid → List Point → Walk → ℕ → ℕ → Type 0
 AreRunsHeld solids via w from to =
     (k n : ℕ) (d : Dir) → from ≤ k → 0 < n → k + 1 + n < to → take n (drop (k + 1) w.steps) ≡ replicate n d →
     0 < turn (step_at w k) d → 0 < turn d (step_at w (k + 1 + n)) → IsHeld solids via (run_line (point_at w (k + 1)) d n)
 
--- where the walk doubles back between these two of its points stands a checkpoint
+-- where the walk doubles back between these two of its points, there is a checkpoint
 abbrev pub DoublesBackAtCheckpoints : List Point → Walk → ℕ → ℕ → Type 0
 DoublesBackAtCheckpoints via w from to =
     (k : ℕ) → from ≤ k → k + 1 < to → turn (step_at w k) (step_at w (k + 1)) ≡ 2 → Contains via (point_at w (k + 1))

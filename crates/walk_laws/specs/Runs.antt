@@ -14,12 +14,12 @@ share_of_way Horizontal West = 1
 share_of_way Vertical North = 1
 share_of_way _ _ = 0
 
--- how many runs of the way begin among the steps that follow a step in the direction
+-- the number of runs of the way that begin among the steps that follow a step in the direction
 abbrev pub runs_of_way_after : Way → Dir → List Dir → ℕ
 runs_of_way_after way d [] = 0
 runs_of_way_after way d (e ∷ es) = (if turn d e == 0 then 0 else share_of_way way e) + runs_of_way_after way e es
 
--- the runs of the way in a list of steps
+-- the number of runs of the way in a list of steps
 abbrev pub runs_of_way : Way → List Dir → ℕ
 runs_of_way way [] = 0
 runs_of_way way (d ∷ ds) = share_of_way way d + runs_of_way_after way d ds

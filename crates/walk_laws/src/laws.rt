@@ -37,22 +37,23 @@ pub fn one_run_per_free_piece()
         ≡ replicate (distance (point_at t.walk i) (point_at t.walk j)) (heading (point_at t.walk i) (point_at t.walk j)) }
 {}
 
-/// A first walk has at most one run on each kept line for each leg, and those of the two stubs.
+/// A first walk has at most one run on each kept line for each leg, in addition to the runs of the
+/// two stubs.
 pub fn first_walks_have_few_runs()
     ensures { (floor : Floor) (task : Task) (t : Triple) (lines : List Line) → IsTask task → IsFloorOf floor task →
         IsFirst floor.solids task t → All (IsKept floor) lines → ((l : Line) → IsKept floor l → Contains lines l) →
         runs t.walk.steps ≤ 2 + (length task.via + 1) * length lines }
 {}
 
-/// Each run of a first walk that begins behind the start port and ends before the end port shares a point
-/// with a closed side of a solid on its whole line, or holds a checkpoint.
+/// Each run of a first walk that begins after the start port and ends before the end port shares a
+/// point with a closed side of a solid on its whole line, or holds a checkpoint.
 pub fn runs_are_held()
     ensures { (solids : List Solid) (task : Task) (t : Triple) → IsTask task → (first : IsFirst solids task t) →
         AreRunsHeld solids task.via t.walk (stub_length first.legal.start)
         (length t.walk.steps - stub_length first.legal.end) }
 {}
 
-/// Where a first walk doubles back between its ports stands a checkpoint.
+/// Where a first walk doubles back between its ports, there is a checkpoint.
 pub fn doublings_back_are_at_checkpoints()
     ensures { (solids : List Solid) (task : Task) (t : Triple) → IsTask task → (first : IsFirst solids task t) →
         DoublesBackAtCheckpoints task.via t.walk (stub_length first.legal.start)

@@ -1,4 +1,5 @@
-//! How many runs a first walk has, what it costs at most, and that its route is a line on the sheet.
+//! The number of runs of a first walk, its greatest cost, and that its route is a line on the
+//! sheet.
 ghost use Rattle.std.specs.Prelude.{◌≡◌, ℕ, ◌+◌, ◌*◌, ◌^◌, ◌<◌, ◌≤◌, List, length, All, Contains};
 ghost use Rattle.plane_geom.specs.declared.floor.Floor.{Floor};
 ghost use Rattle.plane_geom.specs.declared.floor.Line.{Line};
@@ -22,7 +23,8 @@ pub fn both_ways_are_all_runs()
     ensures { (steps : List Dir) → runs_of_way Vertical steps + runs_of_way Horizontal steps ≡ runs steps }
 {}
 
-/// A first walk has at most one run of a way on each kept line of this way for each leg, and those of the two stubs.
+/// A first walk has at most one run of a way on each kept line of this way for each leg, in
+/// addition to the runs of the two stubs.
 pub fn first_walks_have_few_runs_of_a_way()
     ensures { (floor : Floor) (task : Task) (t : Triple) (way : Way) (lines : List Line) → IsTask task →
         IsFloorOf floor task → IsFirst floor.solids task t → All (IsKept floor) lines →
@@ -36,8 +38,9 @@ pub fn first_walks_stay_on_sheet()
         IsFirst floor.solids task t → (k : ℕ) → PointIsOnSheet (point_at t.walk k) }
 {}
 
-/// On a floor within the limits a first walk has at most 1,644,802 runs of each way and 3,289,602 in all,
-/// and costs less than 3 * 10^17 thousandths of a GML unit, the connection costs of its choices included.
+/// On a floor within the limits a first walk has at most 1,644,802 runs of each way and 3,289,602
+/// in all, and costs less than 3 * 10^17 thousandths of a GML unit, the connection costs of its
+/// choices included.
 pub fn first_walks_are_small()
     ensures each_way { (floor : Floor) (task : Task) (t : Triple) → IsFloor floor → IsTask task →
         IsFloorOf floor task → IsFirst floor.solids task t → (way : Way) → runs_of_way way t.walk.steps ≤ 1644802 }
@@ -47,7 +50,7 @@ pub fn first_walks_are_small()
         IsFloorOf floor task → IsFirst floor.solids task t → triple_cost task t < 3 * 10 ^ 17 }
 {}
 
-/// So the route of a first walk is a line that a call may be handed, and its cost fits.
+/// So the route of a first walk is a line that a call accepts, and its cost fits its type.
 pub fn first_routes_are_small()
     ensures orthogonal { (floor : Floor) (task : Task) (t : Triple) (r : Route) → IsFloor floor → IsTask task →
         IsFloorOf floor task → IsFirst floor.solids task t → IsRouteOf task r t → IsOrthogonal r.points }

@@ -51,7 +51,7 @@ overlapping = solid (pos 1) (negsuc 0) (negsuc 0) (pos 1) (pos 1) ∷ solid (pos
 stubs_overlap : Refuses (overlapping) ([]) (choice (pos 1) (at (pos 0) (pos 0)) East (at (pos 1) (pos 0))) (choice (pos 2) (at (pos 1) (pos 0)) West (at (pos 0) (pos 0))) (at (pos 1) (pos 0) ∷ [])
 stubs_overlap = refused refl
 
--- the way round has
+-- the way around has
 round_about : Accepts (overlapping) ([]) (choice (pos 1) (at (pos 0) (pos 0)) North (at (pos 0) (negsuc 0))) (choice (pos 2) (at (pos 1) (pos 0)) North (at (pos 1) (negsuc 0))) (at (pos 0) (negsuc 0) ∷ at (pos 1) (negsuc 0) ∷ at (pos 1) (pos 0) ∷ [])
 round_about = accepted refl
 
@@ -87,7 +87,7 @@ stub_inside = refused refl
 abbrev group : List Solid
 group = solid (pos 2) (pos 3) (negsuc 0) (pos 5) (pos 1) ∷ []
 
--- behind its port a walk may come back over the pin of a group
+-- after its port a walk may come back over the pin of a group
 back_over_pin : Accepts (group) (at (pos 0) (pos 0) ∷ []) (choice (pos 1) (at (pos 0) (pos 0)) West (at (negsuc 0) (pos 0))) (choice (pos 2) (at (pos 4) (pos 0)) West (at (pos 3) (pos 0))) (at (negsuc 0) (pos 0) ∷ at (pos 4) (pos 0) ∷ [])
 back_over_pin = accepted refl
 

@@ -1,4 +1,4 @@
--- What calls may be handed makes a floor of a task.
+-- Arguments that calls accept make a floor of a task.
 use Rattle.plane_geom.specs.declared.floor.Floor.{Floor}
 use Rattle.plane_geom.specs.Floor.{IsFloor}
 use Rattle.walk_model.specs.declared.task.Task.{Task}

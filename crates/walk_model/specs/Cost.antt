@@ -3,7 +3,7 @@ use Rattle.std.specs.Prelude.{ℕ, ◌+◌, ◌*◌, ◌==◌, List, [], ◌∷�
 use Rattle.plane_geom.specs.declared.point.Dir.{Dir}
 use Rattle.plane_geom.specs.declared.point.Dir.TheVariants.{East, South, West, North}
 
--- the bends between two consecutive steps: none where they are equal, two where the walk doubles back, else one
+-- the bends between two consecutive steps: none if they are equal, two if the walk doubles back, otherwise one
 abbrev pub turn : Dir → Dir → ℕ
 turn East East = 0
 turn South South = 0
@@ -25,16 +25,16 @@ abbrev pub bends : List Dir → ℕ
 bends [] = 0
 bends (d ∷ ds) = bends_after d ds
 
--- what a walk with these steps costs: its length, and the penalty for each bend
+-- the cost of a walk with these steps: its length, and the penalty for each bend
 abbrev pub walk_cost : ℕ → List Dir → ℕ
 walk_cost penalty steps = length steps + penalty * bends steps
 
--- how many runs begin among the steps that follow a step in the direction
+-- the number of runs that begin among the steps that follow a step in the direction
 abbrev pub runs_after : Dir → List Dir → ℕ
 runs_after d [] = 0
 runs_after d (e ∷ es) = (if turn d e == 0 then 0 else 1) + runs_after e es
 
--- the runs of a list of steps: its longest blocks of equal steps
+-- the number of runs of a list of steps: its longest blocks of equal steps
 abbrev pub runs : List Dir → ℕ
 runs [] = 0
 runs (d ∷ ds) = 1 + runs_after d ds

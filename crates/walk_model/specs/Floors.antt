@@ -1,4 +1,4 @@
--- What a floor and the solids on it have to do with a task.
+-- The relation of a task to a floor and the solids on it.
 use Rattle.std.specs.Prelude.{◌≡◌, List, All, Contains}
 use Rattle.plane_geom.specs.declared.floor.Floor.{Floor}
 use Rattle.plane_geom.specs.declared.rect.Solid.{Solid}
@@ -11,7 +11,7 @@ use Rattle.walk_model.specs.Legal.{IsTask}
 abbrev pub IsOutside : List Solid → Choice → Type 0
 IsOutside solids c = All (λ s. s.node ≡ c.node → HasInside s.rect c.port → ⊥) solids
 
--- a task that a call may be handed beside these solids: no port lies inside a solid of its own node
+-- a task that calls accept with these solids: no port lies inside a solid of its own node
 pub record IsTaskOn (solids : List Solid) (task : Task) : Type 0 where
   pub is_task : IsTask task
   pub starts : All (IsOutside solids) task.starts

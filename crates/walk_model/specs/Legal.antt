@@ -19,7 +19,7 @@ pub record Arrives (w : Walk) (c : Choice) : Type 0 where
   pub pin : end_of w ≡ c.pin
   pub stub : drop (length w.steps - stub_length c) w.steps ≡ replicate (stub_length c) (opposite c.dir)
 
--- the steps from number `from` on and before number `to` meet no solid, but for those of the node that may be met
+-- the steps from number `from` on and before number `to` meet no solid, except those of the node that may be met
 abbrev pub IsFree : List Solid → Option ℤ → Walk → ℕ → ℕ → Type 0
 IsFree solids may w from to =
     (k : ℕ) → from ≤ k → k < to → All (λ s. Some s.node ≢ may → MeetsAt s.rect w k → ⊥) solids
@@ -29,7 +29,7 @@ abbrev pub Passes : Walk → ℕ → ℕ → List Point → Type 0
 Passes w from to [] = Unit {0}
 Passes w from to (c ∷ cs) = (i : ℕ) × (from ≤ i) × (i ≤ to) × (point_at w i ≡ c) × Passes w i to cs
 
--- of the checkpoints the walk passes the first `count` in order there, and not one more
+-- of the checkpoints the walk passes exactly the first `count` in order there
 pub record PassesMost (w : Walk) (from to : ℕ) (via : List Point) (count : ℕ) : Type 0 where
   pub at_most : count ≤ length via
   pub passed : Passes w from to (take count via)
@@ -45,11 +45,11 @@ pub record IsLegal (solids : List Solid) (via : List Point) (s : Choice) (w : Wa
   pub end_stub : IsFree solids (Some e.node) w (length w.steps - stub_length e) (length w.steps)
   pub checkpoints : Passes w (stub_length s) (length w.steps - stub_length e) via
 
--- what the walk costs with these choices
+-- the cost of the walk with these choices
 abbrev pub cost_with : ℕ → Choice → Walk → Choice → ℕ
 cost_with penalty s w e = walk_cost penalty w.steps + s.cost + e.cost
 
--- a task that a call may be handed: at most 1024 choices of each end, at most 4 checkpoints, and a bend costs at most 10^9
+-- a task that calls accept: at most 1024 choices of each end, at most 4 checkpoints, and a bend costs at most 10^9
 pub record IsTask (t : Task) : Type 0 where
   pub starts : AreChoices t.starts
   pub ends : AreChoices t.ends

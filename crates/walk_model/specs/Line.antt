@@ -24,12 +24,12 @@ abbrev pub IsStraightLine : List Point → Type 0
 IsStraightLine [] = Unit {0}
 IsStraightLine (p ∷ qs) = AreStraight p qs
 
--- points that a call may be handed as the corners of a line: on the sheet, and at most 4 * 10^7
+-- points that calls accept as the corners of a line: on the sheet, and at most 4 * 10^7
 pub record IsPolyline (points : List Point) : Type 0 where
   pub within : All PointIsOnSheet points
   pub few : length points ≤ 40000000
 
--- such points with vertical and horizontal segments alone
+-- such points, with only vertical and horizontal segments
 pub record IsOrthogonal (points : List Point) : Type 0 where
   pub straight : IsStraightLine points
   pub corners : IsPolyline points

@@ -35,7 +35,7 @@ pub record IsLegalTriple (solids : List Solid) (task : Task) (t : Triple) : Type
 abbrev pub pin_cost : List Choice → ℕ → ℕ
 pin_cost choices place = unwrap_or (option_map (λ c. c.cost) (slice_get choices place)) 0
 
--- what the walk costs with its choices
+-- the cost of the walk with its choices
 abbrev pub triple_cost : Task → Triple → ℕ
 triple_cost task t = walk_cost task.penalty t.walk.steps + pin_cost task.starts t.start + pin_cost task.ends t.end
 
@@ -50,7 +50,7 @@ rank North = 3
 abbrev pub dir_cmp : Dir → Dir → Ordering
 dir_cmp d e = nat_cmp (rank d) (rank e)
 
--- the order of walks: by cost, number of runs, lean, start choice, steps, where a prefix stands first, and end choice
+-- the order of walks: by cost, number of runs, sum of run coordinates (lean), start choice, steps, where a prefix comes first, and end choice
 abbrev pub compare_triples : Task → Triple → Triple → Ordering
 compare_triples task a b =
     ordering_then (nat_cmp (triple_cost task a) (triple_cost task b))
@@ -60,11 +60,11 @@ compare_triples task a b =
     (ordering_then (slice_cmp dir_cmp a.walk.steps b.walk.steps)
     (nat_cmp a.end b.end)))))
 
--- the one stands before the other
+-- the first comes before the second
 abbrev pub IsBefore : Task → Triple → Triple → Type 0
 IsBefore task a b = compare_triples task a b ≡ Less
 
--- the walk is legal with its choices, and no legal one stands before it
+-- the walk is legal with its choices, and no legal one comes before it
 pub record IsFirst (solids : List Solid) (task : Task) (t : Triple) : Type 0 where
   pub legal : IsLegalTriple solids task t
   pub first : (other : Triple) → IsLegalTriple solids task other → IsBefore task other t → ⊥
@@ -81,7 +81,7 @@ pub record IsRouteOf (task : Task) (r : Route) (t : Triple) : Type 0 where
   pub end : r.end ≡ t.end
   pub cost : r.cost ≡ triple_cost task t
 
--- the order of routes by what they say of themselves: cost, number of runs, lean, start choice, steps and end choice
+-- the order of routes by their own data: cost, number of runs, sum of run coordinates (lean), start choice, steps and end choice
 abbrev pub compare_by_keys : Route → Route → Ordering
 compare_by_keys a b =
     ordering_then (nat_cmp a.cost b.cost)

@@ -12,7 +12,7 @@ pub record Walk : Type 0 where
   pub start : Point
   pub steps : List Dir
 
--- where the steps lead from the point
+-- the point to which the steps lead from the point
 abbrev pub after : Point → List Dir → Point
 after p [] = p
 after p (d ∷ ds) = after (forward d 1 p) ds

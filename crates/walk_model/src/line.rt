@@ -1,4 +1,4 @@
-//! What a line costs, and which checkpoints it passes.
+//! The cost of a line, and the checkpoints that it passes.
 ghost use Rattle.std.specs.Prelude.{◌≡◌, ℕ, ◌+◌, ◌<◌, ◌≤◌, ◌^◌, ◌↔◌, List, [], ◌∷◌, ◌++◌, take, length, replicate, All, IsTrue};
 ghost use Rattle.plane_geom.specs.Along.{across, way_of};
 ghost use Rattle.plane_geom.specs.Point.{distance, forward};
@@ -13,10 +13,11 @@ ghost use Rattle.walk_model.specs.Walk.{Walk, after, end_of, point_at, step_at, 
 use crate::stretch::Stretch;
 use plane_geom::{Dir, Point};
 
-/// What the walk along the line costs: its length, and the penalty for each bend.
+/// The cost of the walk along the line: its length, and the penalty for each bend.
 ///
-/// A turn is one bend and a doubling back is two. All in thousandths. The line has vertical and horizontal segments
-/// alone, lies on the sheet and has at most 40,000,000 points, and the penalty is at most 10^9.
+/// A turn is one bend and a doubling back is two. All in thousandths. The line has only vertical
+/// and horizontal segments, lies on the sheet and has at most 40,000,000 points, and the penalty is
+/// at most 10^9.
 pub fn cost_of(points: &[Point], penalty: u64) -> u64
     requires line { IsOrthogonal points.now }
     requires small { penalty ≤ 10 ^ 9 }
@@ -46,8 +47,8 @@ pub fn cost_of(points: &[Point], penalty: u64) -> u64
 
 /// Whether the walk along the line passes the checkpoints in order.
 ///
-/// Two checkpoints are passed at one point only where they are equal. The line is one that `cost_of` takes. A line
-/// without points passes no checkpoint.
+/// Two checkpoints are passed at one point only if they are equal. The line meets the conditions of
+/// `cost_of`. A line without points passes no checkpoint.
 pub fn passes(points: &[Point], via: &[Point]) -> bool
     requires line { IsOrthogonal points.now }
     ensures walk { (w : Walk) → Draws points.now w →
@@ -58,10 +59,11 @@ pub fn passes(points: &[Point], via: &[Point]) -> bool
     passed_between(points, 0, steps, via) == via.len()
 }
 
-/// How many of the checkpoints, from the first on, the walk along the line passes in order
-/// between its point number `from` and its point number `to`. Points of a walk count unit steps, from 0.
+/// The number of checkpoints, from the first on, that the walk along the line passes in order
+/// between its point number `from` and its point number `to`. Points of a walk are numbered by unit
+/// steps, from 0.
 ///
-/// The line is one that `cost_of` takes, and both numbers are those of points of its walk.
+/// The line meets the conditions of `cost_of`, and both numbers are those of points of its walk.
 pub fn passed_between(points: &[Point], from: u64, to: u64, via: &[Point]) -> usize
     requires line { IsOrthogonal points.now }
     requires in_order { from ≤ to }
@@ -88,8 +90,8 @@ pub fn passed_between(points: &[Point], from: u64, to: u64, via: &[Point]) -> us
     passed
 }
 
-/// Equal steps in a row lead straight on, and make one run without a bend; the walk of a straight line ends at its
-/// last corner.
+/// Equal steps in a row lead straight on, and make one run without a bend; the walk of a straight
+/// line ends at its last corner.
 pub fn straight_by_steps()
     ensures end { (p : Point) (d : Dir) (n : ℕ) → after p (replicate n d) ≡ forward d n p }
     ensures points { (p : Point) (d : Dir) (n k : ℕ) → k ≤ n →
@@ -102,12 +104,12 @@ pub fn straight_by_steps()
         end_of (walk_through p (corners ++ q ∷ [])) ≡ q }
 {}
 
-/// A walk has at least as many steps as its ends are apart.
+/// A walk has at least as many steps as the distance of its ends.
 pub fn walks_are_no_shorter()
     ensures { (w : Walk) → distance w.start (end_of w) ≤ length w.steps }
 {}
 
-/// The bends between two consecutive steps.
+/// The number of bends between two consecutive steps.
 fn turn(from: Dir, to: Dir) -> u64
     ensures { result ≡ turn from to }
 {

@@ -14,7 +14,7 @@ use crate::steps::compare_steps;
 use plane_geom::{Dir, Point};
 use std::cmp::Ordering;
 
-/// The runs of a line: how many they are, and the sum of their coordinates across.
+/// The number of runs of a line, and the sum of their coordinates across.
 #[derive(Clone, Copy)]
 struct Shape {
     runs: u64,
@@ -22,7 +22,7 @@ struct Shape {
 }
 
 impl Shape {
-    /// The shape with one run more, at the coordinate.
+    /// The shape with one more run, at the coordinate `across`.
     fn with_run(self, across: i64) -> Shape
         requires runs { self.runs < 2 ^ 63 }
         requires lean { unsigned_abs self.lean + unsigned_abs across < 2 ^ 63 }
@@ -36,16 +36,16 @@ impl Shape {
     }
 }
 
-/// Whether a step in the direction goes on the run of the last step.
+/// Whether a step in the direction `dir` continues the run of the last step.
 fn goes_on(last: Option<Dir>, dir: Dir) -> bool
     ensures { IsTrue result ↔ (last ≡ Some dir) }
 {
     last == Some(dir)
 }
 
-/// How many runs the walk along the line has: its longest blocks of equal steps.
+/// The number of runs of the walk along the line: its longest blocks of equal steps.
 ///
-/// The line is one that `cost_of` takes.
+/// The line meets the conditions of `cost_of`.
 pub fn run_count(points: &[Point]) -> u64
     requires line { IsOrthogonal points.now }
     ensures { result ≡ runs (steps_of points.now) }
@@ -77,10 +77,12 @@ fn shape_of(points: &[Point]) -> Shape
     shape
 }
 
-/// The order of two routes of one task: by cost, then by the number of runs, the lean, the start choice,
-/// the list of unit steps and the end choice. A list of steps that begins another stands before it.
+/// Compares two routes of one task: by cost, then by the number of runs, the sum of run coordinates
+/// (lean), the start choice, the list of unit steps and the end choice. A list of steps that is the
+/// beginning of another comes before it.
 ///
-/// The steps are compared run by run, and none is made. Both lines are such that `cost_of` takes.
+/// The steps are compared run by run, without building the lists of steps. Both lines meet the
+/// conditions of `cost_of`.
 pub fn compare_routes(a: &Route, b: &Route) -> Ordering
     requires a_line { IsOrthogonal a.now.points }
     requires b_line { IsOrthogonal b.now.points }
@@ -99,22 +101,22 @@ pub fn compare_routes(a: &Route, b: &Route) -> Ordering
         .then(a.end.cmp(&b.end))
 }
 
-/// Of the legal walks of a task one stands before all others, where there is a legal walk at all.
+/// Where a task has a legal walk, exactly one legal walk comes before all others.
 pub fn one_first_walk()
     ensures { (solids : List Solid) (task : Task) → HasOneFirst solids task }
 {}
 
-/// A walk with its choices has one route at most.
+/// A walk with its choices has at most one route.
 pub fn one_route()
     ensures { (task : Task) (t : Triple) (a b : Route) → IsRouteOf task a t → IsRouteOf task b t → a ≡ b }
 {}
 
-/// Each walk with its choices has a route, whose numbers need not fit a machine's.
+/// Each walk with its choices has a route, in numbers without bounds.
 pub fn some_route()
     ensures { (task : Task) (t : Triple) → (r : Route) × IsRouteOf task r t }
 {}
 
-/// A task has one answer at most.
+/// A task has at most one answer.
 pub fn one_answer()
     ensures { (solids : List Solid) (task : Task) → HasOneAnswer solids task }
 {}

@@ -1,13 +1,14 @@
-//! What is answered for a connector.
+//! The answer of a search for a connector.
 ghost use Rattle.std.specs.Prelude.{◌≡◌, IfOk};
 
 use plane_geom::Points;
 use std::alloc::{AllocError, Global};
 
-/// What is answered for a task that has a legal walk.
+/// The route of a task that has a legal walk.
 ///
-/// `start` and `end` are places in the task's `starts` and `ends`, from 0. `points` are the corners: a pin, each
-/// turn, each tip of a doubling back, and the last pin. `cost`, in thousandths, has both connection costs in it.
+/// `start` and `end` are indexes into the task's `starts` and `ends`, from 0. `points` are the
+/// corners: a pin, each turn, each tip of a doubling back, and the last pin. `cost`, in
+/// thousandths, includes both connection costs.
 #[derive(Debug, Drop)]
 pub struct Route {
     pub start: u32,
@@ -17,7 +18,7 @@ pub struct Route {
 }
 
 impl Route {
-    /// The same route once more. Its only error is want of memory.
+    /// A copy of the route. The only error is out of memory.
     pub fn copy(&self, alloc: Global) -> Result<Route, AllocError>
         ensures { IfOk result (λ r. r ≡ self.now) }
     {
@@ -30,7 +31,8 @@ impl Route {
     }
 }
 
-/// What is answered for the connector with this number; there is no route where it has no legal walk.
+/// The answer for the connector with this number; it has no route where the connector has no legal
+/// walk.
 #[derive(Debug, Drop)]
 pub struct Answer {
     pub edge: u32,
@@ -38,7 +40,7 @@ pub struct Answer {
 }
 
 impl Answer {
-    /// The same answer once more. Its only error is want of memory.
+    /// A copy of the answer. The only error is out of memory.
     pub fn copy(&self, alloc: Global) -> Result<Answer, AllocError>
         ensures { IfOk result (λ a. a ≡ self.now) }
     {
@@ -53,7 +55,7 @@ impl Answer {
     }
 }
 
-/// The line of a connector as it is written.
+/// The line of a connector as it is written to the diagram.
 #[derive(Debug, Drop)]
 pub struct WrittenRoute {
     pub edge: u32,

@@ -19,7 +19,8 @@ struct RemainingSteps<'a> {
     rest: &'a [Point],
 }
 
-/// The steps of a stretch and of a line, with those at the front as the stretch, where there are any.
+/// The steps of a stretch and of a line, with those at the front as the stretch, where there are
+/// any.
 fn steps_from<'a>(dir: Dir, stretch: u64, at: Point, rest: &'a [Point]) -> RemainingSteps<'a>
     requires within { PointIsOnSheet at }
     requires rest_within { All PointIsOnSheet rest.now }
@@ -48,7 +49,7 @@ fn steps_from<'a>(dir: Dir, stretch: u64, at: Point, rest: &'a [Point]) -> Remai
 }
 
 impl<'a> RemainingSteps<'a> {
-    /// The steps after so many of the stretch.
+    /// The steps that are left after the first `steps` of the stretch.
     fn after(self, steps: u64) -> RemainingSteps<'a>
         requires ready { IsReady self }
         requires within { steps ≤ self.stretch }
@@ -59,7 +60,7 @@ impl<'a> RemainingSteps<'a> {
     }
 }
 
-/// The order of two lists of steps.
+/// Compares two lists of steps.
 fn compare_remaining(a: RemainingSteps<'_>, b: RemainingSteps<'_>) -> Ordering
     requires a_ready { IsReady a }
     requires b_ready { IsReady b }
@@ -80,8 +81,8 @@ fn compare_remaining(a: RemainingSteps<'_>, b: RemainingSteps<'_>) -> Ordering
     }
 }
 
-/// The order of two lines by their unit steps, entry by entry in the order East, South, West, North.
-/// A line whose steps begin another's stands before it.
+/// Compares two lines by their unit steps, step by step, in the order East, South, West, North.
+/// A line whose steps are the beginning of another's comes before it.
 pub(crate) fn compare_steps(a: &[Point], b: &[Point]) -> Ordering
     requires a_within { All PointIsOnSheet a.now }
     requires b_within { All PointIsOnSheet b.now }

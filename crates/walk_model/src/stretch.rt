@@ -37,7 +37,7 @@ impl Stretch {
         }
     }
 
-    /// The number that the point has in the walk, if it lies on the stretch.
+    /// The number of the point in the walk, if it is on the stretch.
     fn number_of(&self, point: Point) -> Option<u64>
         ensures { (k : ℕ) → (result ≡ Some k) ↔ IsPointOf self.now k point }
     {
@@ -52,8 +52,8 @@ impl Stretch {
         (there == point).then_some(self.number + steps)
     }
 
-    /// How many of the checkpoints, from the first on, the stretch passes in order
-    /// between the walk's points number `from` and `to`.
+    /// The number of checkpoints, from the first on, that the stretch passes in order between the
+    /// walk's points number `from` and `to`.
     pub fn passed_between(&self, from: u64, to: u64, via: &[Point]) -> usize
         ensures at_most { result ≤ length via.now }
         ensures most { (w : Walk) → GoesAlong w self.now →

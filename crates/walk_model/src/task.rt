@@ -1,4 +1,4 @@
-//! What a connector asks of its walk.
+//! The task of a connector: what its route has to meet.
 ghost use Rattle.std.specs.Prelude.{◌≡◌, IfOk};
 
 use plane_geom::{Dir, Point, Points};
@@ -7,14 +7,15 @@ use std::marker::Model;
 
 /// A pin of a connector's end with one of its directions.
 ///
-/// The route goes straight from the pin to the port, which lies on the edge of the node's buffered box.
+/// The route goes straight from the pin to the port, which lies on the edge of the node's buffered
+/// box.
 #[derive(Clone, Copy, Debug, PartialEq, Eq, Hash)]
 pub struct Choice {
     pub node: i64,
     pub pin: Point,
     pub dir: Dir,
     pub port: Point,
-    /// What using the pin costs, in thousandths, at most 10^9.
+    /// The cost of using the pin, in thousandths, at most 10^9.
     pub cost: u64,
 }
 
@@ -39,7 +40,7 @@ impl Choices {
         &self.0
     }
 
-    /// The same choices once more. Its only error is want of memory.
+    /// A copy of the choices. The only error is out of memory.
     pub fn copy(&self, alloc: Global) -> Result<Choices, AllocError>
         ensures { IfOk result (λ c. c ≡ self.now) }
     {
@@ -47,7 +48,7 @@ impl Choices {
     }
 }
 
-/// What a connector asks of its walk.
+/// The task of a connector: what its route has to meet.
 #[derive(Debug, Drop)]
 pub struct Task {
     /// The choices of the source, in order.
@@ -56,12 +57,12 @@ pub struct Task {
     pub ends: Choices,
     /// The checkpoints, to be passed in this order between the two ports.
     pub via: Points,
-    /// What a bend costs, in thousandths, at most 10^9.
+    /// The cost of a bend, in thousandths, at most 10^9.
     pub penalty: u64,
 }
 
 impl Task {
-    /// The same task once more. Its only error is want of memory.
+    /// A copy of the task. The only error is out of memory.
     pub fn copy(&self, alloc: Global) -> Result<Task, AllocError>
         ensures { IfOk result (λ t. t ≡ self.now) }
     {

@@ -224,7 +224,7 @@ further_back South p q h = omega (arith, ints)
 further_back West p q h = omega (arith, ints)
 further_back North p q h = omega (arith, ints)
 
--- the way back turns the order round
+-- the way back reverses the order
 pub further_turned : (a : Arena) (d : Dir) (c k : ℕ) → LiesFurther a d c k → LiesFurther a (opposite d) k c
 further_turned a d c k f = record {
   here = f.there;
@@ -241,7 +241,7 @@ further_turned a d c k f = record {
 
 -- ---- what stays
 
--- each line and each crossing of the one arena stands in the other under the same id
+-- each line and each crossing of the first arena is in the second under the same id
 pub record IsWithin (a b : Arena) : Type 0 where
   pub lines : (l : ℕ) (line : Line) → get a.lines l ≡ Some line → get b.lines l ≡ Some line
   pub crossings : (c : ℕ) (pair : Pair) → get a.crossings c ≡ Some pair → get b.crossings c ≡ Some pair
@@ -290,13 +290,13 @@ module _ (a b : Arena) (h : IsWithin a b) where
     further = f.further;
   }
 
--- an entry is there behind a put under a new id
+-- an entry is there after a put under a new id
 kept_by_put : {X : Type 0} (m : FinMap nat_cmp X) (id : ℕ) (new : X) (q : ℕ) (x : X) → get m id ≡ None → get m q ≡ Some x → get (insert m id new) q ≡ Some x
 kept_by_put m id new q x free is =
     let apart : q ≢ id = λ e. let none : get m q ≡ None = ap (get m) e ∙ free in let wrong : None ≡ Some x = sym none ∙ is in cc in
     get-insert nat_cmp_total m id new q ∙ ap (λ b. cond b (Some new) (get m q)) (untied q id apart) ∙ is
 
--- what is there behind a removal was there before
+-- what is there after a removal was there before
 kept_from_removal : {X : Type 0} (m : FinMap nat_cmp X) (id q : ℕ) (x : X) → get (remove m id) q ≡ Some x → get m q ≡ Some x
 kept_from_removal m id q x is = by (eq_by_cmp nat_cmp q id) (sym (get-remove nat_cmp_total m id q) ∙ is)
   where
@@ -304,7 +304,7 @@ kept_from_removal m id q x is = by (eq_by_cmp nat_cmp q id) (sym (get-remove nat
     by true e = absurd cc
     by false e = e
 
--- a line that is put in leaves what was there, and so does a crossing
+-- a line that is added leaves what was there, and so does a crossing
 pub within_line_put : (a b : Arena) (id : ℕ) (line : Line) → get a.lines id ≡ None → b.lines ≡ insert a.lines id line → b.crossings ≡ a.crossings → IsWithin a b
 within_line_put a b id line free lines crossings = record {
   lines = λ l other is. ap (λ m. get m l) lines ∙ kept_by_put a.lines id line l other free is;
@@ -317,7 +317,7 @@ within_crossing_put a b id pair free lines crossings = record {
   crossings = λ c other is. ap (λ m. get m c) crossings ∙ kept_by_put a.crossings id pair c other free is;
 }
 
--- what is left behind a removal was there before
+-- what is left after a removal was there before
 pub within_line_taken : (a b : Arena) (id : ℕ) → b.lines ≡ remove a.lines id → b.crossings ≡ a.crossings → IsWithin b a
 within_line_taken a b id lines crossings = record {
   lines = λ l line is. kept_from_removal a.lines id l line (ap (λ m. get m l) (sym lines) ∙ is);

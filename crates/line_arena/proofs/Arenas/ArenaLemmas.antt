@@ -1,4 +1,4 @@
--- What is seen of an arena, in terms of its lists.
+-- The model of an arena, in terms of its lists.
 use Rattle.std.proofs.Common.{◌≡◌, ◌≢◌, ◌⊎◌, ℕ, ℤ, ◌+◌, ◌-◌, ◌≤◌, ◌<ℤ◌, get_or, Option, Some, None, inl, inr, refl, sym, ap, subst, ◌∙◌, arith}
 use Rattle.std.specs.Prelude.{◌↔◌, IsSome, IsNone, IfSome, option_and_then}
 use Rattle.std.specs.Option.{option_map}
@@ -107,7 +107,7 @@ module _ (a : Lists) (w : ℕ) (v : Arena) (view : arena_of a w ≡ v) (lists : 
       none_live : {o : Option Line} → None ≡ o → IsSome o → ⊥
       none_live e h = cc
 
-  -- a crossing stands at the point of its spot, and nowhere else
+  -- a crossing is at the point of its spot, and nowhere else
   pub stands_at : (c : ℕ) (s : Spot) → spot_at a c ≡ Some s → StandsAt v c s.point
   stands_at c s e =
       let h = lists.sound.on_lines c s e in

@@ -1,4 +1,4 @@
--- A slab seen as a finite map.
+-- A slab whose model is a finite map.
 use Rattle.std.proofs.Common.{◌≡◌, ◌≢◌, ℕ, zero, suc, ◌+◌, ◌<◌, true, false, cond, List, [], ◌∷◌, map, get_or, Option, Some, None, inl, inr, refl, sym, ap, subst, ◌∙◌, arith}
 use Rattle.std.specs.Ordering.{nat_cmp, eq_by_cmp, is_eq}
 use Rattle.std.proofs.Common.{Ordering}
@@ -50,13 +50,13 @@ module _ {T X : Type 0} (see : T → X) where
       ap (λ b. cond b (Some (see x)) (find nat_cmp (k + suc n) (shown (entries_from (k + 1) rest)))) (untied (k + suc n) k (omega arith))
       ∙ ap (λ q. find nat_cmp q (shown (entries_from (k + 1) rest))) e ∙ find_at (k + 1) rest n
 
-  -- at an id the map has what is seen of the slab's value there
+  -- at an id the map has the model of the slab's value there
   pub get-seen : (slab : Slab T) (q : ℕ) → fin.get (seen see slab) q ≡ option_map see (get slab q)
   unfolding seen
   get-seen slab q = get-from_entries nat_cmp_total (shown (entries slab)) q
       ∙ ap (λ i. find nat_cmp i (shown (entries slab))) (let e : q ≡ 0 + q = omega arith in e) ∙ find_at 0 slab.slots q
 
-  -- slabs of which the same is seen give one map
+  -- slabs with the same models of values give one map
   pub seen_same : (old new : Slab T) → ((q : ℕ) → option_map see (get new q) ≡ option_map see (get old q)) → seen see new ≡ seen see old
   seen_same old new same = same_map nat_cmp_total nat_cmp-IsAntisymmetric (seen see new) (seen see old) (λ q. get-seen new q ∙ same q ∙ sym (get-seen old q))
 
@@ -76,7 +76,7 @@ module _ {T X : Type 0} (see : T → X) where
         | inr ne ↦ updates.others q ne ∙ sym (get-seen old q) ∙ sym (get-remove nat_cmp_total (seen see old) k q ∙ ap (λ b. cond b None (fin.get (seen see old) q)) (untied q k ne))
       ])
 
-  -- of a slab without values nothing is seen
+  -- of a slab without values the model is empty
   pub seen_empty : (slab : Slab T) → slab.slots ≡ [] → seen see slab ≡ fin.empty
   seen_empty slab none = same_map nat_cmp_total nat_cmp-IsAntisymmetric (seen see slab) fin.empty
       (λ q. get-seen slab q ∙ ap (λ s. option_map see (get_or s q None)) none ∙ sym (fin.get-empty nat_cmp q))

@@ -1,4 +1,4 @@
--- Lines in order: the place of one, one put in, one taken out, and the one through a point.
+-- Lines in order: the place of one, one added, one removed, and the one through a point.
 use Rattle.std.proofs.Common.{◌≡◌, ◌≢◌, ◌⊎◌, inl, inr, ℕ, ◌+◌, ◌-◌, ◌<◌, ◌≤◌, ℤ, ◌<ℤ◌, ◌≤ℤ◌, Bool, true, false, not, Result, Ok, Err, List, ◌∷◌, length, get_or, refl, sym, ap, subst, ◌∙◌, arith}
 use Rattle.std.specs.Prelude.{AllPairs, Contains, IsOk, is_ok, if◌then◌else◌, ◌↔◌, ◌&&◌, ◌||◌, int_lt}
 use Rattle.std.specs.List.{AllWithin, insert, remove}
@@ -48,7 +48,7 @@ pub not_false : (b : Bool) → not b ≡ false → b ≡ true
 not_false true e = refl
 not_false false e = absurd (cc)
 
--- ---- a line put in
+-- ---- a line added
 
 -- what an edit that succeeds leaves
 pub succeeded : {T E X : Type 0} (r : Result T E) (new done failed : X) → IsOk r → new ≡ (if is_ok r then done else failed) → new ≡ done
@@ -113,7 +113,7 @@ module _ (lines : List (Line × ℕ)) (ordered : AreInOrder lines) (line : Line)
       | inr more ↦ let low = not_after in omega arith
     ]
 
--- ---- a line taken out
+-- ---- a line removed
 
 module _ (lines : List (Line × ℕ)) (ordered : AreInOrder lines) (line : Line) (id : ℕ) (there : Contains lines (line, id)) (p : ℕ) (at : there.0 + 1 ≡ p) where
   pub inside : p - 1 < length lines

@@ -1,4 +1,4 @@
--- A crossing is put into the list of its line in a direction, or taken out of it.
+-- A crossing is put into the list of its line in a direction, or removed from it.
 use Rattle.std.proofs.Common.{◌≡◌, ◌≢◌, ◌⊎◌, ℕ, ℤ, ◌<ℤ◌, Option, Some, None, inl, inr, refl, sym, ap, subst, ◌∙◌, arith}
 use Rattle.std.proofs.lemmas.Int.{ints}
 use Rattle.std.proofs.lemmas.Bool.{cases_eq}
@@ -63,7 +63,7 @@ module _ (S : ℕ → Option Spot) (k : ℕ) (d : Dir) (spot : Spot) (is : S k �
   not_itself None before e = none_some k e
   not_itself (Some q) before e = is_other S k d _ q _ before.1 (some_is q k e)
 
-  -- a coordinate before the crossing's lies before its neighbour's, but for that neighbour itself
+  -- a coordinate before the crossing's is before its neighbour's, except for that neighbour itself
   nearer : (prev : Option ℕ) → IsPrevious Others (reach d spot.point) prev → (c : ℕ) (b : ℤ) → Others c b → prev ≢ Some c
       → b <ℤ reach d spot.point → (q : ℕ) × (y : ℤ) × Others q y × (b <ℤ y) × (y <ℤ reach d spot.point)
   nearer None before c b here ne less = absurd (before c b here less)
@@ -307,14 +307,14 @@ module _ (a b : Lists) (k : ℕ) (d : Dir) (knows : KnowsNeighbours a k) where
           ];
     }
 
-  -- a change is one behind the neighbour before where it is one of the same line and link
+  -- a change is one after the neighbour before if it is one of the same line and link
   pub relinks_before : (m : ℕ) (p t to : Option ℕ) → m ≡ l → p ≡ prev → t ≡ to → Relinks a b m p d t → Relinks a b l prev d to
   relinks_before m p t to line read is h =
       subst (λ x. Relinks a b l prev d x) is
       (subst (λ x. Relinks a b l x d t) read
       (subst (λ x. Relinks a b x p d t) line h))
 
-  -- what the crossing's node tells
+  -- what the crossing's node contains
   module _ (i : ℕ) (e : Point × Node) (named : i ≡ k) (is : entry_at a.crossings i ≡ Some e) where
     node_is : entry_at a.crossings k ≡ Some e
     node_is = subst (λ n. entry_at a.crossings n ≡ Some e) named is

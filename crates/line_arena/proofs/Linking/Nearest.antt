@@ -1,4 +1,4 @@
--- The nearest past a coordinate, where one comes in or goes out.
+-- The nearest past a coordinate, where one is added or removed.
 use Rattle.std.proofs.Common.{◌≡◌, ◌≢◌, ◌⊎◌, ℕ, ℤ, ◌<ℤ◌, ◌≤ℤ◌, Option, Some, None, inl, inr, sym, ap, subst, arith}
 use Rattle.std.proofs.lemmas.Int.{ints, by_lt_z}
 use Rattle.line_arena.specs.Lists.{IsNext, IsPast}
@@ -25,7 +25,7 @@ next_same At To there back from None h = λ c z here past. h c z (back c z here)
 next_same At To there back from (Some n) h = (h.0, there n h.0 h.1, h.2, λ c z here past. h.3 c z (back c z here) past)
 
 module _ (At To : ℕ → ℤ → Type 0) (k : ℕ) (at : ℤ) where
-  -- where one comes in at a coordinate that lies past a nearer one, the nearest stays
+  -- where one is added at a coordinate that is past a nearer one, the nearest stays
   pub next_kept_at_put : ((c : ℕ) (z : ℤ) → At c z → To c z) → ((c : ℕ) (z : ℤ) → To c z → At c z ⊎ (z ≡ at))
       → (from : Option ℤ) → (IsPast from at → (q : ℕ) × (y : ℤ) × At q y × IsPast from y × (y <ℤ at))
       → (answer : Option ℕ) → IsNext At from answer → IsNext To from answer
@@ -48,7 +48,7 @@ module _ (At To : ℕ → ℤ → Type 0) (k : ℕ) (at : ℤ) where
         ],
   )
 
-  -- where nothing stands between, the one that comes in is the nearest
+  -- where there is nothing between, the added one is the nearest
   pub next_is_put : To k at → ((c : ℕ) (z : ℤ) → To c z → At c z ⊎ (z ≡ at))
       → (from : Option ℤ) → IsPast from at → ((c : ℕ) (z : ℤ) → At c z → IsPast from z → z <ℤ at → ⊥) → IsNext To from (Some k)
   next_is_put there grows from past between = (
@@ -69,7 +69,7 @@ module _ (At To : ℕ → ℤ → Type 0) (k : ℕ) (at : ℤ) where
   next_kept_at_removal shrinks others from (Some m) h ne =
       (h.0, others m h.0 h.1 (λ e. ne (ap Some e)), h.2, λ c z here past. h.3 c z (shrinks c z here) past)
 
-  -- where the nearest goes out, the one that is nearest to it is nearest then
+  -- where the nearest is removed, the one that is nearest to it is the nearest then
   pub next_after_removal : ((c : ℕ) (z : ℤ) → To c z → At c z) → ((c : ℕ) → To c at → ⊥) → ((z : ℤ) → At k z → z ≡ at)
       → (from : Option ℤ) → IsNext At from (Some k) → (answer : Option ℕ) → IsNext To (Some at) answer → IsNext To from answer
   next_after_removal shrinks none placed from h answer after = by answer after
@@ -94,7 +94,7 @@ module _ (At To : ℕ → ℤ → Type 0) (k : ℕ) (at : ℤ) where
         λ c z here past. a.3 c z here (further c z here past),
       )
 
--- where nothing stands nearer, the nearest is the one that stands there
+-- where there is nothing nearer, the nearest is the one that is there
 pub next_is : (At : ℕ → ℤ → Type 0) (k : ℕ) (at : ℤ) → At k at → ((c : ℕ) → At c at → c ≡ k)
     → (from : Option ℤ) → IsPast from at → ((c : ℕ) (z : ℤ) → At c z → IsPast from z → z <ℤ at → ⊥)
     → (answer : Option ℕ) → IsNext At from answer → answer ≡ Some k

@@ -1,4 +1,4 @@
--- Lines and crossings that are put in or taken out.
+-- Lines and crossings that are added or removed.
 use Rattle.std.proofs.Common.{◌≡◌, ◌≢◌, ℕ, ℤ, pos, ◌-ℤ◌, ◌<ℤ◌, ◌≤ℤ◌, Option, Some, None, inl, inr, refl, sym, ap, subst, ◌∙◌, arith}
 use Rattle.std.proofs.lemmas.Int.{ints}
 use Rattle.std.proofs.lemmas.Bool.{cases_eq}
@@ -166,7 +166,7 @@ knows_linked a k s lists is = record {
         let along = own_reach (spot_at a) k d s is (line_along d s) n.0 n.1 in
         omega (arith, ints)
 
--- a crossing that is in no list is taken out
+-- a crossing that is in no list is removed
 pub lists_without : (a b : Lists) (k : ℕ) → IsSound (line_at a) (spot_at a) → ((d : Dir) → AreLinked a (without k (spot_at a)) d)
     → ((l : ℕ) → line_at b l ≡ line_at a l) → UpdatesAt (spot_at a) (spot_at b) k None
     → ((l : ℕ) (d : Dir) → link b l None d ≡ link a l None d) → ((l c : ℕ) (d : Dir) → c ≢ k → link b l (Some c) d ≡ link a l (Some c) d) → AreLists b
@@ -285,7 +285,7 @@ met_at lines vertical horizontal met v h is_v is_h =
     let is : ◌≡◌ {A = Point} met.point (record { x = v.at; y = h.at }) = λ i. record { x = x i; y = y i } in
     subst (λ p. IsSpot lines (record { point = p; vertical = vertical; horizontal = horizontal })) is s
 
--- a line without crossings is put in
+-- a line without crossings is added
 pub lists_with_line : (a b : Lists) (id : ℕ) (line : Line) → AreLists a → line_at a id ≡ None → IsApart (line_at a) line → line.lo ≤ℤ line.hi
     → Updates a.lines.slab b.lines.slab id (Some (line, record { first = None; last = None })) → b.crossings ≡ a.crossings → AreLists b
 lists_with_line a b id line lists gone apart ordered updates crossings = record {
@@ -368,7 +368,7 @@ lists_with_line a b id line lists gone apart ordered updates crossings = record 
     none_first : (l : ℕ) (d : Dir) → l ≡ id → link b l None d ≡ None
     none_first l d e = ap (λ i. link b i None d) e ∙ ap (option_and_then (λ x. start_of d x.1)) updates.changed ∙ none_of d
 
--- a line without crossings is taken out
+-- a line without crossings is removed
 pub lists_without_line : (a b : Lists) (id : ℕ) → AreLists a → ((c : ℕ) (s : Spot) → spot_at a c ≡ Some s → (s.vertical ≢ id) × (s.horizontal ≢ id))
     → Updates a.lines.slab b.lines.slab id None → b.crossings ≡ a.crossings → AreLists b
 lists_without_line a b id lists empty updates crossings = record {

@@ -46,7 +46,7 @@ module _ (a : Lists) (l : ℕ) (d : Dir) (p : Point) (lists : AreLists a) (runs 
       let on = subst (λ m. IsNext (Stands (spot_at a) m d) (Some (reach d here.spot.point)) (link a m (Some c) d)) here.line ((lists.linked d).nexts c here.spot here.is) in
       subst (λ w. IsNext (Stands (spot_at a) l d) (Some w) (link a l (Some c) d)) here.along on
 
-  -- a walk begins behind a crossing that stands before the point, or where the list begins
+  -- a walk begins after a crossing that is before the point, or at the beginning of the list
   pub coming_behind : (from : Option ℕ) → ForSome from (λ c. IsShortOf (spot_at a) l d p c) → (next : Option ℕ) → next ≡ link a l from d → IsComing a l d p next
   coming_behind None before next read = record {
     from = None;

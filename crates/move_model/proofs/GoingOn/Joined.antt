@@ -1,4 +1,4 @@
--- Legs and a way behind them, and what a whole way costs.
+-- Legs followed by a way, and the cost of a whole way.
 use Rattle.std.proofs.Common.{◌≡◌, List, [], ◌∷◌, ◌++◌, replicate, refl, sym, ap, subst, ◌∙◌, append_assoc}
 use Rattle.std.specs.Option.{option_map}
 use Rattle.std.specs.Prelude.{unwrap_or}
@@ -25,7 +25,7 @@ pub legs_behind : (a : Arena) (via : List Point) (x y z : Place) (ls ms : List L
 legs_behind a via x y z [] ms h w = subst (λ k. Leads a via k ms z) (sym h) w
 legs_behind a via x y z (l ∷ ls) ms h w = (h.0, legs_behind a via l.to y z ls ms h.1 w)
 
--- what lies behind the first legs of a way is one
+-- what follows the first legs of a way is a way
 pub way_cut : (solids : List Solid) (a : Arena) (via : List Point) (x y : Place) (ls ms : List Leg) (e : Choice) → IsWay solids a via x (ls ++ ms) e → Leads a via x ls y → IsWay solids a via y ms e
 way_cut solids a via x y [] ms e w h = subst (λ z. IsWay solids a via z ms e) h w
 way_cut solids a via x y (l ∷ ls) ms e w h = way_cut solids a via l.to y ls ms e w.1 h.1

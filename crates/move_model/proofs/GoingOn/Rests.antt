@@ -129,7 +129,7 @@ module _ (floor : Floor) (a : Arena) (task : Task) (t : Triple) (arena : IsArena
   abbrev from_entry : List Dir → ℕ → Ahead
   from_entry ds more = ahead task.penalty along.entry.heading s.port (steps_along h.front ++ ds) more
 
-  -- the steps of both, behind those in common
+  -- the steps of both, after those in common
   own_steps : steps_of_way along.legs along.end ≡ steps_along h.front ++ steps_of_way rest along.end
   own_steps = ap (λ ms. steps_of_way ms along.end) h.legs ∙ steps_behind h.front rest along.end
 

@@ -70,7 +70,7 @@ stub_ahead penalty heading d p n more some =
     ap (λ (b : ℕ). penalty * b) (bent ∙ (let e : turn heading d + 0 ≡ turn heading d = omega arith in e)) in
     same_ahead _ _ (omega (arith, cost, length-replicate n d)) (ap (runs_after heading) alone ∙ runs_in_front heading d n [] some) (ap (lean_after heading p) alone ∙ lean_in_front heading d n [] p some)
 
--- numbers that both rise by as much keep their order
+-- numbers that both rise by the same amount keep their order
 nat_shifted : (k a b a' b' : ℕ) → a' ≡ k + a → b' ≡ k + b → nat_cmp a' b' ≡ nat_cmp a b
 nat_shifted k a b a' b' e f = sym (by_order (nat_cmp a b) refl)
   where

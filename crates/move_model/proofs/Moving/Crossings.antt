@@ -30,7 +30,7 @@ turned_twice South = refl
 turned_twice West = refl
 turned_twice North = refl
 
--- the point stands so many steps on in the direction, and one line holds both points
+-- the point is n steps on in the direction, and one line contains both points
 pub record IsAlong (floor : Floor) (p : Point) (d : Dir) (n : ℕ) (q : Point) : Type 0 where
   pub line : Line
   pub kept : IsKept floor line
@@ -126,7 +126,7 @@ module _ (a : Arena) (arena : IsArena a) where
   pub nearest_back : (d : Dir) (from to : ℕ) → IsNearest a d from to → IsNearest a (opposite d) to from
   nearest_back d from to h = record { lies = further_turned a d from to h.lies; others = others }
     where
-      -- what lies behind the nearest crossing does not lie before the first one
+      -- what is beyond the nearest crossing is not before the first one
       between : (c : ℕ) → LiesFurther a d c to → LiesFurther a d from c → ⊥
       between c g f = elim (h.others c f) as (λ _. ⊥) [
         | inl same ↦ never_further a d to arena (subst (λ k. LiesFurther a d k to) same g)

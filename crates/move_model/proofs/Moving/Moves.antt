@@ -15,7 +15,7 @@ use Rattle.move_model.specs.Places.{ComesTo, IsMove}
 use Rattle.move_model.proofs.Moving.Crossings.{IsAlong, along_line, one_nearest, straight_on}
 use Rattle.move_model.proofs.Moving.Stages.{one_stage}
 
--- so many steps in a direction end where no other number does
+-- different numbers of steps in a direction end at different points
 pub same_steps : (d : Dir) (m n : ℕ) (p : Point) → forward d m p ≡ forward d n p → m ≡ n
 same_steps d m n p e = sym (forward_distance d m p) ∙ ap (distance p) e ∙ forward_distance d n p
 

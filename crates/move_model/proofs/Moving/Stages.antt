@@ -1,4 +1,4 @@
--- How many checkpoints a walk has behind it at a point, and by which it comes from there on.
+-- The number of checkpoints that a walk has passed at a point, and which ones it passes from there on.
 use Rattle.std.proofs.Common.{◌≡◌, ◌≢◌, ◌⊎◌, ℕ, suc, zero, ◌+◌, ◌-◌, ◌<◌, ◌≤◌, Option, Some, List, [], ◌∷◌, ◌++◌, length, drop, get_or, refl, sym, ap, subst, ◌∙◌, inl, inr, arith}
 use Rattle.std.specs.Prelude.{slice_get}
 use Rattle.std.proofs.lemmas.Bool.{cases_lt}
@@ -13,7 +13,7 @@ use Rattle.walk_laws.proofs.Replacing.InnerRuns.{same_or_not}
 use Rattle.walk_laws.proofs.Replacing.Legs.{comes-append}
 use Rattle.move_model.specs.Places.{ComesTo}
 
--- a walk comes to a point with one number of checkpoints behind it
+-- the number of checkpoints that a walk has passed at a point is unique
 pub one_stage : (via : List Point) (k i j : ℕ) (p : Point) → ComesTo via k p i → ComesTo via k p j → i ≡ j
 one_stage via k i j p h g = elim (cases_lt i j) as (λ _. i ≡ j) [
   | inl less ↦ absurd (h.no_more (g.passed i h.from less))
@@ -100,7 +100,7 @@ module _ (via : List Point) (q : Point) (ds : List Dir) where
       goes n (k + 1) j (omega (arith, e)) (λ i low high. passed i (omega (arith, low)) high)
       (take_one (drop (k + 1) via) (subst (ComesBy q ds) (left_here via k q (passed k (omega arith) (omega (arith, e)))) h))
 
-  -- what comes from the point by the checkpoints that are left there comes by all, and the other way round
+  -- what passes the checkpoints that are left from the point on passes all, and the other way around
   pub comes_with : (k j : ℕ) → ComesTo via k q j → ComesBy q ds (drop j via) → ComesBy q ds (drop k via)
   comes_with k j c = came (j - k) k j (omega (arith, c.from)) c.passed
 

@@ -32,7 +32,7 @@ module _ (solids : List Solid) (may : Option ℤ) where
   each_clear p d (suc n) (suc k) h c =
       subst (λ x. IsClearStep solids may x d) (one_on d k p ∙ ap (λ m. forward d m p) (let e : k + 1 ≡ suc k = omega arith in e)) (each_clear (forward d 1 p) d n k (omega (arith, h)) c.1)
 
--- a stretch that meets solids of one node alone is clear but for that node, and the other way round
+-- a stretch that meets solids of one node alone is clear except for that node, and the other way around
 pub clear_stretch : (solids : List Solid) (node : ℤ) (p q : Point) (d : Dir) (n : ℕ) → q ≡ forward d n p → All (λ s. s.node ≢ node → Meets s.rect p q → ⊥) solids → IsClear solids (Some node) p (replicate n d)
 clear_stretch solids node p q d n e h = clear_each solids (Some node) p d n
     (λ k l i s inside other m. h i s inside (λ same. other (ap Some same)) (subst (Meets (get_or solids i s).rect p) (sym e) (from_step (get_or solids i s).rect p d n (k, l, m))))

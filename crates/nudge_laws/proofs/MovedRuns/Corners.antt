@@ -29,7 +29,7 @@ pub by_number : (P : ℕ → Type 0) (k : ℕ) → P 0 → ((j : ℕ) → P (j +
 by_number P zero first next = first
 by_number P (suc j) first next = subst P (add-one j) (next j)
 
--- what a phase owes each route: fixed runs of the way stay, the others stand where they may, and no run between two of the way turns round
+-- what a phase keeps for each route: fixed runs of the way stay, the others are where they may be, and no run between two of the way turns around
 pub record IsSettled (solids : List Solid) (way : Way) (route : PhaseRoute) (ats : List ℤ) : Type 0 where
   pub stays : (k : ℕ) → k < length route.runs.items → (run_at route.runs.items k).way ≡ way → IsFixed route k → int_at ats k ≡ (run_at route.runs.items k).at
   pub stands : (k : ℕ) → k < length route.runs.items → (run_at route.runs.items k).way ≡ way → (int_at ats k ≡ (run_at route.runs.items k).at) ⊎ MayStandAt solids route k (int_at ats k)
@@ -88,7 +88,7 @@ module _ (route : PhaseRoute) (edge : ℕ) (are : AreRunsOf edge route.runs.item
       subst (λ z. IsReached (run k).heading z (old_end k)) (sym (ap (along (run k).way) f ∙ along_end (opposite (run k).heading) (run k))) (ordered k h)
   before_end k c h (HasToReach.checkpoint_ahead m e) = held_to (run k).heading (run k) c e
 
-  -- a run of the way and the one behind it meet in one point
+  -- a run of the way and the one after it meet in one point
   pub begin_at : (way : Way) (k : ℕ) → k + 1 < size → (run k).way ≡ way → (run (k + 1)).way ≡ turned way → (old_begin (k + 1) ≡ (run k).at) × (far_end (run k).heading (run k) ≡ (run (k + 1)).at)
   begin_at way k h own other =
       let d = (run k).heading in
@@ -289,7 +289,7 @@ module _ (route : PhaseRoute) (edge : ℕ) (are : AreRunsOf edge route.runs.item
       | inr g ↦ end_last k (omega arith)
     ]
 
-    -- no run across the way turns round
+    -- no run across the way turns around
     pub keeps_order : (k : ℕ) → k < size → (run k).way ≡ turned way → IsReached (run k).heading (new_begin k) (new_end k)
     keeps_order k h other =
         let d = (run k).heading in

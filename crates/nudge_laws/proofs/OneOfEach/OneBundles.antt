@@ -60,7 +60,7 @@ one_member solids a b one two route run some =
     (same_truth a.member.fixed b.member.fixed (λ t. two.fixed.1 (is.0 t)) (λ t. is.1 (two.fixed.0 t)))
     same.0 same.1 (one.weight ∙ ap (λ (r : PhaseRoute). r.weight) route ∙ sym two.weight)
 
--- the runs of a bundle that may be handed to the solver have limits
+-- the runs of a bundle that a solver accepts have limits
 limits_hold : (nudge : ℤ) (members : List Member) (found : List RunBundle) → AreBundlesOf nudge members found → All (λ (b : RunBundle). IsBundle b.bundle) found → (k : ℕ) → k < length members →
     (member_at members k).low ≤ℤ (member_at members k).high
 limits_hold nudge members found are good k h =

@@ -1,4 +1,4 @@
--- What phase x hands on to phase y.
+-- The result of phase x as the input of phase y.
 use Rattle.std.proofs.Common.{◌≡◌, ◌≢◌, ℕ, ◌<◌, ◌-◌, ℤ, ◌<ℤ◌, Some, List, length, inl, inr, ap, subst, arith}
 use Rattle.std.specs.Prelude.{slice_get, All, AllPairs}
 use Rattle.std.proofs.lemmas.Bool.{cases_lt}
@@ -42,7 +42,7 @@ module _ (solids : List Solid) (raw : List PhaseRoute) (nudge : ℤ) (after : Li
   pub x_vertical : All (λ (r : PhaseRoute). HaveLength Vertical r.runs.items) after
   x_vertical = phase_long solids raw Vertical nudge after xs x are_raw.ready are_raw.edges horizontal vertical
 
-  -- both phases are handed routes whose movable runs may stand where they stand
+  -- both phases get routes whose movable runs may stay at their coordinates
   pub both_may_move : (k : ℕ) (route y : PhaseRoute) → slice_get raw k ≡ Some route → slice_get after k ≡ Some y → (s e : Choice) → IsChoice s → IsChoice e → s.port ≡ route.anchors.source_port → e.port ≡ route.anchors.target_port →
       IsLegal solids route.anchors.via.items s (walk_along route.runs.items) e → MayMove solids Vertical route × MayMove solids Horizontal y
   both_may_move k route y at_route at_y s e hs he from to legal =

@@ -114,7 +114,7 @@ module _ (solids : List Solid) (routes : List PhaseRoute) (way : Way) (nudge : �
   bundle_is k b e =
       subst (IsBundleOf nudge (members_at members (get_or classes k []))) (get_or_from_slice_get found k b b e) (made.each k b (slice_get_within found k b e))
 
-  -- where the run stands in the bundles, and what its bundle's solution says of it
+  -- the place of the run in the bundles, and its coordinate by the solution of its bundle
   pub record IsSpotOf (r : Run) (z : ℤ) : Type 0 where
     pub class : ℕ
     pub item : ℕ

@@ -114,7 +114,7 @@ module _ (solids : List Solid) (before : List PhaseRoute) (way : Way) (nudge : �
   pub phase_short : (k : ℕ) (r t : PhaseRoute) → slice_get before k ≡ Some r → slice_get after k ≡ Some t → length r.runs.items ≤ 2 → t.runs.items ≡ r.runs.items
   phase_short k r t at_r at_t few = stays_short solids way p.found solutions r t (ready_at k r at_r) (p.moved k r t at_r at_t) (phase_settled k r t at_r at_t) few
 
-  -- the routes of the result may be handed to the other phase
+  -- the other phase accepts the routes of the result
   pub phase_may_move : (k : ℕ) (r : PhaseRoute) (other : Way) → slice_get after k ≡ Some r → (s e : Choice) → IsLegalAlong solids r.anchors.via.items s r.runs.items e → MayMove solids other r
   phase_may_move k r other at_r s e legal =
       let one = subst IsReady (get_or_from_slice_get after k r r at_r) (All-get_or IsReady after k r (slice_get_within after k r at_r) phase_ready) in

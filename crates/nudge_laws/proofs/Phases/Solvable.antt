@@ -1,4 +1,4 @@
--- The bundles of a phase may be handed to a solver.
+-- A solver accepts the bundles of a phase.
 use Rattle.std.proofs.Common.{◌≡◌, ℕ, suc, ◌+◌, ◌-◌, ◌<◌, ◌≤◌, ℤ, Some, Bool, true, false, List, [], ◌∷◌, map, length, get_or, if◌then◌else◌, inl, inr, refl, sym, ap, subst, ◌∙◌, arith}
 use Rattle.std.specs.Prelude.{All, slice_get}
 use Rattle.std.proofs.lemmas.Bool.{cases_Bool}

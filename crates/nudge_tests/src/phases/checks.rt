@@ -1,4 +1,4 @@
-//! Whether a phase may be handed these routes between these solids.
+//! Whether a phase accepts these routes between these solids.
 ghost use Rattle.std.specs.Prelude.{◌≡◌, ◌≢◌, ◌↔◌, ℕ, ◌+◌, ◌-◌, ◌<◌, ◌≤◌, ◌<ℤ◌, ◌≤ℤ◌, All, AllPairs, EachIndex, IsTrue, length};
 ghost use Rattle.plane_geom.specs.declared.point.Point.{Point};
 ghost use Rattle.plane_geom.specs.declared.point.Way.{Way};
@@ -45,14 +45,14 @@ fn is_solid(solid: &Solid) -> bool
     is_rect_on_sheet(solid.rect) && has_inside(solid.rect)
 }
 
-/// Whether each solid is one that a phase may be handed.
+/// Whether a phase accepts each solid.
 pub(super) fn are_solids(solids: &[Solid]) -> bool
     ensures { IsTrue result → All IsSolid solids.now }
 {
     solids.iter().all(|s| is_solid(s))
 }
 
-/// Whether the numbers lie on the sheet and do not fall.
+/// Whether the numbers are on the sheet and do not fall.
 fn is_range(lo: i64, hi: i64) -> bool
     ensures lo { IsTrue result → IsCoordinate lo }
     ensures hi { IsTrue result → IsCoordinate hi }
@@ -76,7 +76,7 @@ fn is_run(run: &Run) -> bool
     run.way == run.heading.way() && is_run_on_sheet(run)
 }
 
-/// Whether the run stands on the sheet, is of the edge, and has the number.
+/// Whether the run is on the sheet, is of the edge, and has the number.
 fn is_run_of(run: &Run, edge: u32, number: usize) -> bool
     ensures run { IsTrue result → IsRun run.now }
     ensures edge { IsTrue result → run.now.edge ≡ edge }
@@ -149,7 +149,7 @@ fn is_phase_route(route: &PhaseRoute) -> bool
     are_runs && are_within && 1 <= route.weight && route.weight <= 4
 }
 
-/// Whether each route is one that a phase may be handed.
+/// Whether a phase accepts each route.
 pub(super) fn are_phase_routes(routes: &[PhaseRoute]) -> bool
     ensures { IsTrue result → All IsPhaseRoute routes.now }
 {
@@ -214,7 +214,7 @@ fn is_clear(run: &Run, solids: &[Solid]) -> bool
     solids.iter().all(|s| !enters(run, s))
 }
 
-/// Whether one who travels in the direction has come to the point at the run.
+/// Whether one who travels in the direction has reached the point at the run.
 fn has_reached(run: &Run, dir: Dir, p: Point) -> bool
     ensures { IsTrue result → IsReached dir (across run.now.way p) run.now.at }
 {
@@ -225,14 +225,15 @@ fn has_reached(run: &Run, dir: Dir, p: Point) -> bool
     }
 }
 
-/// The same, where it is needed.
+/// The same, if it is needed.
 fn has_reached_if(needed: bool, run: &Run, dir: Dir, p: Point) -> bool
     ensures { IsTrue result → IsTrue needed → IsReached dir (across run.now.way p) run.now.at }
 {
     !needed || has_reached(run, dir, p)
 }
 
-/// Whether one who travels in the direction has come to each checkpoint on the neighbour at the run.
+/// Whether one who travels in the direction has reached each checkpoint on the neighbour at the
+/// run.
 fn has_reached_each(run: &Run, dir: Dir, via: &[Point], neighbour: &Run) -> bool
     ensures { IsTrue result → All (λ p. Holds (line_of_run neighbour.now) p → IsReached dir (across run.now.way p) run.now.at) via.now }
 {
@@ -240,7 +241,7 @@ fn has_reached_each(run: &Run, dir: Dir, via: &[Point], neighbour: &Run) -> bool
         .all(|p| has_reached_if(neighbour.holds(*p), run, dir, *p))
 }
 
-/// Whether the run before goes as far as it has to.
+/// Whether the run before extends as far as it has to.
 fn is_reached_before(route: &PhaseRoute, k: usize) -> bool
     requires first { 0 < k }
     requires within { k < length route.now.runs.items }
@@ -270,7 +271,7 @@ fn is_reached_after(route: &PhaseRoute, k: usize) -> bool
     port && tip && each
 }
 
-/// Whether the run, which is not the first or the last, may stand where it stands.
+/// Whether the run, which is not the first or the last, may stay at its coordinate.
 fn may_stand(route: &PhaseRoute, solids: &[Solid], k: usize) -> bool
     requires { k < length route.now.runs.items }
     ensures { IsTrue result → MayStandAt solids.now route.now k (run_at route.now.runs.items k).at }
@@ -285,7 +286,7 @@ fn may_stand(route: &PhaseRoute, solids: &[Solid], k: usize) -> bool
         && is_reached_after(route, k)
 }
 
-/// Whether the run may stand where it stands, if it is movable and of the way.
+/// Whether the run may stay at its coordinate, if it is movable and of the way.
 fn may_stand_if_movable(route: &PhaseRoute, solids: &[Solid], way: Way, k: usize) -> bool
     requires { k < length route.now.runs.items }
     ensures { IsTrue result → (run_at route.now.runs.items k).way ≡ way → (IsFixed route.now k → ⊥) →
@@ -311,7 +312,7 @@ fn may_move(route: &PhaseRoute, solids: &[Solid], way: Way) -> bool
     true
 }
 
-/// Whether each movable run of the way may stand where it stands.
+/// Whether each movable run of the way may stay at its coordinate.
 pub(super) fn may_all_move(routes: &[PhaseRoute], solids: &[Solid], way: Way) -> bool
     ensures { IsTrue result → All (IsMovable solids.now way) routes.now }
 {

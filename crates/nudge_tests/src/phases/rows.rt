@@ -31,7 +31,7 @@ pub(super) struct Drawn {
     pub(super) via: &'static [Corner],
 }
 
-/// A run of a bundle by its edge and its place, with what it wants, its limits and its weight.
+/// A run of a bundle by its edge and its place, with its want, its limits and its weight.
 #[derive(Clone, Copy, Debug, PartialEq, Eq)]
 pub(super) struct Placed(
     pub(super) u32,
@@ -61,7 +61,7 @@ pub(super) struct Row {
 }
 
 pub(super) const ROUND_BOXES: [Row; 3] = [
-    // Two edges round a box.
+    // Two edges around a box.
     Row {
         solids: &[
             Block(-14_000, -14_000, 14_000, 14_000),
@@ -220,7 +220,7 @@ pub(super) const ROUND_BOXES: [Row; 3] = [
 ];
 
 pub(super) const CHANNELS: [Row; 3] = [
-    // Three edges through a channel of width 5000, and two round a box: widest gaps 2500 and 4000.
+    // Three edges through a channel of width 5000, and two around a box: widest gaps 2500 and 4000.
     Row {
         solids: &[
             Block(-14_000, 10_000, 14_000, 38_000),
@@ -329,7 +329,7 @@ pub(super) const CHANNELS: [Row; 3] = [
             ),
         ],
     },
-    // Two runs on two sides of a box that keeps them apart as far as they want.
+    // Two runs on two sides of a box that keeps them exactly as far apart as they want.
     Row {
         solids: &[Block(40_000, -5_000, 60_000, 0)],
         routes: &[
@@ -631,7 +631,8 @@ pub(super) const ON_ONE_LINE: [Row; 3] = [
             Wanted(&[Placed(4, 3, 120_000, 120_000, 120_000, 1)], &[]),
         ],
     },
-    // A run without length, with either heading, between a box across and one that only touches its line.
+    // A run without length, with either heading, between a box across and one that only touches its
+    // line.
     Row {
         solids: &[
             Block(-10_000, -40_000, 10_000, -30_000),
@@ -856,7 +857,7 @@ pub(super) const BACK: [Row; 4] = [
             Wanted(&[Placed(1, 5, 50_000, 10_000, 90_000, 1)], &[]),
         ],
     },
-    // Stairs, whose runs are joined but where a box parts them.
+    // Stairs, whose runs are joined except where a box separates them.
     Row {
         solids: &[Block(45_000, 0, 55_000, 100_000)],
         routes: &[Drawn {
@@ -918,7 +919,8 @@ pub(super) const BACK: [Row; 4] = [
 ];
 
 pub(super) const ALONE: [Row; 4] = [
-    // Two bundles whose runs stand between one another; a run that only touches the range of the others is alone.
+    // Two bundles whose runs are between one another; a run that only touches the range of the
+    // others is alone.
     Row {
         solids: &[],
         routes: &[
@@ -1019,7 +1021,7 @@ pub(super) const ALONE: [Row; 4] = [
             Wanted(&[Placed(5, 2, 4_000, -49_000, SHEET_END, 1)], &[]),
         ],
     },
-    // Two fixed runs, which owe each other nothing, and one that has to keep away from both.
+    // Two fixed runs, which require nothing of each other, and one that has to keep away from both.
     Row {
         solids: &[],
         routes: &[
@@ -1071,7 +1073,7 @@ pub(super) const ALONE: [Row; 4] = [
             &[Ruled(0, 2, true), Ruled(1, 2, true)],
         )],
     },
-    // Fixed runs alone, of routes that are handed in another order than that of their edges.
+    // Only fixed runs, of routes that are not given in the order of their edges.
     Row {
         solids: &[],
         routes: &[

@@ -12,6 +12,6 @@ next_same xs ys i d h =
     let zero_more : i ≡ i + 0 = omega arith in
     ap (λ k. get_or xs k d) zero_more ∙ sym (get_or-drop i xs 0 d) ∙ ap (λ l. get_or l 0 d) h ∙ get_or-drop i ys 0 d ∙ ap (λ k. get_or ys k d) (sym zero_more)
 
--- and those behind it stay
+-- and those after it stay
 pub rest_same : {X : Type 0} (xs ys : List X) (i : ℕ) (x : X) → drop i xs ≡ drop i ys → drop (i + 1) (set xs i x) ≡ drop (i + 1) ys
 rest_same xs ys i x h = drop-set-lt (i + 1) xs i x (omega arith) ∙ sym (drop-drop 1 i xs) ∙ ap (drop 1) h ∙ drop-drop 1 i ys

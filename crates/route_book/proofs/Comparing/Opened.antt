@@ -43,7 +43,7 @@ open_some old new e r removed added went came = (opened, closing)
     closing (inl h) = inl (removed_any (λ s. LineMeets s.rect r.points) new old added came h)
     closing (inr h) = inr (removed_any (λ s. IsWithinReach old e s.rect r.cost) old new removed went h)
 
--- what of a connector tells what it reaches
+-- the data of a connector that determine what it reaches
 record ReachesBy (old : Scene) (l : Looks) (r : Rect) (cost : ℕ) : Type 0 where
   source : Node
   target : Node
@@ -80,7 +80,7 @@ some_left (x ∷ xs) r is h = omega arith
 is_left : (xs : List Solid) (r : Bool) → r ≡ eqb (length xs) 0 → (length xs ≡ 0 → ⊥) → not r ≡ true
 is_left xs r is some = ap not (is ∙ ne_eqb (length xs) 0 some)
 
--- where there is no route, whether some solid went tells
+-- where there is no route, it depends on whether some solid was removed
 pub none_open : (old new : Scene) (e : Edge) (removed : List Solid) (r : Bool) → AreRemoved old new removed → r ≡ eqb (length removed) 0 → (not r ≡ true) ↔ IsOpen old new e None
 none_open old new e removed r are is = (
   λ h. open_none old new e removed are (some_left removed r is h),

@@ -1,4 +1,4 @@
--- What the tests of equality tell.
+-- The meaning of the tests of equality.
 use Rattle.std.proofs.Common.{◌≡◌, Bool, true, false, not, refl, sym, ap, ◌∙◌, eqb, true≢false}
 use Rattle.std.specs.Prelude.{ℕ, ℤ, Decides, ◌&&◌}
 use Rattle.std.specs.Ordering.{int_eq}
@@ -58,7 +58,7 @@ point_same a b =
     Decides-like (int_eq a.x b.x && int_eq a.y b.y) (λ h. λ i. record { x = h.0 i; y = h.1 i }) (λ e. (ap (λ (p : Point). p.x) e, ap (λ (p : Point). p.y) e))
     (Decides-and (int_eq a.x b.x) (int_eq a.y b.y) (Decides-int_eq a.x b.x) (Decides-int_eq a.y b.y))
 
--- points that a test tells apart, or does not
+-- points that a test distinguishes, or does not
 pub points_apart : (a b : Point) (ne : Bool) → ne ≡ not (int_eq a.x b.x && int_eq a.y b.y) → ne ≡ true → a ≡ b → ⊥
 points_apart a b ne is h e = true≢false (sym h ∙ is ∙ ap not ((point_same a b).1 e))
 

@@ -26,7 +26,7 @@ whole w = ap (after w.start) (take_all (length w.steps) w.steps (omega arith))
 all_from : {X : Type 0} (P : X → Type 0) (xs : List X) → ((x : X) → Contains xs x → P x) → All P xs
 all_from P xs f k d h = f _ (Contains-get_or xs k d h)
 
--- steps that are free of the one list's solids are free of the other's, where each of those stands in the one or is not met
+-- steps that are free of the solids of one list are free of those of another, each of which is in the first or is not met
 free_again : (solids others : List Solid) (may : Option ℤ) (w : Walk) (from to : ℕ) → to ≤ length w.steps → IsFree solids may w from to
     → StandsOr (λ s. MeetsNone s.rect w) others solids → IsFree others may w from to
 free_again solids others may w from to fits free stands k low high =
@@ -58,7 +58,7 @@ legal_again solids others task t l stands =
       };
     }
 
--- what a legal walk costs is no less than a way by a solid that it meets
+-- the cost of a legal walk is at least that of a way past a solid that it meets
 pub reached : (solids : List Solid) (task : Task) (u : Triple) (s : Solid) (k : ℕ) → k < length u.walk.steps → IsLegalTriple solids task u → MeetsAt s.rect u.walk k → IsReachedBy task s.rect (triple_cost task u)
 reached solids task u s k within l meets =
     let w : Walk = u.walk in

@@ -67,7 +67,7 @@ contains_dec : (xs : List Solid) (s : Solid) → Contains xs s ⊎ (Contains xs 
 contains_dec [] s = inr (λ h. let l : h.0 < 0 = h.1 in absurd (omega (arith, l)))
 contains_dec (x ∷ xs) s = contains_by x xs s (solid_dec x s) (contains_dec xs s)
 
--- the choices of a class, from what a search sees of a node
+-- the choices of a class, from the data of a node that a search uses
 made : ℤ → ℕ → ℤ → ℤ → ℤ → Rect → List Pin → List Choice
 made b class id x y r pins =
     flat_map (λ p. map (λ d. record { node = id; pin = record { x = x +ℤ p.dx; y = y +ℤ p.dy }; dir = d; port = port (grown r b) (record { x = x +ℤ p.dx; y = y +ℤ p.dy }) d; cost = unsigned_abs p.cost }) (directions p.dirs))
@@ -186,7 +186,7 @@ each_at P [] i x e h = absurd (none-some _ h)
 each_at P (y ∷ ys) zero x e h = subst P (same_Some _ _ h) e.0
 each_at P (y ∷ ys) (suc i) x e h = each_at P ys i x e.1 h
 
--- what the task says to be reached the scene says so too
+-- what is within reach by the task is within reach by the scene too
 scene_reached : (s : Scene) (e : Edge) (r : Rect) (m n : ℕ) → m ≤ n → IsReachedBy (task_of s e) r m → scene.IsWithinReach s e r n
 scene_reached s e r m n l h =
     let source = each_at (ComesFrom s e.from e.from_class) (task_of s e).starts h.i h.start (come_by s s.settings.buffer e.from e.from_class (node_with s e.from) refl) h.is_start in

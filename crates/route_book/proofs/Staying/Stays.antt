@@ -28,11 +28,11 @@ pub record IsReachedBy (task : Task) (r : Rect) (cost : ℕ) : Type 0 where
 abbrev pub MeetsNone : Rect → Walk → Type 0
 MeetsNone r w = (k : ℕ) → k < length w.steps → MeetsAt r w k → ⊥
 
--- each solid of the one list stands in the other, or the fact holds of it
+-- each solid of the first list is in the second, or the fact holds of it
 abbrev pub StandsOr : (Solid → Type 0) → List Solid → List Solid → Type 0
 StandsOr P solids others = (s : Solid) → Contains solids s → Contains others s ⊎ P s
 
--- a walk meets no solid that came, and costs less than any way by one that went
+-- a walk meets no added solid, and costs less than any way past a removed one
 pub record StaysFirst (old new : List Solid) (task : Task) (t : Triple) : Type 0 where
   pub added : StandsOr (λ s. MeetsNone s.rect t.walk) new old
   pub removed : StandsOr (λ s. IsReachedBy task s.rect (triple_cost task t) → ⊥) old new

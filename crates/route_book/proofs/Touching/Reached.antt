@@ -1,4 +1,4 @@
--- What a connector reaches, told by its nodes, and by boxes of solids.
+-- What a connector reaches, by its nodes, and by boxes of solids.
 use Rattle.std.proofs.Common.{◌≡◌, ℕ, Some, List, sym, subst, ◌∙◌, arith}
 use Rattle.std.specs.Prelude.{All, Contains}
 use Rattle.std.proofs.lemmas.Int.{ints}

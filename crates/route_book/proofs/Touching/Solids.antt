@@ -40,7 +40,7 @@ each_both_by : {X : Type 0} (P Q : X → Type 0) (xs : List X) → Each P xs →
 each_both_by P Q [] p q = tt
 each_both_by P Q (x ∷ xs) p q = ((p.0, q.0), each_both_by P Q xs p.1 q.1)
 
--- the solid of a node, told by its id
+-- the solid of a node, found by its id
 of_node : (b : ℤ) (id : ℤ) (n m : Node) → (m.id ≡ id → m ≡ n) → Each (λ y. y.node ≡ id → solid_of b n ≡ y ∷ []) (solid_of b m)
 of_node b id n m only =
     let t : Solid = record { node = m.id; rect = buffered_box b m } in

@@ -8,7 +8,7 @@ use Rattle.route_check.specs.declared.steps.Steps.{Steps}
 use Rattle.route_check.specs.Steps.{IsAmong}
 use Rattle.route_check.specs.Verdict.{MayMeet, at_start, at_end}
 
--- the steps begin behind the stub of the node, if the start is of it, and end before its stub, if the end is of it
+-- the steps begin after the stub of the node, if the start is of it, and end before its stub, if the end is of it
 pub closed_is : (s : Choice) (w : Walk) (e : Choice) (node : ℤ) (n : ℕ) (c : Steps) → length w.steps ≡ n
     → ((node ≡ s.node) × (c.begin ≡ stub_length s)) ⊎ ((node ≡ s.node → ⊥) × (c.begin ≡ 0))
     → ((node ≡ e.node) × (c.end ≡ n - stub_length e)) ⊎ ((node ≡ e.node → ⊥) × (c.end ≡ n))

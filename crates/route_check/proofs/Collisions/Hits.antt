@@ -19,7 +19,7 @@ use Rattle.route_check.specs.Verdict.{StepHits, HitsFirst, HitsNone, MayMeet}
 abbrev pub no_solid : Solid
 no_solid = record { node = pos 0; rect = record { left = pos 0; top = pos 0; right = pos 0; bottom = pos 0 } }
 
--- the first hit of these solids, if there is one, is at step number `limit`, and else that is the number of steps
+-- the first hit of these solids, if there is one, is at step number `limit`; otherwise that is the number of steps
 abbrev pub HitSoFar : List Solid → Choice → Choice → Point → List Point → Option Hit → ℕ → Type 0
 HitSoFar solids s e first rest None limit = (limit ≡ length (steps_through first rest)) × HitsNone solids s (walk_through first rest) e
 HitSoFar solids s e first rest (Some hit) limit =
@@ -32,7 +32,7 @@ module _ (s e : Choice) (first : Point) (rest : List Point) where
   unhit solids None limit (is, none) = (omega (arith, is), λ k h. none k (omega (arith, is)))
   unhit solids (Some hit) limit (f, is) = (omega (arith, is, f.within), λ k h. f.first_step k (omega (arith, is)))
 
-  -- one more solid behind the others: `asked` are the steps before that step which may not meet it
+  -- one more solid after the others: `asked` are the steps before that step which may not meet it
   module _ (solids : List Solid) (o : Solid) (limit : ℕ) (asked : Steps)
       (is : (k : ℕ) → IsAmong asked k ↔ (((k < length (steps_through first rest)) × (MayMeet s (walk_through first rest) e k o.node → ⊥)) × (k < limit))) where
     -- a hit of the last solid is a meeting that was asked for

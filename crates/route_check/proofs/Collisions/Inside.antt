@@ -18,7 +18,7 @@ pub among_clamped : (near far m n : ℤ) → m ≡ int_max near (pos 0) → n �
     → IsAmong (record { begin = unsigned_abs m; end = unsigned_abs n }) k ↔ ((near ≤ℤ pos k) × ((pos k +ℤ pos 1) ≤ℤ far))
 among_clamped near far m n e f k = (λ h. (omega (arith, ints, clamps, h.0), omega (arith, ints, clamps, h.1)), λ h. (omega (arith, ints, clamps, h.0), omega (arith, ints, clamps, h.1)))
 
--- what a test that holds says
+-- the consequence of a test that holds
 pub below : {a b : ℤ} → lt_z a b ≡ true → a <ℤ b
 below {a} {b} h = grind (arith, ints)
 

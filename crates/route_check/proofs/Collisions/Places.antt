@@ -7,7 +7,7 @@ use Rattle.std.proofs.lemmas.Option.{slice_get-get_or, slice_get_within, get_or_
 pub contains_at : {X : Type 0} (xs : List X) (i : ℕ) (x : X) → slice_get xs i ≡ Some x → Contains xs x
 contains_at xs i x e = (i, slice_get_within xs i x e, get_or_from_slice_get xs i x x e)
 
--- places behind which an element is pushed, and its own
+-- places after which an element is pushed, and its own
 pub slice_get-push_left : {X : Type 0} (xs : List X) (y x : X) (i : ℕ) → slice_get xs i ≡ Some x → slice_get (xs ++ y ∷ []) i ≡ Some x
 slice_get-push_left xs y x i e =
     let within = slice_get_within xs i x e in

@@ -16,7 +16,7 @@ use Rattle.route_check.proofs.OneVerdict.Verdicts.{clear_legal}
 
 -- ---- what the parts of the check find of the line from the point through the others
 
--- the choice arrives there with a stub among the last so many steps
+-- the choice arrives there with a stub of at most `left` steps
 abbrev pub ArrivesWithin : Walk → ℕ → Choice → Type 0
 ArrivesWithin w left c = Arrives w c × (stub_length c ≤ left)
 

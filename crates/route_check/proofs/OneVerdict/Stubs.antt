@@ -66,7 +66,7 @@ module _ (w : Walk) (c : Choice) where
             get_or-drop m w.steps k d ∙ get_or_default w.steps (m + k) d East there ∙ behind (m + k) (omega arith) there ∙ sym (get_or-replicate n k (opposite c.dir) d in'));
       }
 
--- what holds of each two elements of a list, either way round, and of each with itself
+-- what holds of any two elements of a list, either way around, and of each with itself
 pub of_two : {X : Type 0} (R : X → X → Type 0) → ((x : X) → R x x) → ((x y : X) → R x y → R y x) → (xs : List X) (x y : X) → AllPairs R xs → Contains xs x → Contains xs y → R x y
 of_two {X} R itself turned xs x y pairs (i, h, e) (j, g, f) =
     let y_at : get_or xs j x ≡ y = get_or_default xs j x y g ∙ f in

@@ -21,7 +21,7 @@ cheapest_same P Q choices (Some b) there back is = record {
 }
 
 module _ (P : Choice → Type 0) where
-  -- one more choice c behind those of the list
+  -- one more choice c after those of the list
   module _ (cs : List Choice) (c : Choice) where
     old : (x : Choice) → Contains cs x → Contains (cs ++ c ∷ []) x
     old x = Contains-append_left cs (c ∷ []) x

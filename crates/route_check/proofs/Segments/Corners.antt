@@ -23,7 +23,7 @@ count_more p [] i d h = absurd (omega arith)
 count_more p (q ∷ qs) zero d h = simp (length-append, length-replicate) (omega arith)
 count_more p (q ∷ qs) (suc i) d h = let further = count_more q qs i d (omega arith) in simp (length-append, length-replicate) (omega arith)
 
--- the walk of the line has come to its corner number i, counted from 0, which is this point, after k steps
+-- the walk of the line has reached its corner number i, counted from 0, which is this point, after k steps
 pub record AtCorner (first : Point) (rest : List Point) (i k : ℕ) (p : Point) : Type 0 where
   pub stands : Stands (walk_through first rest) k p (drop i rest)
   pub straight : AreStraight p (drop i rest)
@@ -68,7 +68,7 @@ module _ (first : Point) (rest : List Point) (i k : ℕ) (p : Point) (at : AtCor
 pub at_end : (first : Point) (rest : List Point) (i k : ℕ) (p : Point) → AtCorner first rest i k p → length rest ≤ i → k ≡ length (steps_through first rest)
 at_end first rest i k p at done = stands_last (walk_through first rest) k p (subst (Stands (walk_through first rest) k p) (drop_all i rest done) at.stands)
 
--- the walk comes to each corner
+-- the walk reaches each corner
 pub at_each : (first : Point) (rest : List Point) → AreStraight first rest → PointIsOnSheet first → All PointIsOnSheet rest → (i : ℕ) → i ≤ length rest → (k : ℕ) × (p : Point) × AtCorner first rest i k p
 at_each first rest straight begin on zero h = (0, first, at_begin first rest straight begin)
 at_each first rest straight begin on (suc i) h =

@@ -1,4 +1,4 @@
--- What a line costs fits its type.
+-- The cost of a line fits its type.
 use Rattle.std.proofs.Common.{◌≡◌, ℕ, ap, inl, inr, Option, Some, None, ◌*◌, ◌^◌, ◌≤◌, List, [], ◌∷◌, ◌++◌, length, replicate, arith, All}
 use Rattle.std.proofs.lemmas.Bool.{cases_lt}
 use Rattle.std.proofs.lemmas.Nat.{mul-le}
@@ -22,7 +22,7 @@ bends_from-line last p (q ∷ qs) =
           omega (arith, ap (λ (m : ℕ). bends_from last (replicate m d ++ ahead)) e, bends_from-line last q qs))
     ]
 
--- what the walk of a line can cost
+-- the possible costs of the walk of a line
 pub cost_small : (first : Point) (rest : List Point) (penalty : ℕ) → AreStraight first rest → PointIsOnSheet first → All PointIsOnSheet rest → length rest ≤ 40000000 → penalty ≤ 10 ^ 9
     → walk_cost penalty (steps_through first rest) ≤ 400000000000000000
 cost_small first rest penalty straight begin on few small =

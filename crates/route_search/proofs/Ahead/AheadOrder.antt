@@ -1,4 +1,4 @@
--- The order of what is ahead: it is total, and tells any two apart.
+-- The order of what is ahead: it is total, and distinguishes any two values.
 use Rattle.std.proofs.Common.{◌≡◌, ◌≢◌, ◌≤◌, true, false, refl, sym, ap, ◌∙◌, inl, inr}
 use Rattle.std.specs.Cmp.{IsTotalOrder, nat_cmp_is}
 use Rattle.std.specs.declared.cmp.Ordering.{Ordering}
@@ -20,7 +20,7 @@ both_equal Less p h = absurd (let wrong : Less ≡ Equal = h in cc)
 both_equal Equal p h = (refl, h)
 both_equal Greater p h = absurd (let wrong : Greater ≡ Equal = h in cc)
 
--- what the order does not tell apart is the same
+-- values that the order does not distinguish are equal
 pub tied : (v w : Ahead) → ahead_cmp v w ≡ Equal → v ≡ w
 tied v w h =
     let cost = both_equal (nat_cmp v.cost w.cost) _ h in

@@ -1,4 +1,4 @@
--- The bound at a place: a move adds no more to it than it costs, and an entry costs no less.
+-- The bound at a place: a move adds at most its cost to it, and an entry costs at least the bound.
 use Rattle.std.proofs.Common.{ℕ, ◌+◌, ◌*◌, ◌<◌, ◌≤◌, length, sym, subst}
 use Rattle.std.specs.Prelude.{Any, Contains}
 use Rattle.std.proofs.lemmas.List.Elements.{All-contains}

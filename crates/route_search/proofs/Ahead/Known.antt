@@ -1,4 +1,4 @@
--- What is ahead on the least ways, from a place that matters, is what the place's label says.
+-- What is ahead on the least ways, from a place that matters, is the place's label.
 use Rattle.std.proofs.Common.{◌≡◌, ◌≢◌, ℕ, ◌+◌, ◌*◌, ◌<◌, ◌≤◌, ◌==◌, if◌then◌else◌, Option, Some, None, List, [], ◌∷◌, ◌++◌, length, refl, sym, ap, subst, ◌∙◌, inl, inr, arith}
 use Rattle.std.specs.Prelude.{slice_get}
 use Rattle.std.specs.declared.cmp.Ordering.TheVariants.{Greater}
@@ -34,7 +34,7 @@ use Rattle.route_search.proofs.Ahead.Bounding.{move_adds}
 abbrev pub IsLeastAhead : Problem → Place → Point → Ahead → Type 0
 IsLeastAhead p x at v = (w : Ahead) → IsWayAhead p x at w → ahead_cmp v w ≢ Greater
 
--- so much ahead of the place, which stands at the point, matters: no way has less ahead, and it is not left out
+-- this ahead of the place, which is at the point, matters: no way has less ahead, and it is not left out
 pub record Matters (p : Problem) (l : Labels) (x : Place) (at : Point) (v : Ahead) : Type 0 where
   pub least : IsLeastAhead p x at v
   pub cheap : v.cost + bound_at p x at ≤ l.best
@@ -45,7 +45,7 @@ pub moved : (p : Problem) (l : Labels) (x y : Place) (a b : Point) (v w : Ahead)
 moved p l x y a b v w place point same h = subst (λ z. IsOffered p l y b z) same (subst (λ q. IsOffered p l y q v) point (subst (λ z. IsOffered p l z a v) place h))
 
 module _ (p : Problem) (l : Labels) (ready : IsReady p) (spread : IsSpread p l) where
-  -- what was offered is what the label says, where it is the least and matters
+  -- what was offered is the label, where it is the least and matters
   exact : (x : Place) (at : Point) (v : Ahead) → StandsAt p.arena.now x.crossing at → Matters p l x at v → IsOffered p l x at v → ahead_in (label_at l x) ≡ Some v
   exact x at v here matters (inl k) =
       let from = spread.searching.attained x k.known k.is in
@@ -56,7 +56,7 @@ module _ (p : Problem) (l : Labels) (ready : IsReady p) (spread : IsSpread p l) 
   exact x at v here matters (inr (inl dear)) = absurd (omega (arith, matters.cheap, dear))
   exact x at v here matters (inr (inr many)) = absurd (omega (arith, matters.few, many))
 
-  -- the stub of an end choice was offered to who comes to its port
+  -- the stub of an end choice was offered to the places at its port
   stub_offered : (x : Place) (at : Point) (number : ℕ) (e : Choice) → slice_get p.task.now.ends number ≡ Some e → IsEnding p.solids.now p.arena.now p.task.now.via e x →
       StandsAt p.arena.now x.crossing at → IsOffered p l x at (ahead p.task.now.penalty x.heading at (steps_of_way [] e) e.cost)
   stub_offered x at number e is_end w here =
@@ -94,7 +94,7 @@ module _ (p : Problem) (l : Labels) (ready : IsReady p) (spread : IsSpread p l) 
         stretch_ahead p.task.now.penalty x.heading (record { from = at; dir = g.to.heading; steps = g.steps }) (steps_of_way gs e) e.cost m.some
         ∙ ap (λ q. in_front (ahead p.task.now.penalty g.to.heading q (steps_of_way gs e) e.cost)) there
 
-    -- behind the move of a least way no way has less
+    -- after the move of a least way no way has less
     least_behind : (v : Ahead) → IsLeastAhead p x at (in_front v) → IsLeastAhead p g.to m.end v
     least_behind v least w u greater =
         let longer : IsWayAhead p x at (in_front w) = record {
@@ -108,7 +108,7 @@ module _ (p : Problem) (l : Labels) (ready : IsReady p) (spread : IsSpread p l) 
         } in
         least (in_front w) longer (stretch_order p.task.now.penalty x.heading (record { from = at; dir = g.to.heading; steps = g.steps }) v w ∙ greater)
 
-    -- what is known behind the move was handed on, where it matters
+    -- what is known after the move was propagated, where it matters
     move_offered : (v : Ahead) → ahead_in (label_at l g.to) ≡ Some v → v.cost + bound_at p g.to m.end ≤ l.best → IsOffered p l x at (in_front v)
     move_offered v is cheap = by_label (label_at l g.to) refl
       where
@@ -124,7 +124,7 @@ module _ (p : Problem) (l : Labels) (ready : IsReady p) (spread : IsSpread p l) 
             (λ i. with_stretch p.task.now.penalty x.heading (record { from = begin i; dir = g.to.heading; steps = g.steps }) (same i))
             (spread.searching.handed g.to u (λ none. absurd (let wrong : ◌≡◌ {A = Option Place} (Some g.to) None = none in cc)) e x g.steps m)
 
-  -- what matters still matters behind a move
+  -- what matters still matters after a move
   matters_behind : (x : Place) (at : Point) (g : Leg) (gs : List Leg) (e : Choice) → (m : IsMove p.arena.now p.task.now.via x g.steps g.to) → StandsAt p.arena.now x.crossing at →
       Matters p l x at (ahead p.task.now.penalty x.heading at (steps_of_way (g ∷ gs) e) e.cost) →
       Matters p l g.to m.end (ahead p.task.now.penalty g.to.heading m.end (steps_of_way gs e) e.cost)
@@ -143,7 +143,7 @@ module _ (p : Problem) (l : Labels) (ready : IsReady p) (spread : IsSpread p l) 
         few = omega (arith, matters.few, runs);
       }
 
-  -- where the least of the ways matters, what is ahead on it is what the label says
+  -- where the least of the ways matters, what is ahead on it is the label
   pub known : (legs : List Leg) (x : Place) (at : Point) (number : ℕ) (e : Choice) → slice_get p.task.now.ends number ≡ Some e →
       IsWay p.solids.now p.arena.now p.task.now.via x legs e → StandsAt p.arena.now x.crossing at →
       Matters p l x at (ahead p.task.now.penalty x.heading at (steps_of_way legs e) e.cost) →

@@ -37,7 +37,7 @@ module _ (p : Problem) (ready : IsReady p) (e : Entry) (has : Contains p.entries
       All-contains IsSmallEntry p.entries.items e
       (entries_small p.solids.now p.arena.now p.task.now (length p.task.now.starts) p.entries.items ready.problem.is_task ready.entries) has
 
--- so is one that was found, and what its label says
+-- so is an entry that was found, with its label
 pub found_is_small : (p : Problem) (l : Labels) → IsReady p → IsSearching p l None None → (found : Option (Entry × Ahead)) (f : Entry × Ahead) → found ≡ Some f →
     IfSome found (λ g. Contains p.entries.items g.0 × (ahead_in (label_at l g.0.place) ≡ Some g.1)) → IsSmallEntry f.0 × IsSmallAhead f.1
 found_is_small p l ready searching found f same h =

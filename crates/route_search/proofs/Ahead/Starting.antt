@@ -44,7 +44,7 @@ use Rattle.route_search.proofs.Ahead.AheadOrder.{ahead_total, costs_no_more, nei
 use Rattle.route_search.proofs.Ahead.Bounding.{entry_costs}
 use Rattle.route_search.proofs.Ahead.Known.{IsLeastAhead, Matters, known_along}
 
--- a legal walk by the start choice with the number, with so much ahead at the port
+-- a legal walk by the start choice with the number, with this ahead at the port
 pub record Begins (p : Problem) (number : ℕ) (s : Choice) (v : Ahead) : Type 0 where
   pub walk : Triple
   pub legal : IsLegalTriple p.solids.now p.task.now walk

@@ -1,4 +1,4 @@
--- What lies ahead of a place is handed on to those from whom a move leads to it.
+-- What is ahead of a place is propagated to those from which a move leads to it.
 use Rattle.std.proofs.Common.{◌≡◌, ℕ, ◌+◌, ◌<◌, ◌≤◌, Option, None, ◌∷◌, refl, sym, ap, subst, ◌∙◌, inl, inr, arith}
 use Rattle.std.proofs.lemmas.Bool.{cases_lt}
 use Rattle.plane_geom.specs.declared.point.Point.{Point}
@@ -26,7 +26,7 @@ use Rattle.route_search.proofs.Moving.TheMoves.{the_move}
 turned_twice : (d : Dir) → opposite (opposite d) ≡ d
 turned_twice d = by_heading (λ e. opposite (opposite e) ≡ e) refl refl refl refl d
 
--- the stretch, with what lies ahead of it, was offered at the crossing to all of the first stages from which a walk comes to the point in the stage
+-- the stretch, with what is ahead of it, was offered at the crossing to all of the first stages from which a walk reaches the point in the stage
 pub record Handing (p : Problem) (old now : Labels) (crossing stages : ℕ) (at : Point) (stage : ℕ) (s : Stretch) (v : Ahead) : Type 0 where
   pub searching : (but : Option Place) → IsSearching p old None but → IsSearching p now None but
   pub spreads : Spreads old now
@@ -65,11 +65,11 @@ module _ (p : Problem) (old mid : Labels) (c k : ℕ) (at : Point) (stage : ℕ)
   }
 
 module _ (p : Problem) (ready : IsReady p) (x : Place) where
-  -- where no crossing lies behind, no move leads to the place
+  -- where there is no crossing behind, no move leads to the place
   pub none_behind : (l : Labels) (v : Ahead) → ((c : ℕ) → LiesFurther p.arena.now (opposite x.heading) x.crossing c → ⊥) → IsHandedOn p l x v
   none_behind l v none y n m = absurd (none y.crossing (nearest_back p.arena.now ready.arena x.heading y.crossing x.crossing m.next).lies)
 
-  -- all moves to the place come from the nearest crossing behind
+  -- all moves to the place begin at the nearest crossing behind
   module _ (c : ℕ) (at from : Point) (n : ℕ) (here : StandsAt p.arena.now x.crossing at) (behind : StandsAt p.arena.now c from)
       (nearest : IsNearest p.arena.now (opposite x.heading) x.crossing c) (far : n ≡ distance from at) where
     abbrev stretch : Stretch

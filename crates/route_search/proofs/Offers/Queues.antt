@@ -1,4 +1,4 @@
--- What a queue has once a candidate is put in.
+-- The contents of a queue once a candidate is added.
 use Rattle.std.proofs.Common.{◌≡◌, ◌⊎◌, zero, suc, List, [], ◌∷◌, get_or, refl, sym, subst, inl, inr, arith}
 use Rattle.std.proofs.lemmas.List.{get_or_default}
 use Rattle.std.specs.Prelude.{All, Contains, IsPermutation}

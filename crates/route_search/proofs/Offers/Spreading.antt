@@ -1,4 +1,4 @@
--- A search begins without labels, takes out the candidate with the least bound, and ends where none matters.
+-- A search begins without labels, removes the candidate with the least bound, and ends where none matters.
 use Rattle.std.proofs.Common.{◌≡◌, ◌≢◌, ◌⊎◌, ℕ, ◌+◌, ◌<◌, ◌≤◌, Bool, true, false, if◌then◌else◌, nat_lt, Option, None, Some, List, [], ◌∷◌, length, get_or, refl, sym, ap, subst, ◌∙◌, inl, inr, arith}
 use Rattle.std.specs.Prelude.{All, Contains, IsPermutation}
 use Rattle.std.specs.BinaryHeap.{heap_items}
@@ -98,7 +98,7 @@ module _ (p : Problem) (l : Labels) (q : Queue) (searching : IsSearching p l Non
         settled = λ x v at is_open here. dear x v at is_open here;
       }
 
-  -- a candidate is taken out
+  -- a candidate is removed
   module _ (c : Candidate) (taken : IsPermutation (heap_items l.queue.heap) (record { 0 = c } ∷ heap_items q.heap)) where
     rest_or_taken : (d : Reverse Candidate) → Contains (heap_items l.queue.heap) d → Contains (heap_items q.heap) d ⊎ (d ≡ record { 0 = c })
     rest_or_taken d has = first_or_rest (record { 0 = c }) (heap_items q.heap) d (Contains-permutation (heap_items l.queue.heap) (record { 0 = c } ∷ heap_items q.heap) d taken has)
@@ -126,7 +126,7 @@ module _ (p : Problem) (l : Labels) (q : Queue) (searching : IsSearching p l Non
           | inr dear ↦ inr dear
         ])
 
-    -- it costs more than what was found, and so do all that are left
+    -- it costs more than the best that was found, and so do all that are left
     pub spread_at_break : All (IsStubOffered p l) p.endings.items → All (λ (d : Reverse Candidate). c.bound ≤ d.0.bound) (heap_items q.heap) → l.best < c.bound → IsSpread p (with_queue l q)
     spread_at_break stubs least more =
         let dear : (x : Place) (v : Ahead) (at : Point) → label_at l x ≡ Open v → StandsAt p.arena.now x.crossing at → l.best < v.cost + bound_at p x at =

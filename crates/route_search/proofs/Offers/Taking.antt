@@ -1,4 +1,4 @@
--- A place is taken: its label is closed, and what lies ahead of it is handed on.
+-- A place is taken: its label is closed, and what is ahead of it is propagated.
 use Rattle.std.proofs.Common.{◌≡◌, ◌≢◌, ◌⊎◌, ℕ, ◌+◌, ◌<◌, ◌≤◌, min, Option, None, Some, sym, ap, subst, ◌∙◌, inl, inr, arith}
 use Rattle.std.specs.Prelude.{All, Any, Contains}
 use Rattle.std.specs.BinaryHeap.{heap_items}
@@ -40,7 +40,7 @@ none_open p l x s never = record {
   rooms = s.rooms;
 }
 
--- what the least walk costs that enters at the place, and the lesser of two
+-- the cost of the least walk that enters at the place, and the lesser of two
 pub least_entered : (p : Problem) → IsReady p → (x : Place) (v : Ahead) (least : ℕ) → (q : Point) × IsWayAhead p x q v → least ≤ most_cost
     → (least ≡ most_cost) ⊎ Any (λ e. (e.place ≡ x) × (least ≡ e.lead + v.cost)) p.entries.items → IsBest p least
 least_entered p ready x v least way most attained = record {
@@ -102,7 +102,7 @@ module _ (p : Problem) (old new : Labels) (x : Place) (v : Ahead) (searching : I
     rooms = record { places = puts.rooms.places ∙ searching.rooms.places; rows = omega (arith, puts.rooms.rows, searching.rooms.rows) };
   }
 
--- what lies ahead of it is handed on
+-- what is ahead of it is propagated
 pub handed_searching : (p : Problem) (mid new : Labels) (x : Place) (v : Ahead) → label_at mid x ≡ Closed v → IsSearching p new None (Some x) → Spreads mid new → IsHandedOn p new x v
     → IsSearching p new None None
 handed_searching p mid new x v closed s spreads handed = record {

@@ -21,7 +21,7 @@ use Rattle.search_labels.specs.declared.label.Row.{Row}
 use Rattle.search_labels.proofs.Gaps.{gap_above}
 use Rattle.route_search.specs.Labels.{IsSmallAhead, label_weight, row_weight}
 
--- how far the lean lies above the least that is small
+-- how far the lean is above the least value of a small one
 abbrev lean_above : Ahead → ℕ
 lean_above v = int_gap (negsuc 6579203999999999) v.lean
 

@@ -1,4 +1,4 @@
--- The corners behind equal steps, and the route that goes through them. General laws of walks.
+-- The corners after equal steps, and the route that goes through them. General laws of walks.
 use Rattle.std.proofs.Common.{◌≡◌, ℕ, suc, zero, ◌-◌, ◌<◌, ◌==◌, if◌then◌else◌, Bool, true, false, List, [], ◌∷◌, ◌++◌, length, replicate, refl, sym, ap, subst, ◌∙◌, arith, append_assoc}
 use Rattle.std.proofs.lemmas.List.{replicate-append-replicate}
 use Rattle.plane_geom.specs.declared.point.Point.{Point}
@@ -22,18 +22,18 @@ run_end d n p ds =
     corners_after-stretch d n (forward d 1 p) ds
     ∙ ap (λ (q : Point). corners_after d q ds) (forward-forward d n 1 p ∙ ap (λ k. forward d k p) (omega arith))
 
--- behind equal steps that come first
+-- after equal steps that come first
 pub corners_from : (d : Dir) (n : ℕ) (p : Point) (ds : List Dir) → 0 < n → corners p (replicate n d ++ ds) ≡ corners_after d (forward d n p) ds
 corners_from d zero p ds some = absurd (omega (arith, some))
 corners_from d (suc n) p ds some = run_end d n p ds
 
--- and behind others: there is one corner more where they turn
+-- and after others: there is one more corner where they turn
 pub corners_behind : (heading d : Dir) (n : ℕ) (p : Point) (ds : List Dir) → 0 < n
     → corners_after heading p (replicate n d ++ ds) ≡ (if turn heading d == 0 then corners_after d (forward d n p) ds else p ∷ corners_after d (forward d n p) ds)
 corners_behind heading d zero p ds some = absurd (omega (arith, some))
 corners_behind heading d (suc n) p ds some = ap (λ zs. if turn heading d == 0 then zs else p ∷ zs) (run_end d n p ds)
 
--- a corner more may stand at the end of those before or first among those behind
+-- one more corner may be the last of those before or the first of those after
 pub corner_between : (b : Bool) (points : List Point) (p : Point) (zs : List Point) → (if b then points else points ++ (p ∷ [])) ++ zs ≡ points ++ (if b then zs else p ∷ zs)
 corner_between true points p zs = refl
 corner_between false points p zs = append_assoc points (p ∷ []) zs

@@ -109,7 +109,7 @@ module _ (p : Problem) (l : Labels) (ready : IsReady p) (entry : Entry) (v : Ahe
     pub small_lead : entry.lead ≤ 9000000000
     small_lead = omega (arith, entry_of.lead, distance_small start.pin start.port is_choice.pin is_choice.port, is_choice.cost)
 
-    -- the walk costs what its entry leads and what is ahead
+    -- the cost of the walk is the lead of its entry and what is ahead
     pub cost_is : entry.lead + v.cost ≡ triple_cost p.task.now t
     cost_is =
         let whole = ap (λ (w : Ahead). w.cost) (way_ahead p.solids.now p.arena.now p.task.now t ready.problem.is_task e.labelled.along) in

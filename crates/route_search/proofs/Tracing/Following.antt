@@ -44,7 +44,7 @@ use Rattle.route_search.proofs.Moving.Sizes.{small_ending}
 use Rattle.route_search.proofs.Tracing.Tails.{stub_tail}
 use Rattle.std.proofs.lemmas.Option.{same_Some, slice_get_within}
 
--- where the steps that are left make as much ahead, so do they behind legs in common
+-- if the steps that are left give equally much ahead, so do they after common legs
 pub common_legs : (penalty : ℕ) (a : Arena) → IsArena a → (via : List Point) (ls : List Leg) (x y : Place) (p q : Point) (xs ys : List Dir) (b c : ℕ) → Leads a via x ls y
     → StandsAt a x.crossing p → StandsAt a y.crossing q → ahead penalty y.heading q xs b ≡ ahead penalty y.heading q ys c
     → ahead penalty x.heading p (steps_along ls ++ xs) b ≡ ahead penalty x.heading p (steps_along ls ++ ys) c
@@ -125,7 +125,7 @@ module _ (p : Problem) (l : Labels) (t : Triple) (h : IsLabelled p l t) where
     pub end : after at rest ≡ h.along.end.pin
     pub drawn : points ++ corners_after s.place.heading at rest ≡ t.walk.start ∷ corners t.walk.start t.walk.steps
 
-  -- a way with as much ahead makes a rival
+  -- a way with equally much ahead gives a rival
   module _ (ready : IsReady p) (s : Standing) (points : List Point) (f : IsFollowing s points) where
     pub rival_by : (legs : List Leg) (number : ℕ) (e : Choice) → slice_get p.task.now.ends number ≡ Some e → IsWay p.solids.now p.arena.now p.task.now.via s.place legs e
         → ahead p.task.now.penalty s.place.heading f.at (steps_of_way legs e) e.cost ≡ s.ahead → IsRival (steps_by f.passed ++ steps_of_way legs e) number

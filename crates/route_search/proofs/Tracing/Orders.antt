@@ -26,7 +26,7 @@ first_no_later d e (suc m) (suc n) xs ys o some more h = elim (cases_lt (rank e)
   | inr l ↦ l
 ]
 
--- of two stretches in one direction the one is no longer, and as long with no later end
+-- of two stretches in one direction the first is no longer, and of the same length with no later end
 pub record IsNoLongerStretch (m n i j : ℕ) : Type 0 where
   pub steps : m ≤ n
   pub end : m ≡ n → i ≤ j
@@ -39,7 +39,7 @@ stretch_no_later d (suc m) (suc n) i j h =
     let r = stretch_no_later d m n i j (λ g. h (ap (λ o. ordering_then o (nat_cmp i j)) (slice_cmp-stretch 1 d (replicate m d) (replicate n d)) ∙ g)) in
     record { steps = omega (arith, r.steps); end = λ e. r.end (omega (arith, e)) }
 
--- a stretch begins what goes on behind it, and stands before it
+-- a stretch is the beginning of what continues it, and comes before it
 pub longer_is_later : (d : Dir) (m n : ℕ) (x : Dir) (xs : List Dir) (o : Ordering) → n ≤ m → ordering_then (slice_cmp dir_cmp (replicate m d ++ x ∷ xs) (replicate n d)) o ≡ Greater
 longer_is_later d zero zero x xs o h = refl
 longer_is_later d zero (suc n) x xs o h = absurd (omega (arith, h))

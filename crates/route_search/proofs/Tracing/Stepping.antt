@@ -1,4 +1,4 @@
--- A step of the first walk: what is known of it holds behind the move, and its last step leads to the end.
+-- A step of the first walk: what is known of it holds after the move, and its last step leads to the end.
 use Rattle.std.proofs.Common.{◌≡◌, ◌⊎◌, ℕ, ◌+◌, ◌-◌, ◌*◌, ◌<◌, ◌==◌, if◌then◌else◌, ℤ, pos, ◌+ℤ◌, Option, Some, None, IfSome, List, [], ◌∷◌, ◌++◌, replicate, inl, inr, refl, sym, ap, subst, ◌∙◌, arith, append_assoc, append-nil}
 use Rattle.std.specs.Cmp.Lexicographic.{slice_cmp}
 use Rattle.std.specs.Ordering.{nat_cmp, ordering_then}

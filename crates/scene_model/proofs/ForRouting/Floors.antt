@@ -36,7 +36,7 @@ use Rattle.scene_model.proofs.Editing.Entries.{Pairs, pairs_to, pairs_from, each
 use Rattle.scene_model.proofs.Editing.Nodes.{id_of, few_pins}
 use Rattle.scene_model.proofs.Editing.EdgeEdits.{found_by}
 
--- what holds of each element of a list that is made of others
+-- what holds of each element of a list that is built of others
 split_append : {X : Type 0} (P : X → Type 0) (xs ys : List X) → Each P (xs ++ ys) → Each P xs × Each P ys
 split_append P [] ys e = (tt, e)
 split_append P (x ∷ xs) ys e = let r = split_append P xs ys e.1 in ((e.0, r.0), r.1)

@@ -71,7 +71,7 @@ position_is p xs l =
 suc_less : (k : ℕ) → suc k - 1 ≡ k
 suc_less k = omega arith
 
--- the place is within the shorter list or right behind it
+-- the place is within the shorter list or right after it
 insert_length : {X : Type 0} (xs : List X) (k : ℕ) (x : X) (ys : List X) → insert xs k x ≡ ys → k < length ys → suc k ≤ length xs + 1
 insert_length xs k x ys e l = by (cases_lt (length xs) k)
   where

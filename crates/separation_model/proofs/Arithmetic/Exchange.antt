@@ -48,7 +48,7 @@ sum_pairs-same f g e [] zs = refl
 sum_pairs-same f g e (x ∷ xs) [] = refl
 sum_pairs-same f g e (x ∷ xs) (z ∷ zs) = omega (arith, ints, e x z, sum_pairs-same f g e xs zs)
 
--- what comes in at an index less what goes out, weighted by the index, is each number weighted by the difference of its ends
+-- what is added at an index less what is removed, weighted by the index, is each number weighted by the difference of its ends
 pub net-exchange : {A : Type 0} (to from : A → ℕ) (n : ℕ) (y : ℕ → ℤ) (xs : List A) (zs : List ℤ) → All (λ x. to x < n) xs → All (λ x. from x < n) xs →
     sum_below n (λ i. y i *ℤ (sum_at to i xs zs -ℤ sum_at from i xs zs)) ≡ sum_pairs (λ x z. z *ℤ (y (to x) -ℤ y (from x))) xs zs
 net-exchange to from n y xs zs to_within from_within =

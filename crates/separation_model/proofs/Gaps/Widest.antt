@@ -30,7 +30,7 @@ narrower_meets b wider gap den place h m = record {
   rules = λ k d l. narrower_slack wider gap den place (slice_index_or b.rules.items k d) h (m.rules k d l);
 }
 
--- with the gap 0 all items may stand where they want to
+-- with the gap 0 all items may be at their wants
 wants_meet : (b : Bundle) → IsBundle b → MeetsOver b (pos 0) 1 (λ i. (item_at b.items.items i).want)
 wants_meet b ok = record {
   positive = omega arith;

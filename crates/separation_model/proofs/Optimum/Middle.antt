@@ -1,4 +1,4 @@
--- One: the middle of two least points is nearer to the wants, unless they are one.
+-- Uniqueness: the middle of two least points is nearer to the wants, unless they are equal.
 use Rattle.std.proofs.Common.{◌≡◌, ℕ, ◌*◌, ◌<◌, ℤ, pos, ◌+ℤ◌, ◌-ℤ◌, ◌*ℤ◌, ◌≤ℤ◌, List, [], ◌∷◌, length, ap, refl, ◌∙◌, arith}
 use Rattle.std.specs.Prelude.{slice_index, slice_index_or, EachIndex}
 use Rattle.std.proofs.lemmas.Int.{ints}

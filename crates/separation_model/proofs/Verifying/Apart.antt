@@ -22,7 +22,7 @@ room_split p q d e w r v t a s u =
     (((var 3 ⊖ (var 0 ⊕ var 6)) ⊗ (var 1 ⊗ var 4)) ⊕ ((var 5 ⊗ var 1) ⊖ (var 2 ⊗ var 4)))
     refl
 
--- an answer of `cmp` says the same of two other facts
+-- a result of `cmp` has the same meaning for two other facts
 match_ordering : {P Q R S T U : Type 0} (o : Ordering) → (P → S) → (Q → T) → (R → U) → MatchOrdering o P Q R → MatchOrdering o S T U
 match_ordering Less f g h m = f m
 match_ordering Equal f g h m = g m

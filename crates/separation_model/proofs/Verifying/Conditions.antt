@@ -143,7 +143,7 @@ displacement_as weight den place want limit x y few small a b limit_is x_is y_is
 pub want_over : (want : ℤ) (den : ℕ) (z : ℤ) → IsCoordinate want → 0 < den → z ≡ want *ℤ pos den → FractionIsOnSheet den z
 want_over want den z ok positive e = subst (λ v. FractionIsOnSheet den v) (sym e) (limit_on_sheet want den ok positive)
 
--- what the code's two sums say of an item
+-- the meaning of the code's two sums for an item
 pub rest_from : (b : Bundle) (s : Solution) (i : ℕ) (left right low high displacement rightward leftward : ℤ) →
     left ≡ from_left i b.rules.items s.mult.items → right ≡ from_right i b.rules.items s.mult.items → low ≡ int_at s.low.items i → high ≡ int_at s.high.items i →
     displacement ≡ pos 2 *ℤ pos (item_at b.items.items i).weight *ℤ (int_at s.pos.items i -ℤ (pos (slice_index s.den.items i) *ℤ (item_at b.items.items i).want)) →

@@ -16,7 +16,7 @@ use Rattle.separation_model.proofs.Arithmetic.Sums.{sum_below-same, sum_below-ad
 use Rattle.separation_model.proofs.Arithmetic.Exchange.{sum_pairs, net-exchange}
 use Rattle.separation_solve.proofs.Blocks.Members.{member_step, member_place, start_member, step_member}
 
--- 1 for a member, else 0
+-- 1 for a member, otherwise 0
 abbrev pub mark : Reach → ℕ → ℤ
 mark r i = if is_member r i then pos 1 else pos 0
 
@@ -133,7 +133,7 @@ member_force n start r block i =
     ∙ ap formula (sym u))
     (cases_Bool (is_member r i))
 
--- where the start stands, the members are left of their wants together
+-- at the place of the start, the members are left of their wants together
 pub block_short : (n : Network) (start : ℕ) (r : Reach) → IsSound n → IsBlock n start r →
     ((block_weight n r (items_of n) *ℤ (place_at n.places.items start).num) +ℤ (pos (place_at n.places.items start).den *ℤ block_moment n r (items_of n))) <ℤ pos 0
 block_short n start r sound block =

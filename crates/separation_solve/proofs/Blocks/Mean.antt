@@ -19,7 +19,7 @@ use Rattle.separation_model.proofs.Arithmetic.Sums.{part_of_sum}
 use Rattle.separation_solve.proofs.Blocks.Members.{member_is, member_place, start_member, weight_sign}
 use Rattle.separation_solve.proofs.Blocks.BlockForce.{block_short}
 
--- what the first items of a block weigh, and by how much they want the start to the right of 0
+-- the weight of the first items of a block, and by how much they are pulled from a start at 0 to the right
 pub record MeanSoFar (n : Network) (r : Reach) (items weight : ℕ) (moment : ℤ) : Type 0 where
   pub weighs : pos weight ≡ block_weight n r items
   pub wants : moment ≡ neg_ℤ (block_moment n r items)
@@ -136,7 +136,7 @@ mean_aim n start r weight moment mean sound block so reduced value den =
       ahead = cancel_less weight (place.num *ℤ pos mean.den) (mean.num *ℤ pos place.den) some (omega (arith, ints, scaled, opened, product));
     }
 
--- a want that was read
+-- the want that is read
 pub want_within : (n : Network) → IsSound n → (i : ℕ) (z : ℤ) → i < items_of n → z ≡ get_or n.wants.items i z → IsCoordinate z
 want_within n sound i z h e = subst IsCoordinate (sym (get_or_read n.wants.items i z h e (pos 0))) (All-get_or IsCoordinate n.wants.items i (pos 0) h sound.frame.wants)
 

@@ -6,7 +6,7 @@ use Rattle.separation_solve.specs.Reduced.{IsReduced}
 use Rattle.separation_model.proofs.Arithmetic.Ring.{ring, var, num, minus, ◌⊕◌, ◌⊗◌, ◌⊖◌}
 use Rattle.separation_model.proofs.Arithmetic.Order.{cancel}
 
--- a fraction is told by its parts
+-- a fraction is determined by its parts
 pub fraction_is : (place : Fraction) (top : ℤ) (bottom : ℕ) → place.num ≡ top → place.den ≡ bottom → place ≡ record { num = top; den = bottom }
 fraction_is place top bottom e f = λ i. record { num = e i; den = f i }
 

@@ -31,7 +31,7 @@ gap_fits gap p c s = fits_signed_mul w128 gap (pos p.den) 2000000000 3400000000 
 pub num_fits : (p : Fraction) → IsSpot p → FitsSigned w128 p.num
 num_fits p s = fits_signed_from_abs w128 p.num (omega (arith, spot_num p s, lit< {m = 6800000000000000000} {n = 2 ^ 127} tt))
 
--- what the test of two places says
+-- the consequence of the test of two places
 pub tight_test : (places : List Fraction) (link : Link) (a b : Fraction) → a ≡ place_at places link.from → b ≡ place_at places link.to → IsSpot a → IsSpot b → IsCoordinate link.gap → a.den ≡ b.den →
     IsTrue (nat_eq (of_z w128 (b.num -ℤ a.num)) (of_z w128 (link.gap *ℤ pos a.den))) ↔ IsTight places link
 tight_test places link a b is_a is_b s t c same =

@@ -23,7 +23,7 @@ listing_none places links lists empty = record {
       (λ w e. subst (All (IsTightAt places links)) (sym e) (All-nil (IsTightAt places links))) lists empty;
 }
 
--- the index stands at the one node's end, and all others where they stood
+-- the index is at the end of one node's list, and all others are where they were
 pub record IsAdded (P : ℕ → Type 0) (a j : ℕ) (old new : List (Vec ℕ Global)) : Type 0 where
   pub count : length new ≡ length old
   pub keeps : (i k : ℕ) (d : Vec ℕ Global) → Contains (get_or old i d).items k → Contains (get_or new i d).items k

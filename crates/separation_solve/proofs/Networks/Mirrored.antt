@@ -18,7 +18,7 @@ use Rattle.separation_model.proofs.Arithmetic.Ring.{ring, var, num, minus, ◌�
 use Rattle.separation_model.proofs.Arithmetic.Sums.{sum_below-same}
 use Rattle.separation_solve.proofs.Lists.PartSums.{sum_at-map}
 
--- the parts of a turned network
+-- the parts of a mirrored network
 pub link_at-turned : (links : List Link) (j : ℕ) → link_at (map turned_link links) j ≡ turned_link (link_at links j)
 link_at-turned links j = get_or-map turned_link links j no_link
 
@@ -78,7 +78,7 @@ tight_turned places link h =
       apart = rw (e, f) (let same : link.gap *ℤ pos a.den ≡ link.gap *ℤ pos b.den = ap (λ d. link.gap *ℤ pos d) h.den in omega (arith, ints, h.apart, same));
     }
 
--- a list that is turned twice
+-- a list that is mirrored twice
 map_twice : {A : Type 0} (f : A → A) → ((x : A) → f (f x) ≡ x) → (xs : List A) → map f (map f xs) ≡ xs
 map_twice f back [] = refl
 map_twice f back (x ∷ xs) = ap (λ y. y ∷ map f (map f xs)) (back x) ∙ ap (λ ys. x ∷ ys) (map_twice f back xs)
@@ -94,7 +94,7 @@ force_turned : (w : ℕ) (place : ℤ) (den : ℕ) (want : ℤ) → pos 2 *ℤ p
 force_turned w place den want =
     ring (pos w ∷ place ∷ pos den ∷ want ∷ []) (num (pos 2) ⊗ var 0 ⊗ (minus (var 1) ⊖ (var 2 ⊗ minus (var 3)))) (minus (num (pos 2) ⊗ var 0 ⊗ (var 1 ⊖ (var 2 ⊗ var 3)))) refl
 
--- lists of a network, turned
+-- lists of a network, mirrored
 pub record AreTurned (n : Network) (links : Vec Link Global) (wants : Vec ℤ Global) (places : Vec Fraction Global) (excess : Vec ℤ Global) : Type 0 where
   pub links_are : links.items ≡ map turned_link n.links.items
   pub wants_are : wants.items ≡ map neg_ℤ n.wants.items

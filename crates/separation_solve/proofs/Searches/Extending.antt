@@ -1,4 +1,4 @@
--- A search that goes on over the tight links that are listed at a node, and what it comes to.
+-- A search that continues over the tight links listed at a node, and its result.
 use Rattle.std.proofs.Common.{◌≡◌, ℕ, ◌+◌, ◌<◌, ◌≤◌, IsSome, List, length, get_or, All, Contains, Vec, arith, refl, sym, subst, ◌∙◌, ⊎_elim}
 use Rattle.std.specs.declared.alloc.Global.{Global}
 use Rattle.std.proofs.lemmas.Bool.{cases_lt}

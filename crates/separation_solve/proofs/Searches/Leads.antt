@@ -176,7 +176,7 @@ min_positive a b r e h k = omega (arith, ints, clamps)
 pub between_fits : (r a : ℤ) → pos 0 <ℤ r → r ≤ℤ a → FitsSigned w128 a → FitsSigned w128 r
 between_fits r a some less fits = omega (arith, ints)
 
--- what a test of the order says
+-- the consequence of a test of the order
 pub lt_true : (a b : ℤ) → lt_z a b ≡ true → a <ℤ b
 lt_true a b e = grind (arith, ints)
 

@@ -16,7 +16,7 @@ use Rattle.separation_model.proofs.Arithmetic.Order.{mul-mono}
 use Rattle.separation_model.proofs.Arithmetic.Ring.{ring, var, ◌⊕◌, ◌⊗◌}
 use Rattle.separation_model.proofs.Arithmetic.Sums.{sum_below-at}
 
--- the network, but for its flow
+-- the network, except its flow
 pub rest_is : (n now : Network) → KeepsRest n now → now ≡ record n { flow = now.flow }
 rest_is n now rest = λ i. record {
   links = rest.links i;
@@ -39,7 +39,7 @@ total_size-set zs i z h =
     let long : total_size new ≡ sum_below (length zs) (size new) = ap (λ k. sum_below k (size new)) (length-set zs i z) in
     omega (arith, ints, same, change, long)
 
--- the excess after an amount was sent from the one node to the other
+-- the excess after an amount was sent from one node to another
 pub record IsSettled (old new : List ℤ) (from to : ℕ) (a : ℤ) : Type 0 where
   pub long : length new ≡ length old
   pub each : (i : ℕ) → i < length old → int_at new i ≡ (int_at old i +ℤ here from i a) -ℤ here to i a

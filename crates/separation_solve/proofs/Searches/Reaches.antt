@@ -33,7 +33,7 @@ pub record IsNext (n : Network) (start : ℕ) (r : Reach) (step : Step) : Type 0
   pub is_step : IsStep n start step
   pub come_by : MatchOption step.via ⊥ (λ via. (via.parent < length r.steps.items) × IsAfter n via.link (step_at r.steps.items via.parent) step)
 
--- how the last step was come by
+-- how the last step was reached
 come_by_last : (n : Network) (start : ℕ) (r s : Reach) (step : Step) (k : ℕ) → k ≡ length r.steps.items → step_at s.steps.items k ≡ step → ((m : ℕ) → m < length r.steps.items → step_at s.steps.items m ≡ step_at r.steps.items m) →
     MatchOption step.via ⊥ (λ via. (via.parent < length r.steps.items) × IsAfter n via.link (step_at r.steps.items via.parent) step) → IsComeBy n s.steps.items k
 come_by_last n start r s step k e last keep h =
@@ -91,7 +91,7 @@ reach_added n start r s step reach next steps_are found_are =
           omega (arith, long, change, one, total, lens, reach.count);
     }
 
--- what a test of a node that was read says
+-- the consequence of a test of a node that was read
 pub not_found_is : (o p : Option ℕ) (b : Bool) → is_some o ≡ not b → b ≡ true → o ≡ p → p ≡ None
 not_found_is o p b e t same = sym same ∙ none_is o (e ∙ ap not t)
 

@@ -20,7 +20,7 @@ use Rattle.separation_model.proofs.Arithmetic.Ring.{ring, var, num, ◌⊕◌, �
 use Rattle.separation_model.proofs.Arithmetic.Sums.{sum_below-at}
 use Rattle.separation_solve.proofs.Lists.Optional.{match_option}
 
--- what is known of a step that was come by over a link
+-- what is known of a step that was reached over a link
 pub via_at : (n : Network) (start : ℕ) (r : Reach) (k : ℕ) (via : Via) → IsReach n start r → k < length r.steps.items → (step_at r.steps.items k).via ≡ Some via →
     (via.parent < k) × IsAfter n via.link (step_at r.steps.items via.parent) (step_at r.steps.items k)
 via_at n start r k via reach h e =

@@ -136,7 +136,7 @@ drawn_whole b gap by_left latest wants pressed places are =
           omega (arith, ints, clamps, at rule.left (omega (arith, is.forward, is.within)), at rule.right is.within, kept, over.rules j no_rule h);
     }
 
--- a want stands on the sheet
+-- a want is on the sheet
 pub want_coordinate : (b : Bundle) (wants : List ℤ) (i : ℕ) → IsBundle b → wants ≡ map (λ (item : Item). item.want) b.items.items → i < length wants → IsCoordinate (int_at wants i)
 want_coordinate b wants i ok e h =
     let count : length wants ≡ length b.items.items = ap length e ∙ length-map b.items.items (λ (item : Item). item.want) in

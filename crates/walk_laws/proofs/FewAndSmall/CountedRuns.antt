@@ -94,7 +94,7 @@ module _ (share : Dir → ℕ) where
       none zero = refl
       none (suc n) = omega (arith, goes_on_run d (share d), none n)
 
-  -- two lists one behind the other have no more than both
+  -- two lists one after the other have at most the runs of both (`counted_together`)
   counted_first : (x : Dir) (ys : List Dir) → counted_after share x ys ≤ counted share ys
   counted_first x [] = omega arith
   counted_first x (y ∷ ys) = omega (arith, begins_most (turn x y) (share y))

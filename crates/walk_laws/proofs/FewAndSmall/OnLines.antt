@@ -54,7 +54,7 @@ pub record AreOnLines {A : Type 0} (share : Dir → ℕ) (On : A → Point → T
   pub on : (xs : List Dir) (d : Dir) (ys : List Dir) → steps ≡ xs ++ d ∷ ys → 0 < share d → (a : A) × Contains names a × On a (after p xs) × On a (after p (xs ++ d ∷ []))
   pub once : (xs zs ys : List Dir) → steps ≡ xs ++ (zs ++ ys) → (a : A) → Contains names a → On a (after p xs) → On a (after p (xs ++ zs)) → runs zs ≤ 1
 
--- a step, one in another direction, and any steps behind
+-- a step, one in another direction, and any steps after them
 two_runs : (d e : Dir) (es xs : List Dir) (f : Dir) (ys : List Dir) → 0 < turn d e → e ∷ es ≡ xs ++ f ∷ ys → 2 ≤ runs (d ∷ (xs ++ f ∷ []))
 two_runs d e es [] f ys h cut = let same : e ≡ f = cc in subst (λ (x : Dir). 2 ≤ runs (d ∷ x ∷ [])) same (omega (arith, begins_run d e 1 h))
 two_runs d e es (x ∷ xs) f ys h cut = let same : e ≡ x = cc in subst (λ (y : Dir). 2 ≤ runs (d ∷ y ∷ (xs ++ f ∷ []))) same (omega (arith, begins_run d e 1 h))

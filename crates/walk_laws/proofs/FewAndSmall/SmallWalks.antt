@@ -112,7 +112,7 @@ module _ (floor : Floor) (task : Task) (t : Triple) (is_floor : IsFloor floor) (
   straight_corners [] w draws = tt
   straight_corners (p ∷ qs) w draws = draws.0
 
-  -- so its route is a line that a call may be handed
+  -- so its route is a line that calls accept
   pub orthogonal_route : (r : Route) → IsRouteOf task r t → IsOrthogonal r.points
   orthogonal_route r h = record {
     straight = straight_corners r.points t.walk h.draws;

@@ -63,7 +63,7 @@ stub_begins : (solids : List Solid) (may : Option ℤ) (p : Point) (d : Dir) (n 
 stub_begins solids may p d zero some c = absurd (omega arith)
 stub_begins solids may p d (suc n) some c = λ k s inside other h. c.0 k s inside other (inside_from (get_or solids k s).rect p d h)
 
--- steps that come by a checkpoint stand on it after some of them
+-- steps that pass a checkpoint are at it after some of them
 come_to : (p : Point) (ds : List Dir) (cs : List Point) (c : Point) → ComesBy p ds cs → Contains cs c → (xs : List Dir) × (ys : List Dir) × (ds ≡ xs ++ ys) × (after p xs ≡ c)
 come_to p ds [] c h k = absurd (let l : k.0 < 0 = k.1 in omega arith)
 come_to p ds (b ∷ cs) c (xs, ys, cut, there, rest) (zero, l, is) = (xs, ys, cut, there ∙ is)
@@ -133,7 +133,7 @@ turn_crossing floor p d e h k m = elim (ways_differ d e h) as (λ _. IsCrossing 
   | inr w ↦ record { vertical = m.line; horizontal = k.line; is_vertical = m.way ∙ w.1; is_horizontal = k.way ∙ w.0; vertical_kept = m.kept; horizontal_kept = k.kept; on_vertical = m.begin; on_horizontal = k.end }
 ]
 
--- a point tells at which coordinate a line of one way runs
+-- a point determines the coordinate of a line of one way through it
 place_across : (way : Way) (at at' z z' : ℤ) → point_on way at z ≡ point_on way at' z' → at ≡ at'
 place_across Vertical at at' z z' e = ap (λ (p : Point). p.x) e
 place_across Horizontal at at' z z' e = ap (λ (p : Point). p.y) e

@@ -59,7 +59,7 @@ module _ (solids : List Solid) (task : Task) (t : Triple) (is_task : IsTask task
   pub rest_of : (xs ys : List Dir) (k : ℕ) → middle ≡ xs ++ ys → k ≡ from + length xs → drop k t.walk.steps ≡ ys ++ stub_back l.end
   rest_of xs ys k cut is = ap (drop k) (cut_walk xs ys cut) ∙ drop_at (stub l.start ++ xs) (ys ++ stub_back l.end) k (place_of xs ∙ sym is)
 
-  -- the point and the step behind them
+  -- the point and the step after them
   pub point_of : (xs ys : List Dir) (k : ℕ) → middle ≡ xs ++ ys → k ≡ from + length xs → point_at t.walk k ≡ after l.start.port xs
   point_of xs ys k cut is =
       let here : k ≡ length (stub l.start ++ xs) = is ∙ sym (place_of xs) in

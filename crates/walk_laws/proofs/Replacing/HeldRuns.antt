@@ -31,7 +31,7 @@ module _ (solids : List Solid) (task : Task) (t : Triple) (first : IsFirst solid
   abbrev port : Point
   port = first.legal.start.port
 
-  -- where a leg ends behind a step
+  -- where a leg ends after a step
   leg_end : (xs : List Dir) (u : Dir) (ys : List Dir) (leg : Leg port task.via xs u ys) → after (after port leg.front) (leg.before ++ u ∷ leg.behind) ≡ after (after port (xs ++ u ∷ [])) leg.behind
   leg_end xs u ys leg =
       after-append (after port leg.front) leg.before (u ∷ leg.behind)

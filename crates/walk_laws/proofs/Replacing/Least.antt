@@ -35,7 +35,7 @@ fewer_before task u t e h = past_equal _ _ _ e (cheaper_cmp _ _ _ h)
 leaner_before : (task : Task) (u t : Triple) → triple_cost task u ≡ triple_cost task t → runs u.walk.steps ≡ runs t.walk.steps → lean u.walk.start u.walk.steps <ℤ lean t.walk.start t.walk.steps → IsBefore task u t
 leaner_before task u t e f h = past_equal _ _ _ e (past_equal _ _ _ f (lower_cmp _ _ _ h))
 
--- the one is no dearer than the other, at the same cost has no more runs, and then leans no more
+-- the first costs no more than the second, at the same cost has no more runs, and then no greater sum of run coordinates
 pub record IsNoWorse (task : Task) (t u : Triple) : Type 0 where
   pub cost : triple_cost task t ≤ triple_cost task u
   pub fewer : triple_cost task u ≤ triple_cost task t → runs t.walk.steps ≤ runs u.walk.steps

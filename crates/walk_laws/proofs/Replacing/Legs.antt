@@ -39,7 +39,7 @@ pub record Leg (p : Point) (via : List Point) (xs : List Dir) (d : Dir) (ys : Li
   pub last : ys ≡ behind ++ back
   pub begins : (front ≡ []) ⊎ Contains via (after p front)
   pub ends : (back ≡ []) ⊎ Contains via (after (after p front) (before ++ d ∷ behind))
-  -- between these two points other steps come by the checkpoints as well
+  -- between these two points other steps pass the checkpoints as well
   pub swap : (other : List Dir) → after (after p front) other ≡ after (after p front) (before ++ d ∷ behind) → ComesBy p (front ++ (other ++ back)) via
 
 contains_more : (c q : Point) (cs : List Point) → Contains cs q → Contains (c ∷ cs) q
@@ -153,7 +153,7 @@ module _ (solids : List Solid) (task : Task) (t : Triple) (l : IsLegalTriple sol
       ∙ ap (λ ds. leg.front ++ ds) (sym (append_assoc leg.before (d ∷ leg.behind) leg.back)))
       leg.swap
 
--- checkpoints passed by the first steps and by those behind
+-- checkpoints passed by the first steps and by those after them
 comes_later : (p : Point) (xs ys : List Dir) (cs : List Point) → ComesBy (after p xs) ys cs → ComesBy p (xs ++ ys) cs
 comes_later p xs ys [] h = tt
 comes_later p xs ys (c ∷ cs) h = (xs ++ h.0, h.1, ap (λ ds. xs ++ ds) h.2 ∙ sym (append_assoc xs h.0 h.1), after-append p xs h.0 ∙ h.3, h.4)

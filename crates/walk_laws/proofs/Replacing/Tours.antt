@@ -21,7 +21,7 @@ stub c = replicate (stub_length c) c.dir
 abbrev pub stub_back : Choice → List Dir
 stub_back c = replicate (stub_length c) (opposite c.dir)
 
--- a legal walk in three parts: the one stub, the steps between the ports, and the other stub reversed
+-- a legal walk in three parts: the first stub, the steps between the ports, and the other stub reversed
 pub record IsTour (solids : List Solid) (via : List Point) (s : Choice) (w : Walk) (e : Choice) (middle : List Dir) : Type 0 where
   pub start : w.start ≡ s.pin
   pub steps : w.steps ≡ stub s ++ (middle ++ stub_back e)

@@ -1,4 +1,4 @@
--- Steps that meet no solid, and steps that come by checkpoints, over lists of steps.
+-- Steps that meet no solid, and steps that pass checkpoints, over lists of steps.
 use Rattle.std.proofs.Common.{◌≡◌, ◌≢◌, ◌+◌, ◌-◌, ℤ, Option, Some, List, [], ◌∷◌, ◌++◌, length, take, drop, get_or, All, inl, inr, refl, sym, ap, subst, ◌∙◌, arith, append_assoc, length-append}
 use Rattle.std.proofs.lemmas.Bool.{cases_lt}
 use Rattle.std.proofs.lemmas.List.{take_at, get_or_at, length-take-le, take-append-drop}
@@ -12,7 +12,7 @@ use Rattle.walk_model.specs.Walk.{Walk, after, point_at, step_at}
 use Rattle.walk_model.specs.Legal.{IsFree, Passes}
 use Rattle.walk_model.proofs.CornerByCorner.Scan.{after-append}
 
--- a unit step meets no solid, but for those of the node that may be met
+-- a unit step meets no solid, except those of the node that may be met
 abbrev pub IsClearStep : List Solid → Option ℤ → Point → Dir → Type 0
 IsClearStep solids may p d = All (λ s. Some s.node ≢ may → StepMeets s.rect p d → ⊥) solids
 
@@ -21,7 +21,7 @@ abbrev pub IsClear : List Solid → Option ℤ → Point → List Dir → Type 0
 IsClear solids may p [] = Unit {0}
 IsClear solids may p (d ∷ ds) = IsClearStep solids may p d × IsClear solids may (forward d 1 p) ds
 
--- the steps from the point come by the checkpoints in order
+-- the steps from the point pass the checkpoints in order
 abbrev pub ComesBy : Point → List Dir → List Point → Type 0
 ComesBy p ds [] = Unit {0}
 ComesBy p ds (c ∷ cs) = (xs : List Dir) × (ys : List Dir) × (ds ≡ xs ++ ys) × (after p xs ≡ c) × ComesBy c ys cs

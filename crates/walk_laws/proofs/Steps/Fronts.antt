@@ -1,4 +1,4 @@
--- What the steps in front leave to those behind: their last direction.
+-- What the steps in front leave to those after them: their last direction.
 use Rattle.std.proofs.Common.{◌≡◌, ◌+◌, ◌+ℤ◌, List, [], ◌∷◌, ◌++◌, Option, Some, None, arith}
 use Rattle.std.proofs.lemmas.Int.{ints}
 use Rattle.plane_geom.specs.declared.point.Point.{Point}
@@ -11,7 +11,7 @@ use Rattle.walk_model.proofs.CornerByCorner.Appending.{last_of, bends_after-appe
 use Rattle.walk_model.proofs.CornerByCorner.Bends.{bends_from}
 use Rattle.walk_model.proofs.CornerByCorner.Shapes.{runs_from, lean_from}
 
--- all that the steps in front leave to those behind is their last direction
+-- all that the steps in front leave to those after them is their last direction
 pub record Leave (front : List Dir) (last : Option Dir) : Type 0 where
   pub bends_on : (ds : List Dir) → bends (front ++ ds) ≡ bends front + bends_from last ds
   pub runs_on : (ds : List Dir) → runs (front ++ ds) ≡ runs front + runs_from last ds

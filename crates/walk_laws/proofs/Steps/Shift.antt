@@ -63,7 +63,7 @@ over u d h = omega (arith, h)
 over_back : (u d : Dir) → turn u d ≡ 1 → 0 < turn d u
 over_back u d h = omega (arith, h, turn_back d u)
 
--- behind a bend a stretch begins a run
+-- after a bend a stretch begins a run
 bend_runs : (u d : Dir) (n : ℕ) (ds : List Dir) → 0 < turn u d → 0 < n → runs_after u (replicate n d ++ ds) ≡ 1 + runs_after d ds
 bend_runs u d n ds turns some = new_runs (Some u) d n ds some (λ e. bend_differs u d turns (let same : u ≡ d = cc in same))
 
@@ -145,7 +145,7 @@ module _ (front back : List Dir) (u d : Dir) (n : ℕ) (cross : turn u d ≡ 1) 
         runs_after-stretch u 1 back,
       ))
 
--- where the run one step later has no fewer runs, the step behind goes the same way
+-- where the run one step later has no fewer runs, the step after it goes the same way
 behind_same : (front back : List Dir) (u d : Dir) (n : ℕ) → 0 < turn u d → 0 < turn d u → 0 < n → Leave front (Some u) → runs (between front back u d n) ≤ runs (later front back u d n) → (rest : List Dir) × (back ≡ u ∷ rest)
 behind_same front [] u d n turns turns_back some l h = absurd (omega (
   arith,
@@ -180,7 +180,7 @@ module _ (front rest : List Dir) (u d : Dir) (n : ℕ) (p : Point) (cross : turn
   abbrev end : Point
   end = forward d n q
 
-  -- what the three walks lean behind the steps in front
+  -- the leans of the three walks after the steps in front
   lean_between : lean p (between front (u ∷ rest) u d n) ≡ lean p front +ℤ (across (way_of d) (forward u 1 q) +ℤ (across (way_of u) end +ℤ lean_after u (forward u 3 end) rest))
   lean_between =
       let r = forward d n (forward u 1 q) in

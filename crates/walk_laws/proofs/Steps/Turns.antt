@@ -55,7 +55,7 @@ across_two North West East h k = inr refl
 across_two North West West h k = inl refl
 across_two _ _ _ h k = absurd (omega arith)
 
--- one direction more at the front adds no more than its bend
+-- one more direction at the front adds at most its bend
 pub bends_after_by : (h y : Dir) (zs : List Dir) → bends_after h zs ≤ turn h y + bends_after y zs
 bends_after_by h y [] = omega arith
 bends_after_by h y (k ∷ zs) = omega (arith, triangle h y k)

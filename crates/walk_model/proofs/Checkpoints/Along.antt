@@ -8,7 +8,7 @@ use Rattle.walk_model.specs.Legal.{PassesMost}
 use Rattle.walk_model.specs.Stretch.{GoesAlong, IsPointOf}
 use Rattle.walk_model.proofs.Checkpoints.Passing.{most-first, most_none}
 
--- the first `count` checkpoints are passed by point number `place`: those passed from there on come on top
+-- the first `count` checkpoints are passed by point number `place`: those passed from there on are added
 pub record PassedSoFar (s : Stretch) (from to : ℕ) (via : List Point) (place count : ℕ) : Type 0 where
   pub begun : s.number ≤ place
   pub ahead : (w : Walk) → GoesAlong w s → (k : ℕ) → PassesMost w place (min to (s.number + s.steps)) (drop count via) k →

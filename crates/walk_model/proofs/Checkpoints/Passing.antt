@@ -28,7 +28,7 @@ pub passes_front : (w : Walk) (from to : ℕ) (cs ds : List Point) → Passes w 
 passes_front w from to [] ds p = tt
 passes_front w from to (c ∷ cs) ds p = (p.0, p.1, p.2, p.3, passes_front w p.0 to cs ds p.4)
 
--- a checkpoint that is not passed up to a point is passed behind it
+-- a checkpoint that is not passed up to a point is passed after it
 pub passes_behind : (w : Walk) (from mid low to : ℕ) (cs ds : List Point) (c : Point) → ((i : ℕ) → from ≤ i → mid < i → i ≤ to → low ≤ i) → (Passes w from mid (cs ++ c ∷ []) → ⊥) → Passes w from to (cs ++ c ∷ ds) → Passes w low to (c ∷ ds)
 passes_behind w from mid low to [] ds c next not p =
     elim (cases_lt mid p.0) as (λ _. Passes w low to (c ∷ ds)) [

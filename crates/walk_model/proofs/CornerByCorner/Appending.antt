@@ -1,4 +1,4 @@
--- Bends, runs, lean and free steps of two lists of steps, one behind the other.
+-- Bends, runs, sums of run coordinates and free steps of two lists of steps, one after the other.
 use Rattle.std.proofs.Common.{◌≡◌, ◌≢◌, ℕ, ◌+◌, ◌-◌, ◌≤◌, ℤ, ◌+ℤ◌, Option, Some, List, [], ◌∷◌, ◌++◌, length, take, drop, get_or, All, inl, inr, refl, sym, ap, subst, ◌∙◌, arith}
 use Rattle.std.proofs.lemmas.Bool.{cases_lt}
 use Rattle.std.proofs.lemmas.Int.{ints}
@@ -21,7 +21,7 @@ abbrev pub last_of : Dir → List Dir → Dir
 last_of d [] = d
 last_of d (e ∷ es) = last_of e es
 
--- the steps behind see the last step in front alone
+-- for the steps after them, only the last step in front matters
 pub bends_after-append : (d : Dir) (xs ds : List Dir) → bends_after d (xs ++ ds) ≡ bends_after d xs + bends_after (last_of d xs) ds
 bends_after-append d [] ds = omega arith
 bends_after-append d (e ∷ xs) ds = omega (arith, bends_after-append e xs ds)
@@ -41,7 +41,7 @@ free_together solids may w from mid to h k n low high = elim (cases_lt n mid) as
   | inr l ↦ k n l high
 ]
 
--- what is free along the steps in front or behind is free along all
+-- what is free along the steps in front or after them is free along all
 module _ (solids : List Solid) (may : Option ℤ) (p : Point) (xs ys : List Dir) where
   abbrev front : Walk
   front = record { start = p; steps = xs }

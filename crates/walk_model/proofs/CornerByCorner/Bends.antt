@@ -37,7 +37,7 @@ pub runs_after-stretch : (d : Dir) (n : ℕ) (ds : List Dir) → runs_after d (r
 runs_after-stretch d zero ds = refl
 runs_after-stretch d (suc n) ds = rw (turn_same d, zero-add) (runs_after-stretch d n ds)
 
--- equal steps, and the last of them with the steps behind
+-- equal steps, and the last of them with the steps after it
 pub stretch_end : (n : ℕ) (d : Dir) (ds : List Dir) → replicate (suc n) d ++ ds ≡ replicate n d ++ (d ∷ ds)
 stretch_end n d ds = ap (λ k. replicate k d ++ ds) (let e : suc n ≡ n + 1 = omega arith in e) ∙ ap (λ xs. xs ++ ds) (sym (replicate-append-replicate n 1 d)) ∙ append_assoc (replicate n d) (d ∷ []) ds
 

@@ -64,7 +64,7 @@ stands_step w k i p q qs s h =
     sym (get_or-drop k w.steps i East) ∙ ap (λ (ds : List Dir). get_or ds i East) s.ahead
     ∙ get_or_append_left (replicate n d) (steps_through q qs) East i (rw (length-replicate n d) h) ∙ get_or-replicate n i d East h
 
--- behind a straight segment the walk stands at its other end
+-- after a straight segment the walk is at its other end
 pub stands_next : (w : Walk) (k : ℕ) (p q : Point) (qs : List Point) → IsStraight p q → Stands w k p (q ∷ qs) → Stands w (k + distance p q) q qs
 stands_next w k p q qs straight s =
     let d = heading p q in

@@ -1,4 +1,4 @@
--- Runs and lean of a line, corner by corner.
+-- Runs and sum of run coordinates of a line, corner by corner.
 use Rattle.std.proofs.Common.{◌≡◌, ◌≢◌, ℕ, suc, zero, ◌+◌, ◌*◌, ◌<◌, ◌≤◌, ℤ, pos, ◌+ℤ◌, Option, Some, None, List, [], ◌∷◌, ◌++◌, length, drop, get_or, replicate, All, refl, sym, ap, subst, ◌∙◌, arith, false, ◌==◌, if◌then◌else◌, unsigned_abs}
 use Rattle.std.proofs.lemmas.Int.{ints}
 use Rattle.std.proofs.lemmas.List.{append-nil, drop_more}
@@ -15,7 +15,7 @@ use Rattle.walk_model.proofs.CornerByCorner.Bends.{turn_same, runs_after-stretch
 use Rattle.plane_geom.proofs.Headings.{straight_end}
 use Rattle.walk_model.proofs.CornerByCorner.Scan.{forward-zero, forward-forward}
 
--- the runs and the lean of the steps from the point that follow the last step, if there is one
+-- the runs and the sum of run coordinates of the steps from the point that follow the last step, if there is one
 abbrev pub runs_from : Option Dir → List Dir → ℕ
 runs_from None ds = runs ds
 runs_from (Some d) ds = runs_after d ds
@@ -66,14 +66,14 @@ new_lean (Some d) e (suc n) p ds h not =
     ap (λ b. (if b then pos 0 else across (way_of e) p) +ℤ lean_after e (forward e 1 p) (replicate n e ++ ds)) (turn_differs d e (λ same. not (ap Some same)))
     ∙ ap (λ z. across (way_of e) p +ℤ z) (lean_after-stretch e n (forward e 1 p) ds ∙ ap (λ (q : Point). lean_after e q ds) (forward-forward e n 1 p ∙ ap (λ k. forward e k p) (omega arith)))
 
--- equal steps lean as their line does
+-- the sum of run coordinates of equal steps is the coordinate of their line
 pub lean-stretch : (p : Point) (d : Dir) (n : ℕ) → 0 < n → lean p (replicate n d) ≡ across (way_of d) p
 lean-stretch p d n some =
     let whole = new_lean None d n p [] some (λ e. cc) in
     let same : lean p (replicate n d) ≡ lean p (replicate n d ++ []) = ap (lean p) (sym (append-nil (replicate n d))) in
     omega (arith, ints, same, whole)
 
--- at a corner, with what came before, what the corners ahead add to the runs and the lean makes all
+-- the runs and the sum of run coordinates so far, with those that the corners ahead add, make the whole
 pub record ShapeSoFar (points rest : List Point) (i : ℕ) (at : Point) (last : Option Dir) (count : ℕ) (sum : ℤ) : Type 0 where
   pub within : PointIsOnSheet at
   pub rest_within : All PointIsOnSheet rest
@@ -136,7 +136,7 @@ module _ (points rest : List Point) (i : ℕ) (at : Point) (last : Option Dir) (
         small = omega (arith, ints, so.small, across_small e at so.within);
       }
 
-  -- or goes on the one before it
+  -- or continues the one before it
   pub shape_same : last ≡ Some (heading at next) → ShapeSoFar points rest (i + 1) next last count sum
   shape_same same =
       let e = heading at next in

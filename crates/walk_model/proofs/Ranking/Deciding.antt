@@ -1,4 +1,4 @@
--- Whether a walk is legal is told by a test that computes.
+-- A test that computes decides whether a walk is legal.
 use Rattle.std.proofs.Common.{◌≡◌, ◌≢◌, Bool, true, false, not, ◌&&◌, ◌||◌, ℕ, suc, zero, ◌+◌, ◌-◌, ◌<◌, ◌≤◌, leb, ℤ, pos, ◌+ℤ◌, ◌-ℤ◌, ◌≤ℤ◌, ◌<ℤ◌, List, [], ◌∷◌, length, take, drop, replicate, Option, Some, None, refl, sym, ap, subst, ◌∙◌, inl, inr, arith}
 use lib.Signed.{lt_z, le_z}
 use Rattle.std.proofs.lemmas.Int.{ints, by_lt_z}
@@ -223,7 +223,7 @@ is_legal solids via s w e =
     ((does_leave w s && does_arrive w e) && (leb (a + b) n && is_passed w (n - b) via a))
     && ((is_free solids (Some s.node) w 0 a && is_free solids None w a (n - b)) && is_free solids (Some e.node) w (n - b) n)
 
--- whether a walk is legal with two choices is told by the test
+-- the test decides whether a walk is legal with two choices
 pub legal_told : (solids : List Solid) (via : List Point) (s : Choice) (w : Walk) (e : Choice) → Tells (is_legal solids via s w e) (IsLegal solids via s w e)
 legal_told solids via s w e =
     let a = stub_length s in

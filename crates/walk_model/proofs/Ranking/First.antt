@@ -48,7 +48,7 @@ before_upto task v t u h not = by_order (compare_triples task t u) refl
     by_order Equal e = sym (alike_right (triples_total task) t u v e) ∙ h
     by_order Greater e = absurd (not ((triples_total task).antisymm u t ∙ ap ordering_reverse e))
 
--- the first key alone: a walk that stands before another costs no more
+-- the first key alone: a walk that comes before another costs no more
 cost_first : (o p : Ordering) (m n : ℕ) → o ≡ nat_cmp m n → ordering_then o p ≡ Less → m ≤ n
 cost_first Less p m n e h = let l : m < n = ranked m n Less e in omega arith
 cost_first Equal p m n e h = let l : m ≡ n = ranked m n Equal e in omega arith
@@ -289,7 +289,7 @@ same_steps (x ∷ xs) (y ∷ ys) h =
     let head : x ≡ y = same_rank x y (same_number (rank x) (rank y) e.0) in
     let tail : xs ≡ ys = same_steps xs ys e.1 in cc
 
--- legal walks that the order does not tell apart are one
+-- legal walks that the order does not distinguish are equal
 same_order : (solids : List Solid) (task : Task) (a b : Triple) → IsLegalTriple solids task a → IsLegalTriple solids task b → compare_triples task a b ≡ Equal → a ≡ b
 same_order solids task a b l k h =
     let runs_on = (then_equal (nat_cmp (triple_cost task a) (triple_cost task b)) _ h).1 in

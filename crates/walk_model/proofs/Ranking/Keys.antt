@@ -1,4 +1,4 @@
--- A route says of itself what its walk says.
+-- The data of a route are those of its walk.
 use Rattle.std.proofs.Common.{◌≡◌, List, [], ◌∷◌, refl, sym, ap}
 use Rattle.std.specs.declared.cmp.Ordering.{Ordering}
 use Rattle.std.specs.declared.cmp.Ordering.TheVariants.{Less, Equal, Greater}
@@ -17,7 +17,7 @@ then_assoc Less p q = refl
 then_assoc Equal p q = refl
 then_assoc Greater p q = refl
 
--- a line has the steps and the lean of the walk that it draws
+-- a line has the steps and the sum of run coordinates of the walk that it draws
 drawn_steps : (points : List Point) (w : Walk) → Draws points w → steps_of points ≡ w.steps
 drawn_steps [] w d = absurd d
 drawn_steps (p ∷ qs) w d = ap (λ (v : Walk). v.steps) (sym d.1)

@@ -17,7 +17,7 @@ use Rattle.walk_model.proofs.CornerByCorner.Bends.{turn_same, runs_after-stretch
 use Rattle.walk_model.proofs.CornerByCorner.Scan.{forward-zero, forward-forward}
 use Rattle.walk_model.proofs.Ranking.First.{one_first}
 
--- where the runs end of steps in the direction to the point and of those behind them
+-- where the runs end of steps in the direction to the point and of those after them
 abbrev pub corners_after : Dir → Point → List Dir → List Point
 corners_after d p [] = p ∷ []
 corners_after d p (e ∷ es) = if turn d e == 0 then corners_after e (forward e 1 p) es else p ∷ corners_after e (forward e 1 p) es

@@ -27,7 +27,7 @@ one_segment d n p qs ds some l = record {
       ∙ ap (λ (e : Dir). replicate n e ++ steps_through (forward d n p) qs) (forward_heading d n p some) ∙ ap (λ es. replicate n d ++ es) l.steps;
 }
 
--- behind some equal steps, the corners at which the runs end lead along all steps
+-- after some equal steps, the corners at which the runs end lead along all steps
 corners_lead : (d : Dir) (n : ℕ) (p : Point) (ds : List Dir) → Leads p (corners_after d (forward d (suc n) p) ds) (replicate (suc n) d ++ ds)
 corners_lead d n p [] = one_segment d (suc n) p [] [] (omega arith) (record { straight = tt; steps = refl })
 corners_lead d n p (e ∷ es) = by_turn (one_direction d e) (corners_lead d (suc n) p es) (corners_lead e 0 q es)

@@ -1,4 +1,4 @@
--- What is left of a line's steps, as a stretch and the line behind it.
+-- What is left of a line's steps, as a stretch and the line after it.
 use Rattle.std.proofs.Common.{◌≡◌, ℕ, suc, zero, ◌-◌, ◌≤◌, List, ◌∷◌, ◌++◌, replicate, drop, All, refl, sym, ap, subst, ◌∙◌, arith}
 use Rattle.std.specs.declared.cmp.Ordering.TheVariants.{Equal}
 use Rattle.std.specs.Ordering.{ordering_then}

@@ -1,4 +1,4 @@
--- The bundle has what its parts say.
+-- The bundle has what its parts have.
 use Rattle.std.proofs.Common.{refl, w64, FitsSigned, rules}
 use Rattle.std.proofs.lemmas.Int.{to_z-of_z}
 use Rattle.channel_bundles.proofs.Bundling.{good_bundle}

@@ -1,4 +1,4 @@
--- The chosen runs may be handed on, as all may.
+-- The chosen runs are accepted, as all are.
 use Rattle.std.proofs.Common.{length, sym, ap, subst, ◌∙◌, arith, w64, FitsSigned, rules}
 use Rattle.std.specs.Prelude.{All, IfOk}
 use Rattle.std.proofs.lemmas.Int.{to_z-of_z}

@@ -1,4 +1,4 @@
--- The command that is built is the one by which words are read.
+-- The command that is built is the one by which the arguments are read.
 use Rattle.std.proofs.Common.{rules, ◌≡◌, ◌∙◌, true, ap, ap₂, sym}
 use Rattle.std.proofs.lemmas.Result.{IfOk-weaker}
 use Rattle.clap.specs.Words.{app_of, rule_of, with_rule}

@@ -1,4 +1,4 @@
--- A first word that is none of the three commands' names.
+-- A first argument that is none of the three subcommands' names.
 use Rattle.command_words.proofs.Commands.{no_command}
 use Rattle.command_words.proofs.read.read_words.Goals as goal
 

@@ -1,4 +1,4 @@
--- A word that spells a seed has its number.
+-- An argument that spells a seed has its number.
 use Rattle.std.proofs.Common.{sym, ◌∙◌}
 use Rattle.command_words.proofs.Numbers.{seed_read}
 use Rattle.command_words.proofs.values.seed.Goals as goal

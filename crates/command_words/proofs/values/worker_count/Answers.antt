@@ -1,4 +1,4 @@
--- Four words have a number of workers each, and no other word has one.
+-- Four arguments give a number of workers each, and no other one gives one.
 use Rattle.std.proofs.Common.{refl}
 use Rattle.command_words.proofs.Numbers.{no_worker_count}
 use Rattle.command_words.proofs.values.worker_count.Goals as goal

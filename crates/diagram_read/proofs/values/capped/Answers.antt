@@ -7,7 +7,7 @@ use Rattle.std.proofs.lemmas.Int.Digits.{digits_value_more}
 use Rattle.std.proofs.lemmas.List.Folds.{list_all_more}
 use Rattle.diagram_read.proofs.values.capped.Goals as goal
 
--- the value of a digit is how far it stands behind the first
+-- the value of a digit is its distance from the first digit
 digit_told : (b : ℕ) → is_ascii_digit b ≡ true → digit_value b ≡ b - 48
 digit_told b h = grind (arith, nat_tests)
 

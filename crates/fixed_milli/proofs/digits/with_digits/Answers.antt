@@ -1,4 +1,4 @@
--- Digits behind a number, up to a limit.
+-- Digits after a number, up to a limit.
 use Rattle.std.proofs.Common.{arith}
 use Rattle.std.proofs.lemmas.Str.{digit_value_digit}
 use Rattle.std.proofs.lemmas.Str.Parse.{digit_at}

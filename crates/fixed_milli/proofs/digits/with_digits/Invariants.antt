@@ -1,4 +1,4 @@
--- What holds while digits are put behind a number.
+-- What holds while digits are appended to a number.
 use Rattle.std.proofs.Common.{◌≡◌, min, take}
 use Rattle.std.specs.Str.Parse.{digits_value_after}
 use Rattle.fixed_milli.proofs.digits.with_digits.Given as goal

@@ -1,4 +1,4 @@
--- Zeros behind a number, up to the limit.
+-- Zeros after a number, up to the limit.
 use Rattle.std.proofs.Common.{◌≡◌, ◌*◌, ◌^◌, min, ap, ◌∙◌, arith}
 use Rattle.fixed_milli.specs.declared.digits.TheConstants.{LIMIT}
 use Rattle.fixed_milli.proofs.Decimals.{zeros_more, zeros_all}

@@ -1,4 +1,4 @@
--- What holds while zeros are put behind a number.
+-- What holds while zeros are appended to a number.
 use Rattle.std.proofs.Common.{◌≡◌, ◌*◌, ◌^◌, min}
 use Rattle.fixed_milli.specs.declared.digits.TheConstants.{LIMIT}
 use Rattle.fixed_milli.proofs.digits.with_zeros.Given as goal

@@ -1,4 +1,4 @@
--- The script is the one that is made from the seed.
+-- The script is the one that is generated from the seed.
 use Rattle.std.proofs.Common.{◌<◌, ◌^◌, length, sym, subst, ◌∙◌}
 use Rattle.script_replay.specs.Replies.{AreDirected}
 use Rattle.form_make.proofs.Script.{script_directed, script_short}

@@ -1,4 +1,4 @@
--- The commands that are made are numbered.
+-- The generated commands are numbered.
 use Rattle.std.proofs.Common.{◌≡◌, subst, ◌∙◌}
 use Rattle.std.specs.Prelude.{IfOk}
 use Rattle.form_make.specs.Makes.{numbered_from}

@@ -1,4 +1,4 @@
--- The report, and the printed diagram behind it.
+-- The report, followed by the printed diagram.
 use Rattle.std.proofs.Common.{◌++◌, ap, ◌∙◌}
 use Rattle.gml_text.specs.View.{tree}
 use Rattle.diagram_read.specs.Scene.{scene_of}

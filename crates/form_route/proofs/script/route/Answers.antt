@@ -1,4 +1,4 @@
--- What comes of a script is its report and the diagram behind it.
+-- The result of a script is its report, followed by the diagram.
 use Rattle.std.proofs.Common.{List, ap, subst, ◌∙◌}
 use Rattle.std.specs.Prelude.{IfOk}
 use Rattle.gml_text.specs.View.{tree}

@@ -1,4 +1,4 @@
--- One made edge more, of two draws.
+-- One more generated edge, from two draws.
 use Rattle.std.proofs.Common.{rules, ◌<◌, ◌+◌, length, sym, ap, arith, ◌∙◌, w64, to_z, of_z}
 use Rattle.std.specs.Prelude.{pos}
 use mir.Val.{SFits}

@@ -1,4 +1,4 @@
--- The made edges so far are there, of two draws each.
+-- The generated edges so far are there, from two draws each.
 use Rattle.std.proofs.Common.{◌≡◌, ◌+◌, ◌*◌}
 use Rattle.generated_input.specs.Draws.{first, state_after}
 use Rattle.generated_input.specs.Made.{made_edge}

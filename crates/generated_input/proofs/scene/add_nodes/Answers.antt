@@ -1,4 +1,4 @@
--- One made node more, of four draws.
+-- One more generated node, from four draws.
 use Rattle.std.proofs.Common.{rules, ◌+◌, ◌/◌, ◌%◌, sym, ap, arith, ◌∙◌, w64, to_z, of_z}
 use Rattle.std.specs.Prelude.{pos}
 use mir.Val.{SFits}

@@ -1,4 +1,4 @@
--- The made nodes so far are there, of four draws each.
+-- The generated nodes so far are there, from four draws each.
 use Rattle.std.proofs.Common.{◌≡◌, ◌*◌}
 use Rattle.scene_model.specs.Scene.{empty_scene}
 use Rattle.generated_input.specs.Draws.{first, state_after}

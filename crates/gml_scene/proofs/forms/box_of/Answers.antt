@@ -1,4 +1,4 @@
--- The four lengths stand one behind the other.
+-- The four lengths come one after the other.
 use Rattle.std.proofs.Common.{◌≡◌, ap, ◌∙◌, rules}
 use Rattle.std.specs.Prelude.{codes, pos, ◌*ℤ◌}
 use Rattle.gml_text.specs.Tree.{list, ◌then◌}

@@ -1,4 +1,4 @@
--- The id, the box and the pins stand one behind the other.
+-- The id, the box and the pins come one after the other.
 use Rattle.std.proofs.Common.{◌≡◌, ap, ◌∙◌, rules}
 use Rattle.std.specs.Prelude.{codes}
 use Rattle.gml_text.specs.Tree.{list, ◌then◌}

@@ -1,4 +1,4 @@
--- What is shared and alone comes of the two lists of kept lines, and the room that is made is enough.
+-- The shared lines and those of one floor alone follow from the two lists of kept lines, and the room that is made is enough.
 use Rattle.std.proofs.Common.{◌≡◌, true, false, List, length, not, refl, sym, ap, subst, ◌∙◌, arith}
 use Rattle.plane_geom.specs.declared.floor.Line.{Line}
 use Rattle.line_arena.specs.Arena.{IsArena}

@@ -13,7 +13,7 @@ use Rattle.graph_repair.proofs.Exchanged.{all_there, leads_at, leads_back, may_c
 use Rattle.graph_repair.proofs.exchange.exchange.Goals as goal
 use Rattle.graph_repair.proofs.exchange.exchange.Goals.{After-take-parts, After-take_lines, After-put_lines}
 
--- what the repair is seen as, with its vectors as lists
+-- the model of the repair, with its vectors as lists
 abbrev seen : Inside → Change
 seen r = record { floor = r.floor; stay = r.stay.items; here = r.here.items; there = r.there.items; applied = r.applied }
 

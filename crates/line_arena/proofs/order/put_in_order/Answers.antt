@@ -1,4 +1,4 @@
--- The new line goes behind all that it does not stand before.
+-- The new line goes after all that it does not come before.
 use Rattle.std.proofs.Common.{◌≡◌, ◌⊎◌, ◌≤◌, true, false, length, sym, subst}
 use Rattle.std.specs.Prelude.{Contains, ◌↔◌}
 use Rattle.std.specs.List.{insert}

@@ -1,4 +1,4 @@
--- What begins with the stretch is added to what is ahead behind it.
+-- The share of the stretch is added to what is ahead after it.
 use Rattle.move_model.proofs.GoingOn.Stretching.{stretch_ahead, stretch_order, stub_ahead}
 use Rattle.move_model.proofs.laws.stretches_in_front.Goals as goal
 

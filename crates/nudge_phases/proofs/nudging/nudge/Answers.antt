@@ -1,4 +1,4 @@
--- The raw routes are as the phases ask, and what is made of them is what is promised.
+-- The raw routes are as the phases require, and their result is what is promised.
 use Rattle.std.proofs.Common.{List, ap, sym, subst, ◌∙◌, rules, w64, FitsSigned}
 use Rattle.std.specs.Prelude.{All}
 use Rattle.std.proofs.lemmas.Int.{to_z-of_z}

@@ -1,4 +1,4 @@
--- What phase x makes is handed to phase y, and its result is written.
+-- The result of phase x is passed to phase y, and its result is written.
 use Rattle.std.proofs.Common.{List, arith, sym, subst, rules, w64, FitsSigned}
 use Rattle.std.specs.Prelude.{All}
 use Rattle.std.proofs.lemmas.Int.{to_z-of_z}
@@ -16,11 +16,11 @@ use Rattle.nudge_routes.proofs.nudging.nudge_routes.Goals.{In_ok-x, In_ok-y}
 pub phase-requires-clause-movable : goal.phase-requires-clause-movable
 phase-requires-clause-movable c = raw_may_move c.args.solids.now c.args.raw.items c.args.nudge c.requires.raw c.requires.legal
 
--- what the phase of the vertical runs made
+-- the result of the phase of the vertical runs
 x_is : (c : In_ok-x) → IsPhase c.args.solids.now c.args.raw.items Vertical c.args.nudge c.in_ok-x.x.routes.items c.in_ok-x.x.solutions.items
 x_is c = let fits : FitsSigned w64 c.args.nudge = search rules in simp to_z-of_z at c.in_ok-x.ensures
 
--- and what that of the horizontal ones made of it
+-- and the result of the phase of the horizontal runs on it
 y_is : (c : In_ok-y) → IsPhase c.args.solids.now c.in_ok-x.x.routes.items Horizontal c.args.nudge c.in_ok-y.y.routes.items c.in_ok-y.y.solutions.items
 y_is c = let fits : FitsSigned w64 c.args.nudge = search rules in simp to_z-of_z at c.in_ok-y.ensures
 

@@ -1,4 +1,4 @@
--- Where searches are told.
+-- Where the numbers of searches are reported.
 use Rattle.std.proofs.Common.{append_assoc}
 use Rattle.report_text.proofs.reply.push_open_line.Goals as goal
 

@@ -1,4 +1,4 @@
--- What is told so far, and the replies that are left, give the whole.
+-- What is written so far, and the replies that are left, give the whole.
 use Rattle.std.proofs.Common.{◌≡◌, ◌++◌, drop}
 use Rattle.report_text.specs.Replies.{reply_lines}
 use Rattle.report_text.proofs.reply.push_reply_lines.Given as goal

@@ -1,4 +1,4 @@
--- What is told so far, and the elements that are left, give the whole.
+-- What is written so far, and the elements that are left, give the whole.
 use Rattle.std.proofs.Common.{◌≡◌, ◌++◌, drop}
 use Rattle.report_text.specs.Routed.{routed_lines}
 use Rattle.report_text.proofs.routed.push_routed_lines.Given as goal

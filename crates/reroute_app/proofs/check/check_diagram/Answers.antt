@@ -1,4 +1,4 @@
--- What is found is what is said.
+-- The results are the outcome.
 use Rattle.std.proofs.Common.{sym, ap, subst, ◌∙◌, ◌++◌}
 use Rattle.gml_text.specs.View.{tree}
 use Rattle.report_text.specs.Findings.{finding_lines}

@@ -1,4 +1,4 @@
--- The outcome of the form is that of the words.
+-- The outcome of the subcommand is that of the arguments.
 use Rattle.std.proofs.Common.{◌≡◌, Some}
 use Rattle.std.specs.Prelude.{map, string_bytes}
 use Rattle.command_words.specs.Words.{check, form_of, route}
@@ -8,13 +8,13 @@ use Rattle.reroute_app.proofs.form.outcome_of.Given as given
 use Rattle.reroute_app.proofs.form.outcome_of.Goals as goal
 use Rattle.reroute_app.proofs.form.outcome_of.Goals.{In-Some-Check, In-Some-Route}
 
--- the words ask for this check
+-- the arguments ask for this check
 asks_check : (g : given.Over) (c : In-Some-Check g) → Some (check c.in-Some-Check.diagram.now) ≡ form_of (map string_bytes c.args.words.now)
 asks_check g c =
     let r = c.in-Some-Check in
     told_form (map string_bytes c.args.words.now) c.in_ok-read_words.field-0 r.field-0 _ r.is r.field-0-is c.in_ok-read_words.ensures
 
--- the words ask for this route, and so for one to four workers
+-- the arguments ask for this route, and so for one to four workers
 asks_route : (g : given.Over) (c : In-Some-Route g) → let r = c.in-Some-Route in Some (route r.diagram.now r.script.now r.workers r.count) ≡ form_of (map string_bytes c.args.words.now)
 asks_route g c =
     let r = c.in-Some-Route in

@@ -1,4 +1,4 @@
--- Bytes that are no document are the end.
+-- Bytes that are not valid GML are the end.
 use Rattle.std.proofs.Common.{rules}
 use Rattle.reroute_app.specs.View.{view}
 use Rattle.reroute_app.proofs.Stops.{read_with, no_document_ends}

@@ -1,4 +1,4 @@
--- Bytes that are no diagram are the end of the read.
+-- Bytes that are not a valid diagram are the end of the read.
 use Rattle.std.proofs.Common.{subst}
 use Rattle.std.specs.Prelude.{IfErr}
 use Rattle.reroute_app.specs.Diagram.{TakesDiagram}

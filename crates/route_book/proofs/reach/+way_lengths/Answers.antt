@@ -24,7 +24,7 @@ leg_short t c =
 straight_short : (t : ℕ) (c : After-way_lengths-rest t) → c.distance-step.result + c.way_lengths-rest.result.straight ≤ 8 * 10 ^ 9 * (length c.args.via.now + 1)
 straight_short t c = omega (arith, leg_short t c, rest_length c.args.via.now origin c.in-len1-up.len_at_least, c.way_lengths-rest.ensures.short)
 
--- and so is the way by the rectangle
+-- and so is the way past the rectangle
 by_short : (t : ℕ) (c : After-way_lengths-rest t) → c.distance-step.result + c.way_lengths-rest.result.by ≤ 8 * 10 ^ 9 * (length c.args.via.now + 2)
 by_short t c = omega (arith, leg_short t c, rest_length c.args.via.now origin c.in-len1-up.len_at_least, c.way_lengths-rest.ensures.short_by)
 

@@ -1,4 +1,4 @@
--- The node with the solid's id tells.
+-- The node with the solid's id decides.
 use Rattle.std.proofs.Common.{◌≡◌, Some, None, sym, ap, ◌∙◌, arith, true≢false, w64, to_z, of_z}
 use Rattle.std.proofs.lemmas.Int.{ints}
 use Rattle.std.proofs.lemmas.Bool.Decides.{Decides-at}

@@ -1,4 +1,4 @@
--- The rules are tried in their order: the verdict is the first that is broken, and else the cost.
+-- The rules are tried in their order: the verdict is the first that is broken, and otherwise the cost.
 use Rattle.std.proofs.Common.{◌≡◌, ◌↔◌, ℕ, ◌+◌, ◌-◌, ◌≤◌, ◌∷◌, List, length, take, Option, Some, None, Err, refl, sym, ap, to_z, of_z, w64, ◌∙◌, subst, arith, All}
 use Rattle.std.proofs.lemmas.Int.{ints}
 use Rattle.std.proofs.lemmas.List.{take_all}
@@ -46,7 +46,7 @@ start_choice_is c = All-contains IsChoice c.args.task.now.starts c.in-Some-start
 count_is : (c : After-cost_of-steps) → c.cost_of-steps.result ≡ length (steps_through c.in-Some.field-0-0.now c.in-Some.rest.now)
 count_is c = omega (arith, c.cost_of-steps.ensures, ap (λ (ps : List Point). walk_cost 0 (steps_of ps)) c.in-Some.ensures.cases.0)
 
--- what is found where the line ends, behind the stub of that choice
+-- what is found where the line ends, after the stub of that choice
 end_found : (c : After-end_choice) (o : Option Choice)
     → IsCheapestIfAny (ArrivesWithin (walk_through c.in-Some.field-0-0.now c.in-Some.rest.now) (c.cost_of-steps.result - c.distance-leave.result)) c.as_slice-2.result.now o
     → IsCheapestIfAny (ArrivesWithin (walk_through c.in-Some.field-0-0.now c.in-Some.rest.now) (length (steps_through c.in-Some.field-0-0.now c.in-Some.rest.now) - stub_length c.in-Some-start_choice.start)) c.args.task.now.ends o

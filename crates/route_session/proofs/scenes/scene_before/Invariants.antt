@@ -1,4 +1,4 @@
--- The inverses behind the place are applied.
+-- The inverses after the place are applied.
 use Rattle.std.proofs.Common.{◌≡◌, drop}
 use Rattle.scene_model.specs.Inverses.{taken_back}
 use Rattle.route_session.proofs.scenes.scene_before.Given as goal

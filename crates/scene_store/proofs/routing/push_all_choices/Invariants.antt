@@ -1,4 +1,4 @@
--- The choices so far are those of the pins so far, behind the others.
+-- The choices so far are those of the pins so far, after the others.
 use Rattle.std.specs.Prelude.{◌≡◌, ◌++◌, take}
 use Rattle.scene_model.specs.Routing.{choices_of}
 use Rattle.scene_store.proofs.routing.push_all_choices.Given as goal

@@ -1,4 +1,4 @@
--- The checkpoints so far are those of the connectors so far, behind the other points.
+-- The checkpoints so far are those of the connectors so far, after the other points.
 use Rattle.std.specs.Prelude.{◌≡◌, ◌++◌, not, take, filter}
 use Rattle.std.specs.List.{flat_map}
 use Rattle.scene_model.specs.Scene.{is_loop}

@@ -1,4 +1,4 @@
--- A floor of few anchors without solids is one that a call may be handed.
+-- Calls accept a floor of few anchors without solids.
 use Rattle.std.proofs.Common.{◌≤◌, length, All, subst, ◌≡◌, [], map, get_or, arith}
 use Rattle.plane_geom.specs.Point.{PointIsOnSheet}
 use Rattle.std.proofs.lemmas.List.{get_or-map, length-map}

@@ -1,4 +1,4 @@
--- The task of a connector is one that a call may be handed, and the floor of its scene is a floor of it.
+-- Calls accept the task of a connector, and the floor of its scene is a floor of it.
 use Rattle.std.proofs.Common.{ℕ, ◌≡◌, ◌≢◌, Option, Some, None, refl, sym, subst}
 use Rattle.std.specs.Prelude.{IfSome, IsSomeAnd}
 use Rattle.plane_geom.specs.declared.floor.Floor.{Floor}

@@ -1,4 +1,4 @@
--- The first entries decide, or the rays behind them do.
+-- The first entries decide, or the rays after them do.
 use Rattle.std.proofs.Common.{rules, ◌≡◌, ◌≢◌, ◌<◌, MatchOption, Some, length, inl, refl, sym, ap, subst, ◌∙◌}
 use Rattle.std.specs.declared.cmp.Ordering.TheVariants.{Equal}
 use Rattle.std.specs.Cmp.Lexicographic.{slice_cmp}

@@ -1,4 +1,4 @@
--- A span under a new number comes in where the bar is open.
+-- A span under a new number is added if the bar is open.
 use Rattle.std.proofs.Common.{◌≡◌, ◌∙◌, refl, sym, ap, subst, false, true, take, ◌+◌}
 use Rattle.interval_index.specs.declared.span.Span.{Span}
 use Rattle.interval_index.specs.Index.{has_key}

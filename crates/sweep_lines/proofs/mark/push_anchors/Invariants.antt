@@ -1,4 +1,4 @@
--- The anchors so far stand behind what stood there.
+-- The anchors so far come after what was there.
 use Rattle.std.proofs.Common.{◌≡◌, ◌++◌, map, take}
 use Rattle.sweep_lines.specs.Marks.{anchor_mark}
 use Rattle.sweep_lines.proofs.mark.push_anchors.Given as goal

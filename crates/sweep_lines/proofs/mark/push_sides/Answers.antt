@@ -1,4 +1,4 @@
--- Both sides of one more bar come behind the others.
+-- Both sides of one more bar come after the others.
 use Rattle.std.proofs.Common.{◌∙◌, ◌++◌, sym, ap, ◌∷◌, []}
 use Rattle.sweep_lines.proofs.Loops.{sides_more, pushed_both}
 use Rattle.sweep_lines.proofs.mark.push_sides.Goals as goal

@@ -1,4 +1,4 @@
--- The sides of the bars so far stand behind what stood there.
+-- The sides of the bars so far come after what was there.
 use Rattle.std.proofs.Common.{◌≡◌, ◌++◌, take}
 use Rattle.sweep_lines.specs.Marks.{sides_from}
 use Rattle.sweep_lines.proofs.mark.push_sides.Given as goal

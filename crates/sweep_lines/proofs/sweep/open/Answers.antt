@@ -1,4 +1,4 @@
--- The span that begins with one more mark comes in, under a new key.
+-- The span that begins with one more mark is added, under a new key.
 use Rattle.std.proofs.Common.{◌∙◌, sym, subst, take, ◌+◌}
 use Rattle.sweep_lines.specs.Open.{AreOpened}
 use Rattle.sweep_lines.proofs.Loops.{opened_more, opened_same, opened_new}

@@ -1,4 +1,4 @@
--- The bar of each key has the span's ends, and its gap comes behind the lines so far.
+-- The bar of each key has the span's ends, and its gap comes after the lines so far.
 use Rattle.std.proofs.Common.{◌≡◌, ◌∙◌, sym, ap, subst, w64, to_z, pos, ◌+◌, ◌++◌, ◌≤ℤ◌, drop, get_or, length, arith}
 use Rattle.std.specs.Int.{int_max}
 use Rattle.std.proofs.lemmas.Int.{to_z-of_z}

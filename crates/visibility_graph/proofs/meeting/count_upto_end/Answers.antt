@@ -1,4 +1,4 @@
--- Lines in order are parted behind the last that the line may meet.
+-- Lines in order are parted after the last that the line may meet.
 use Rattle.std.proofs.Common.{not, rules}
 use Rattle.std.specs.Prelude.{int_lt}
 use Rattle.std.proofs.lemmas.List.Sorted.{IsPartitionPoint-from_clause}

@@ -1,4 +1,4 @@
--- The runs and the lean up to a corner.
+-- The runs and the sum of run coordinates up to a corner.
 use Rattle.walk_model.proofs.CornerByCorner.Shapes.{ShapeSoFar}
 use Rattle.walk_model.proofs.order.shape_of.Given as goal
 

@@ -1,4 +1,4 @@
--- Where the ranges along overlap, the run sweeps what it sweeps across; else it sweeps nothing.
+-- Where the ranges along overlap, the run sweeps what it sweeps across; otherwise it sweeps nothing.
 use Rattle.std.proofs.Common.{◌↔◌, ℤ, w64, to_z, of_z, FitsSigned, rules, refl, sym, true≢false}
 use Rattle.std.proofs.lemmas.Int.{to_z-of_z}
 use Rattle.plane_geom.specs.declared.rect.Rect.{Rect}
@@ -9,7 +9,7 @@ use Rattle.channel_bundles.proofs.Sweeping.{swept_vertical, swept_horizontal, ke
 use Rattle.channel_bundles.proofs.limits.Limits.kept_out.Goals as goal
 use Rattle.channel_bundles.proofs.limits.Limits.kept_out.Goals.{Start, In-Vertical, In-Horizontal}
 
--- a number as a call is handed it
+-- a number as the argument of a call
 abbrev handed : ℤ → ℤ
 handed x = to_z w64 (of_z w64 x)
 
@@ -25,7 +25,7 @@ record Fit (rect : Rect) (run : Run) : Type 0 where
 fit_here : (c : Start) → Fit c.args.solid.now.rect c.args.run.now
 fit_here c = record { left = search rules; right = search rules; top = search rules; bottom = search rules; at = search rules }
 
--- what a vertical run sweeps on its way to a coordinate, in the numbers that the calls are handed
+-- what a vertical run sweeps on its way to a coordinate, in the numbers that the calls get
 swept_upright : (c : In-Vertical) (z : ℤ) → Sweeps c.args.run.now.way c.args.solid.now.rect c.args.run.now.at z c.args.run.now.lo c.args.run.now.hi
     ↔ (Overlaps (handed c.args.solid.now.rect.left) (handed c.args.solid.now.rect.right) (handed c.args.run.now.at) z × Overlaps (handed c.args.solid.now.rect.top) (handed c.args.solid.now.rect.bottom) c.args.run.now.lo c.args.run.now.hi)
 swept_upright c z =

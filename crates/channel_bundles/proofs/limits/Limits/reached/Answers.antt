@@ -1,4 +1,4 @@
--- One who travels east or south comes to ever greater coordinates.
+-- One who travels east or south reaches ever greater coordinates.
 use Rattle.std.proofs.Common.{◌≡◌, ◌⊎◌, ◌↔◌, ℤ, ◌≤ℤ◌, inl, inr, sym, subst, w64, FitsSigned, rules}
 use Rattle.std.proofs.lemmas.Int.{to_z-of_z}
 use Rattle.plane_geom.specs.declared.point.Dir.{Dir}

@@ -1,4 +1,4 @@
--- Edge by edge, what was read is what the graph says.
+-- Edge by edge, what was read is what the graph has.
 use Rattle.std.proofs.Common.{◌≡◌, ◌+◌, ℕ, drop, Ok, ap, sym, subst, ◌∙◌, rules}
 use Rattle.std.specs.Prelude.{codes}
 use Rattle.gml_text.specs.View.{pairs}

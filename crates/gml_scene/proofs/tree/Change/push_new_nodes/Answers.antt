@@ -1,4 +1,4 @@
--- One more new node is written, and what is left goes behind.
+-- One more new node is written, and what is left follows.
 use Rattle.std.proofs.Common.{ap, sym, ◌∙◌, arith}
 use Rattle.std.specs.Prelude.{is_none}
 use Rattle.std.specs.Option.{option_copied}

@@ -1,4 +1,4 @@
--- The new nodes so far are written, and those that are left go behind them.
+-- The new nodes so far are written, and those that are left follow them.
 use Rattle.std.proofs.Common.{◌≡◌, ◌-◌, length, drop}
 use Rattle.gml_text.specs.Tree.{◌then◌}
 use Rattle.gml_text.specs.View.{pairs}

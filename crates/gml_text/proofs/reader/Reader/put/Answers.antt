@@ -1,4 +1,4 @@
--- A pair goes behind the others.
+-- A pair is appended to the others.
 use Rattle.std.proofs.Common.{rules}
 use Rattle.gml_text.proofs.Views.{pairs-push}
 use Rattle.gml_text.specs.declared.tree.Value.{the_lemmas}

@@ -1,4 +1,4 @@
--- No document ends behind a key.
+-- No document ends after a key.
 use Rattle.std.proofs.Common.{refl}
 use Rattle.gml_text.specs.Reader.{frames}
 use Rattle.gml_text.specs.Reading.{behind}

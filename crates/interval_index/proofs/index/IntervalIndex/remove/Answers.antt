@@ -1,4 +1,4 @@
--- A key that is absent changes nothing; else its span goes from the tree and from the table by keys.
+-- A key that is absent changes nothing; otherwise its span is removed from the tree and from the table by keys.
 use Rattle.std.proofs.Common.{◌≡◌, Some, None, is_some, ap, sym, ◌∙◌}
 use Rattle.std.specs.Prelude.{◌==◌, find}
 use Rattle.interval_index.specs.Index.{without_key}

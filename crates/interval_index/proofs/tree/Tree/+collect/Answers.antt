@@ -1,4 +1,4 @@
--- A tree whose ends are all too low meets nothing; else what meets stands in its left side, its node and its right side.
+-- A tree whose ends are all too low meets nothing; otherwise what meets is in its left side, its node and its right side.
 use Rattle.std.proofs.Common.{◌≡◌, ℕ, ◌≤ℤ◌, [], ◌∷◌, ◌++◌, sym, subst, arith, rules, w64}
 use Rattle.std.proofs.lemmas.Int.{ints, to_z-of_z}
 use Rattle.std.proofs.lemmas.List.{append-nil}

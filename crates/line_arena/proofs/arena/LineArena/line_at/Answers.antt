@@ -1,4 +1,4 @@
--- A line is there where it stands among the lines in order, and nowhere else.
+-- A line is there exactly if it is among the lines in order.
 use Rattle.std.proofs.Common.{refl, sym, subst}
 use Rattle.std.specs.Prelude.{Contains}
 use Rattle.line_arena.proofs.Arenas.ArenaLemmas.{is_arena}

@@ -8,7 +8,7 @@ use Rattle.line_arena.proofs.LineOrder.OrderKept.{kept_same, same_lines, same_co
 use Rattle.line_arena.proofs.Arenas.Seen.{seen_slots}
 use Rattle.line_arena.proofs.arena.LineArena.reserve.Goals as goal
 
--- where memory is wanting for the order, or for the lines, or for the crossings, or for nothing
+-- when out of memory for the order, or for the lines, or for the crossings, or for nothing
 pub invariant_of-self : goal.invariant_of-self
 invariant_of-self c =
     let a = c.self.inside.lists in

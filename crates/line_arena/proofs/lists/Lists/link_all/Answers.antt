@@ -6,7 +6,7 @@ use Rattle.line_arena.proofs.Linking.Kept.{East≢South, East≢West, East≢Nor
 use Rattle.line_arena.proofs.Linking.Walk.{read_next}
 use Rattle.line_arena.proofs.lists.Lists.link_all.Goals as goal
 
--- the node tells the neighbours
+-- the node contains the neighbours
 pub link_in-requires-2-clause-before : goal.link_in-requires-2-clause-before
 link_in-requires-2-clause-before c =
     let line = c.args.node.now.vertical in

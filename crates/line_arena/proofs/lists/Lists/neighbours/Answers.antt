@@ -1,4 +1,4 @@
--- Of two crossings next to each other, the point lies beyond the one and not beyond the other.
+-- Of two crossings next to each other, the point is beyond the first and not beyond the second.
 use Rattle.std.proofs.Common.{◌∙◌, None, Some, ap, sym, subst}
 use Rattle.plane_geom.specs.Point.{opposite}
 use Rattle.plane_geom.specs.Along.{reach}

@@ -1,4 +1,4 @@
--- A crossing that goes last on both its lines has none beyond it; else its neighbours are looked for.
+-- A crossing that goes last on both its lines has none beyond it; otherwise its neighbours are looked for.
 use Rattle.std.proofs.Common.{◌≢◌, ◌∙◌, None, Some, ap, sym, subst}
 use Rattle.plane_geom.specs.Along.{reach}
 use Rattle.plane_geom.specs.declared.point.Dir.TheVariants.{East, South, West, North}

@@ -1,4 +1,4 @@
--- The new crossing knows its neighbours, and they come to know it.
+-- The new crossing has its neighbours, and they get it as their neighbour.
 use Rattle.std.proofs.Common.{ℕ, Some, ap, refl, sym, subst}
 use Rattle.std.specs.Option.{option_map}
 use Rattle.plane_geom.specs.Along.{reach}

@@ -1,4 +1,4 @@
--- The crossing knows its neighbours, and they come to know each other.
+-- The crossing has its neighbours, and they become neighbours of each other.
 use Rattle.std.proofs.Common.{None, refl, subst}
 use Rattle.slab.specs.Slab.{Updates}
 use Rattle.line_arena.specs.Lists.{spot_at}

@@ -1,4 +1,4 @@
--- A link that is taken out in one direction changes nothing in the other three.
+-- A link that is removed in one direction changes nothing in the other three.
 use Rattle.plane_geom.specs.declared.point.Dir.TheVariants.{East, South, West, North}
 use Rattle.line_arena.specs.Lists.{without}
 use Rattle.line_arena.proofs.Linking.Kept.{East≢South, East≢West, East≢North, South≢East, South≢West, South≢North, West≢East, West≢South, West≢North, North≢East, North≢South, North≢West, knows_kept, linked_kept}

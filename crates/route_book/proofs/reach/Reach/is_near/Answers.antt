@@ -1,4 +1,4 @@
--- The shortest way by the rectangle tells.
+-- The shortest way past the rectangle decides.
 use Rattle.std.proofs.Common.{◌≡◌, arith}
 use Rattle.std.specs.Prelude.{unsigned_abs}
 use Rattle.std.proofs.lemmas.Int.{ints}

@@ -1,4 +1,4 @@
--- All moves to the place come from the nearest crossing behind it, in some stage.
+-- All moves to the place begin at the nearest crossing behind it, in some stage.
 use Rattle.std.proofs.Common.{◌+◌, rules, sym, subst, arith}
 use Rattle.plane_geom.specs.declared.point.Dir.{Dir}
 use Rattle.plane_geom.specs.Point.{PointIsOnSheet, opposite}
@@ -25,7 +25,7 @@ at_on_sheet c = crossing_on_sheet c.args.problem.now c.args.place.now.crossing c
 from_on_sheet : (c : After-point-from) → PointIsOnSheet c.point-from.result
 from_on_sheet c = crossing_on_sheet c.args.problem.now c.in-Some.crossing c.point-from.result c.requires.ready c.point-from.ensures
 
--- the stage that a move in this one comes to
+-- the stage that a move in this one reaches
 stage_here : (c : After-stage_at) → ComesTo c.args.problem.now.task.now.via c.loop-stage.stage c.point-at.result c.stage_at.result
 stage_here c = rw c.as_slice.ensures at c.stage_at.ensures
 

@@ -1,4 +1,4 @@
--- What lies ahead of the place has been offered to all stages so far from which a walk comes to it.
+-- What is ahead of the place has been offered to all stages so far from which a walk reaches it.
 use Rattle.route_search.proofs.Offers.HandingOn.{Handing}
 use Rattle.route_search.proofs.labels.Labels.hand_on.Given as goal
 

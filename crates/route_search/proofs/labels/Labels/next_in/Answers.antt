@@ -1,4 +1,4 @@
--- What both together say.
+-- The consequence of both together.
 use Rattle.route_search.proofs.Tracing.Tails.{next_from, none_from}
 use Rattle.route_search.proofs.labels.Labels.next_in.Goals as goal
 

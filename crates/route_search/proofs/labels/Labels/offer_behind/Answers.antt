@@ -1,4 +1,4 @@
--- The label behind a stretch may be offered.
+-- The label at the beginning of a stretch may be offered.
 use Rattle.std.proofs.Common.{subst, sym, arith}
 use Rattle.route_search.specs.Labels.{IsOfferable}
 use Rattle.route_search.proofs.Offers.Falling.{offerable}

@@ -1,4 +1,4 @@
--- The stubs are offered; each candidate that is taken out leaves less to be done.
+-- The stubs are offered; each candidate that is removed leaves less to be done.
 use Rattle.std.proofs.Common.{None}
 use Rattle.std.specs.Prelude.{All}
 use Rattle.route_search.specs.Labels.{IsSearching, IsStubOffered, weight}

@@ -1,4 +1,4 @@
--- The label is closed, and then handed on.
+-- The label is closed, and then propagated.
 use Rattle.std.proofs.Common.{◌≡◌, Some, refl, sym, ap, ◌∙◌, arith}
 use Rattle.search_labels.specs.Labels.{ahead_in}
 use Rattle.search_labels.specs.declared.label.Label.TheVariants.{Open}

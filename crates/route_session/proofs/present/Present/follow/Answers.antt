@@ -1,4 +1,4 @@
--- What `follow` writes where memory is wanting.
+-- What `follow` writes when out of memory.
 use Rattle.std.proofs.Common.{◌≡◌, ◌+◌, false, ap, ◌∙◌, arith}
 use Rattle.std.specs.Prelude.{is_err}
 use Rattle.line_arena.specs.Arena.{Arena}

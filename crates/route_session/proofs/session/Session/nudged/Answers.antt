@@ -1,4 +1,4 @@
--- What `nudge` keeps apart is said of the present scene and its book.
+-- The clauses of `nudge` hold for the present scene and its book.
 use Rattle.std.proofs.Common.{IfOk, ap, subst₂, ◌∙◌}
 use Rattle.nudge_laws.specs.Apart.{KeepsApart}
 use Rattle.nudge_phases.specs.Nudged.{IsNudgedScene}

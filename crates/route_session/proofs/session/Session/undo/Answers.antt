@@ -19,7 +19,7 @@ returns-in_default-clause-fault c =
     let none : slice_get c.self.inside.log.past 0 ≡ None = sym c.past_step.ensures ∙ ap option_copied c.in_default.is in
     rw (← c.self.view_is) (nothing_behind c.self.inside.log c.self.inside.present.scene c.self.inside.txn shut none)
 
--- the step is the latest behind
+-- the step is the latest past one
 step_is : (c : In-Some) → slice_get c.self.inside.log.past 0 ≡ Some c.in-Some.step.now
 step_is c = sym c.past_step.ensures ∙ ap option_copied c.in-Some.is
 

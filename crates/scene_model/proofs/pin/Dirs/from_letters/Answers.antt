@@ -1,4 +1,4 @@
--- Letter by letter, what was read is what the word says.
+-- Letter by letter, what was read is what the word spells.
 use Rattle.std.proofs.lemmas.Bool.Decides.{nat_tests}
 use Rattle.std.proofs.Common.{◌≡◌, ◌<◌, length, get_or, None, sym, ◌∙◌, arith}
 use Rattle.scene_model.specs.LetterSteps.{with_letter}

@@ -1,4 +1,4 @@
--- The place that is told is where the entry with the id stands.
+-- The place that is returned is that of the entry with the id.
 use Rattle.std.proofs.Common.{◌≡◌, w64, to_z, of_z, to_z-of_z, sym, ap, subst, ◌∙◌, int_eq}
 use Rattle.std.specs.Prelude.{position, IsSome}
 use Rattle.scene_parts.proofs.Places.{has_place, place_has, set_there}

@@ -1,4 +1,4 @@
--- The changes are those of the edit that is told.
+-- The changes are those of the given edit.
 use Rattle.std.proofs.Common.{rules, ◌≡◌, sym, subst, refl, pos, w64, to_z, of_z}
 use Rattle.std.specs.Prelude.{OnOk}
 use Rattle.scene_model.specs.declared.edit.Edit.TheVariants.{MoveNode, SizeNode, AddVia}

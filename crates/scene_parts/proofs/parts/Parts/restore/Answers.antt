@@ -1,4 +1,4 @@
--- The entry that is put is the one that is told.
+-- The entry that is put is the given one.
 use Rattle.std.proofs.Common.{◌≡◌, sym, subst}
 use Rattle.scene_model.specs.Edits.{change_node, change_edge}
 use Rattle.scene_model.specs.Inverses.{restored}

@@ -1,4 +1,4 @@
--- The edit that is handed on is the one that is told.
+-- The edit that is passed is the one with these values.
 use Rattle.std.proofs.Common.{subst, to_z-of_z}
 use Rattle.scene_model.specs.declared.edit.Edit.TheVariants.{SizeNode}
 use Rattle.scene_model.specs.Edits.{IsEdited}

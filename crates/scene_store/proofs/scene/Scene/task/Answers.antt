@@ -1,4 +1,4 @@
--- The task of a connector of a valid scene may be handed to a search.
+-- A search accepts the task of a connector of a valid scene.
 use Rattle.std.proofs.Common.{◌≢◌, subst, sym}
 use Rattle.std.specs.Prelude.{IfOk, IsSomeAnd}
 use Rattle.walk_model.specs.Floors.{IsTaskOn}

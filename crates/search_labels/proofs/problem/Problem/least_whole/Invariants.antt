@@ -1,4 +1,4 @@
--- The least so far is what a walk may cost at most, or one of the entries gives it.
+-- The least so far is `most_cost`, or one of the entries gives it.
 use Rattle.std.proofs.Common.{◌≡◌, ◌⊎◌, ◌+◌, ◌≤◌}
 use Rattle.std.specs.Prelude.{Any}
 use Rattle.search_labels.specs.Bounds.{most_cost}

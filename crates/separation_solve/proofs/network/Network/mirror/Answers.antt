@@ -10,7 +10,7 @@ use Rattle.separation_solve.proofs.Searches.Leads.{excess_size}
 use Rattle.separation_solve.proofs.Networks.Mirrored.{turned_link_twice, turned_place_twice, turned_sound, upright-turned}
 use Rattle.separation_solve.proofs.network.Network.mirror.Goals as goal
 
--- a list that was turned in its vector
+-- a list that was mirrored in its vector
 turned_items : {A : Type 0} (f : A → A) (v : Vec A Global) (lent new : List A) → lent ≡ v.items → new ≡ map f lent → (with_items v new).items ≡ map f v.items
 turned_items f v lent new is turned =
     let e : new ≡ map f v.items = turned ∙ ap (map f) is in

@@ -1,4 +1,4 @@
--- The amount is some, is at most what can come there, and is taken.
+-- The amount is positive, is at most what can reach the node, and is taken.
 use Rattle.std.proofs.Common.{◌≡◌, ℕ, ◌<◌, pos, ◌<ℤ◌, ◌≤ℤ◌, FitsSigned, length, get_or, arith, sym, subst, ◌∙◌, to_z-of_z, ⊎_elim}
 use mir.Syntax.{w128}
 use Rattle.std.specs.Int.{int_min}
