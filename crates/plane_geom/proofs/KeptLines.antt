@@ -1,4 +1,4 @@
--- Kept lines run at coordinates of the floor.
+-- Kept lines run at coordinates of the floor, and are wide.
 use Rattle.std.proofs.Common.{◌≡◌, ◌⊎◌, ℤ, ◌<ℤ◌, List, Any, Contains, refl, inl, inr, ap, subst, ◌∙◌}
 use Rattle.plane_geom.specs.declared.point.Way.{Way}
 use Rattle.plane_geom.specs.declared.point.Way.TheVariants.{Vertical, Horizontal}
@@ -7,7 +7,7 @@ use Rattle.plane_geom.specs.declared.rect.Solid.{Solid}
 use Rattle.plane_geom.specs.declared.floor.Line.{Line}
 use Rattle.plane_geom.specs.declared.floor.Floor.{Floor}
 use Rattle.plane_geom.specs.Along.{across}
-use Rattle.plane_geom.specs.Floor.{point_on, first_side, last_side, Holds, SideOn, SharesSide, HasCoordinates, IsKept}
+use Rattle.plane_geom.specs.Floor.{point_on, first_side, last_side, Holds, SideOn, SharesSide, HasCoordinates, IsKept, IsWide, RunsAtMark}
 
 -- the line of a point runs at its coordinate across
 across_point : (way : Way) (at z : ℤ) → across way (point_on way at z) ≡ at
@@ -32,3 +32,10 @@ kept_coordinate floor l zs h kept = by_reason kept.reason
     by_reason (inl (some, side)) = by_side side
     by_reason (inr (k, p, inside, is, here)) =
         subst (Contains zs) (ap (across l.way) (is ∙ here.here) ∙ across_point l.way l.at here.along) (h.anchors k p inside)
+
+pub kept_wide : (floor : Floor) (l : Line) → IsKept floor l → IsWide floor l
+kept_wide floor l kept = record { longest = kept.longest; mark = by_reason kept.reason }
+  where
+    by_reason : ((l.lo <ℤ l.hi) × Any (λ s. SharesSide l s.rect) floor.solids) ⊎ Any (Holds l) floor.anchors → RunsAtMark floor l
+    by_reason (inl (some, (k, s, inside, is, (lo, hi, side, from, to)))) = inl (k, s, inside, is, side_on l.way s.rect l.at lo hi side)
+    by_reason (inr (k, p, inside, is, here)) = inr (k, p, inside, is, ap (across l.way) here.here ∙ across_point l.way l.at here.along)

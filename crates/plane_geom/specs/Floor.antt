@@ -62,6 +62,26 @@ pub record IsKept (floor : Floor) (l : Line) : Type 0 where
   pub longest : IsLongestFreePiece floor l
   pub reason : ((l.lo <ℤ l.hi) × Any (λ s. SharesSide l s.rect) floor.solids) ⊎ Any (Holds l) floor.anchors
 
+-- the coordinates at which the two sides of the rectangle run that lie this way
+abbrev pub first_side : Way → Rect → ℤ
+first_side Vertical r = r.left
+first_side Horizontal r = r.top
+
+abbrev pub last_side : Way → Rect → ℤ
+last_side Vertical r = r.right
+last_side Horizontal r = r.bottom
+
+-- the coordinate at which the line runs is that of a side of a solid that lies its way, or that of an anchor
+abbrev pub RunsAtMark : Floor → Line → Type 0
+RunsAtMark floor l =
+    Any (λ s. (first_side l.way s.rect ≡ l.at) ⊎ (last_side l.way s.rect ≡ l.at)) floor.solids
+    ⊎ Any (λ p. across l.way p ≡ l.at) floor.anchors
+
+-- a longest free piece of the whole line of a side or of an anchor, wherever on that line it lies
+pub record IsWide (floor : Floor) (l : Line) : Type 0 where
+  pub longest : IsLongestFreePiece floor l
+  pub mark : RunsAtMark floor l
+
 -- a point that lies on a vertical and on a horizontal kept line
 pub record IsCrossing (floor : Floor) (p : Point) : Type 0 where
   pub vertical : Line
@@ -78,15 +98,6 @@ pub record IsSolid (s : Solid) : Type 0 where
   pub on_sheet : RectIsOnSheet s.rect
   pub wide : s.rect.left <ℤ s.rect.right
   pub high : s.rect.top <ℤ s.rect.bottom
-
--- the coordinates of the two sides of the rectangle that lie this way
-abbrev pub first_side : Way → Rect → ℤ
-first_side Vertical r = r.left
-first_side Horizontal r = r.top
-
-abbrev pub last_side : Way → Rect → ℤ
-last_side Vertical r = r.right
-last_side Horizontal r = r.bottom
 
 -- the coordinates include those of all sides that lie this way, and those across of all anchors
 pub record HasCoordinates (floor : Floor) (way : Way) (coordinates : List ℤ) : Type 0 where

@@ -1,6 +1,6 @@
 //! Lines, and the floor on which the lines of a visibility graph are drawn.
 ghost use Rattle.std.specs.Prelude.{◌≡◌, ◌↔◌, ◌≤ℤ◌, IsTrue};
-ghost use Rattle.plane_geom.specs.Floor.{Holds, IsFreePiece, IsKept, IsLongestFreePiece, AreOnOneWholeLine};
+ghost use Rattle.plane_geom.specs.Floor.{Holds, IsFreePiece, IsKept, IsLongestFreePiece, IsWide, AreOnOneWholeLine};
 ghost use Rattle.plane_geom.specs.Order.{stands_before};
 ghost use Rattle.plane_geom.specs.declared.floor.Floor.{Floor};
 ghost use Rattle.plane_geom.specs.declared.floor.Line.{Line};
@@ -68,6 +68,11 @@ impl Floor {
 pub fn kept_lines_apart()
     ensures { (floor : Floor) (l m : Line) (p : Point) → IsKept floor l → IsKept floor m →
         AreOnOneWholeLine l m → Holds l p → Holds m p → l ≡ m }
+{}
+
+/// Each kept line is a wide one.
+pub fn kept_lines_are_wide()
+    ensures { (floor : Floor) (l : Line) → IsKept floor l → IsWide floor l }
 {}
 
 /// Each free piece lies in a longest one.

@@ -10,7 +10,7 @@ mod point;
 mod rect;
 
 pub use axis::{Axis, XAxis, YAxis};
-pub use floor::{Floor, Line, free_pieces_have_longest, kept_lines_apart};
+pub use floor::{Floor, Line, free_pieces_have_longest, kept_lines_apart, kept_lines_are_wide};
 pub use list::{Points, Solids};
 pub use point::{Dir, Point, SHEET_END, SHEET_START, Way, is_coordinate};
 pub use rect::{Rect, Solid, meets_by_steps};
