@@ -2,6 +2,7 @@
 #![tactic(auto)]
 
 mod gate;
+mod passed;
 mod pieces;
 mod routes;
 mod watch;

@@ -6,6 +6,7 @@ ghost use Rattle.par_route.specs.Pieces.{AreCut, IsSearched, answers_in, piece_l
 ghost use Rattle.par_route.specs.Routes.{MayBeSearched};
 
 use crate::gate::Gate;
+use crate::passed::Passed;
 use line_arena::LineArena;
 use plane_geom::Solid;
 use route_search::{Finder, Tally};
@@ -75,12 +76,26 @@ impl<'a> Piece<'a> {
         requires { All (MayBeSearched arena.now solids.now) self.tasks.now }
         ensures { IfOk result (IsSearched solids.now self.entry) }
     {
+        let passed = Passed::through(gate, self.number);
+        self.searched(passed, alloc, arena, solids)
+    }
+
+    /// Searches for each task of the piece, which has passed the gate.
+    fn searched(
+        self,
+        _passed: Passed,
+        alloc: Global,
+        arena: &LineArena,
+        solids: &[Solid],
+    ) -> Result<Searched, AllocError>
+        requires { All (MayBeSearched arena.now solids.now) self.tasks.now }
+        ensures { IfOk result (IsSearched solids.now self.entry) }
+    {
         let Piece {
-            number,
+            number: _,
             tasks,
             mut tally,
         } = self;
-        gate.pass(number);
         let mut finder = Finder::new(alloc, arena, solids);
         let mut answers = Vec::new(alloc);
         for task in tasks {

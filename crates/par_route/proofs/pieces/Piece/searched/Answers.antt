@@ -4,15 +4,15 @@ use Rattle.walk_model.specs.Answers.{IsAnswer}
 use Rattle.par_route.specs.Routes.{MayBeSearched}
 use Rattle.line_arena.proofs.Counting.{counted_on}
 use Rattle.par_route.proofs.Zips.{All-read, zip_more}
-use Rattle.par_route.proofs.pieces.Piece.search.Goals as goal
+use Rattle.par_route.proofs.pieces.Piece.searched.Goals as goal
 
 pub find-requires : goal.find-requires
-find-requires g c =
+find-requires c =
     rw (c.loop-task.invariant.0, c.loop-task.invariant.1)
     (All-read (MayBeSearched c.args.arena.now c.args.solids.now) c.args.self.tasks.now c.loop-task.task-index c.task-item.result c.loop-task-test.true c.task-item.is c.requires)
 
 pub loop-task-preserved : goal.loop-task-preserved
-loop-task-preserved g c =
+loop-task-preserved c =
     let kept = c.loop-task.invariant in
     let answer : IsAnswer c.args.solids.now c.task-item.result c.in_ok-find.field-0 = rw (← kept.1) c.in_ok-find.ensures.answer in (
       c.in_ok-find.ensures.arena ∙ kept.0,
