@@ -5,3 +5,4 @@ pub mod Answered
 pub mod RawReady
 pub mod SceneLines
 pub mod OneScene
+pub mod FewPoints

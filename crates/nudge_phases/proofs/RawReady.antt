@@ -101,10 +101,10 @@ module _ (s : Scene) (v : IsValid s) (number : ℕ) (route : Route) (a : IsAnswe
   corners_are : AreCorners route.points
   corners_are = are_corners route.points turning some_points orthogonal.corners.within orthogonal.straight
 
-  raw_runs : AreRunsOf number (runs_along number 1 route.points)
+  pub raw_runs : AreRunsOf number (runs_along number 1 route.points)
   raw_runs = are_runs number route.points corners_are
 
-  raw_long : All (λ (r : Run). r.lo <ℤ r.hi) (runs_along number 1 route.points)
+  pub raw_long : All (λ (r : Run). r.lo <ℤ r.hi) (runs_along number 1 route.points)
   raw_long = long_runs number 1 route.points orthogonal.straight (corners_differ route.points turning)
 
   raw_walk : walk_along (runs_along number 1 route.points) ≡ walk

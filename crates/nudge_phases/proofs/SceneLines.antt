@@ -91,8 +91,16 @@ module _ (s : Scene) (answers : List Answer) (v : IsValid s) (are : AreAnswers s
   abbrev pub IsOf : Nudged → Type 0
   IsOf n = IsNudgedScene s answers n.x_solutions.items n.y_solutions.items n.routes.items
 
+  pub scene_apart : (xs ys : List Solution) (lines : List WrittenRoute) (p : IsNudgedScene s answers xs ys lines) → KeepsApart p.nudged.x × KeepsApart p.nudged.y
+  scene_apart xs ys lines p = nudged_is_apart (solids s) p.raw s.settings.nudge xs ys lines p.nudged (raw_are p.raw p.are_raw)
+
+  pub scene_legal : (xs ys : List Solution) (lines : List WrittenRoute) → IsNudgedScene s answers xs ys lines → AreLegalNudgedLines s answers lines
+  scene_legal xs ys lines p =
+      lines_legal s answers p.raw s.settings.nudge xs ys lines (good_raws p.raw p.are_raw) p.nudged
+      (nudged_is_legal (solids s) p.raw s.settings.nudge xs ys lines p.nudged (raw_are p.raw p.are_raw))
+
   pub apart : (r : Result Nudged AllocError) → IfOk r (λ n. (p : IsOf n) → KeepsApart p.nudged.x × KeepsApart p.nudged.y)
-  apart (Ok n) = λ p. nudged_is_apart (solids s) p.raw s.settings.nudge n.x_solutions.items n.y_solutions.items n.routes.items p.nudged (raw_are p.raw p.are_raw)
+  apart (Ok n) = scene_apart n.x_solutions.items n.y_solutions.items n.routes.items
   apart (Err e) = tt
 
   -- the result for the raw routes is what is promised of the scene
@@ -106,9 +114,7 @@ module _ (s : Scene) (answers : List Answer) (v : IsValid s) (are : AreAnswers s
   made (Err x) floor raw nudge e f zip is = tt
 
   pub legal : (r : Result Nudged AllocError) → IfOk r IsOf → IfOk r (λ n. AreLegalNudgedLines s answers n.routes.items)
-  legal (Ok n) p =
-      lines_legal s answers p.raw s.settings.nudge n.x_solutions.items n.y_solutions.items n.routes.items (good_raws p.raw p.are_raw) p.nudged
-      (nudged_is_legal (solids s) p.raw s.settings.nudge n.x_solutions.items n.y_solutions.items n.routes.items p.nudged (raw_are p.raw p.are_raw))
+  legal (Ok n) p = scene_legal n.x_solutions.items n.y_solutions.items n.routes.items p
   legal (Err e) p = tt
 
   pub edges : (r : Result Nudged AllocError) → IfOk r IsOf → IfOk r (λ n. map (λ (l : WrittenRoute). l.edge) n.routes.items ≡ map (λ (p : ℕ × Route). p.0) (routed answers))

@@ -1,5 +1,5 @@
 -- The result of nudging the raw routes of a scene, and the properties of its lines.
-use Rattle.std.specs.Prelude.{◌≡◌, ℕ, List, Some}
+use Rattle.std.specs.Prelude.{◌≡◌, ◌≤◌, ℕ, List, Some, All, length}
 use Rattle.std.specs.List.{AllZip}
 use Rattle.separation_model.specs.declared.bundle.Solution.{Solution}
 use Rattle.walk_model.specs.declared.route.Answer.{Answer}
@@ -14,6 +14,7 @@ use Rattle.scene_model.specs.Scene.{Scene, edge_with}
 use Rattle.scene_model.specs.Routing.{solids, task_of}
 use Rattle.scene_model.specs.Valid.{IsValid}
 use Rattle.channel_bundles.specs.declared.route.PhaseRoute.{PhaseRoute}
+use Rattle.nudge_laws.specs.Apart.{KeepsApart}
 use Rattle.nudge_laws.specs.Nudged.{IsNudged}
 use Rattle.nudge_phases.specs.Raw.{AreRawRoutes, routed}
 
@@ -35,7 +36,28 @@ pub record IsLegalNudgedLine (s : Scene) (number : ℕ) (route : Route) (line : 
 abbrev pub AreLegalNudgedLines : Scene → List Answer → List WrittenRoute → Type 0
 AreLegalNudgedLines s answers lines = AllZip (λ p line. IsLegalNudgedLine s p.0 p.1 line) (routed answers) lines
 
+-- there are few routes, each has few points, and a nudged line has at most as many as its route
+pub record HasFewPoints (answers : List Answer) (lines : List WrittenRoute) : Type 0 where
+  pub count : length (routed answers) ≤ 512
+  pub routes : All (λ p. length p.1.points ≤ 3289603) (routed answers)
+  pub short : AllZip (λ p line. length line.points ≤ length p.1.points) (routed answers) lines
+
+-- the law: so it is for right answers of a scene
+abbrev pub HaveFewPoints : Type 0
+HaveFewPoints = (s : Scene) (answers : List Answer) (xs ys : List Solution) (lines : List WrittenRoute) →
+    IsValid s → AreAnswers s answers → IsNudgedScene s answers xs ys lines → HasFewPoints answers lines
+
 -- right answers of a scene have at most one list of nudged lines
 abbrev pub HaveOneNudged : Type 0
 HaveOneNudged = (s : Scene) (answers : List Answer) (xs ys other_xs other_ys : List Solution) (lines others : List WrittenRoute) →
     IsValid s → AreAnswers s answers → IsNudgedScene s answers xs ys lines → IsNudgedScene s answers other_xs other_ys others → lines ≡ others
+
+-- each nudged line of right answers is legal for its connector
+abbrev pub NudgedScenesAreLegal : Type 0
+NudgedScenesAreLegal = (s : Scene) (answers : List Answer) (xs ys : List Solution) (lines : List WrittenRoute) →
+    IsValid s → AreAnswers s answers → IsNudgedScene s answers xs ys lines → AreLegalNudgedLines s answers lines
+
+-- both phases on right answers meet every separation of their runs
+abbrev pub NudgedScenesKeepApart : Type 0
+NudgedScenesKeepApart = (s : Scene) (answers : List Answer) (xs ys : List Solution) (lines : List WrittenRoute) →
+    IsValid s → AreAnswers s answers → (n : IsNudgedScene s answers xs ys lines) → KeepsApart n.nudged.x × KeepsApart n.nudged.y

@@ -7,6 +7,6 @@ mod laws;
 mod nudging;
 mod raw;
 
-pub use laws::one_nudged_scene;
+pub use laws::{nudged_lines_are_short, nudged_scenes_are_legal_and_apart, one_nudged_scene};
 pub use nudge_routes::Nudged;
 pub use nudging::nudge;
