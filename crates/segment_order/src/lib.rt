@@ -8,7 +8,7 @@ mod ray;
 mod run;
 mod side;
 
-pub use order::{line_order, one_order, rays_stop};
+pub use order::{first_entry, line_order, one_order, rays_stop};
 pub use ray::Entry;
 pub use run::{Run, runs_of};
-pub use side::Side;
+pub use side::{Side, near_side};

@@ -1,16 +1,15 @@
 //! The order of runs on a line.
-ghost use Rattle.std.specs.Prelude.{◌≡◌, ◌≢◌, ◌⊎◌, ◌++◌, [], List};
+ghost use Rattle.std.specs.Prelude.{◌≡◌, ◌≢◌, ◌⊎◌, ◌++◌, ◌∷◌, [], List};
 ghost use Rattle.std.specs.Cmp.{IsTotalOrder};
 ghost use Rattle.std.specs.Cmp.Lexicographic.{slice_cmp};
 ghost use Rattle.std.specs.declared.cmp.Ordering.TheVariants.{Equal};
 ghost use Rattle.plane_geom.specs.declared.point.Dir.{Dir};
 ghost use Rattle.plane_geom.specs.Along.{rising};
 ghost use Rattle.segment_order.specs.declared.run.Run.{Run};
-ghost use Rattle.segment_order.specs.declared.ray.Entry.{Entry};
 ghost use Rattle.segment_order.specs.Ray.{EndsAtOnlyStop, entries_of, entry_cmp, ray};
 ghost use Rattle.segment_order.specs.Order.{compare_keys, key_of};
 
-use crate::ray::Ray;
+use crate::ray::{Entry, Ray};
 use crate::run::Run;
 use plane_geom::{Dir, Way};
 use std::cmp::Ordering;
@@ -68,6 +67,16 @@ pub fn line_order(a: &Run, a_route: &[Run], b: &Run, b_route: &[Run]) -> Orderin
         ))
         .then(a.edge.cmp(&b.edge))
         .then(a.place.cmp(&b.place))
+}
+
+/// The first entry of the ray that leaves the run in the direction: where it turns, or that it stops.
+///
+/// The run is handed with all runs of its route, in order. No memory is taken.
+pub fn first_entry(run: &Run, route: &[Run], dir: Dir) -> Entry
+    ensures { (more : List Entry) × (ray route.now run.now dir ≡ result ∷ more) }
+{
+    let (entry, _) = Ray::leaving(run, route, dir).split();
+    entry
 }
 
 /// The order of runs is total and transitive, and runs that differ in edge or place never tie.

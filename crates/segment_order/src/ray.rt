@@ -30,7 +30,7 @@ impl Entry {
 
     /// Entries to the near side come first, the nearest of them first; then a stop; then entries to
     /// the far side, the farthest first.
-    pub(crate) fn compare(self, other: Entry) -> Ordering
+    pub fn compare(self, other: Entry) -> Ordering
         ensures { result ≡ entry_cmp self other }
     {
         match (self, other) {

@@ -29,7 +29,7 @@ pub(crate) fn turn_to(from: Dir, to: Dir) -> Option<Side>
 }
 
 /// The side with the smaller coordinate across, for one who travels in the direction.
-pub(crate) fn near_side(dir: Dir) -> Side
+pub fn near_side(dir: Dir) -> Side
     ensures { result ≡ near_side dir }
 {
     match dir {
