@@ -1,4 +1,4 @@
--- The diagram that is written after the report, and both together. No public clause cites this module.
+-- The diagram that is written after the report, and both together.
 use Rattle.std.specs.Prelude.{◌≡◌, ℕ, Bool, List, ◌++◌}
 use Rattle.gml_text.specs.Tree.{Pairs}
 use Rattle.gml_text.specs.Printed.{printed}

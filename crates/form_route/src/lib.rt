@@ -6,4 +6,5 @@ mod report;
 mod script;
 
 pub use laws::replays_come_to_one;
-pub use script::{Options, Routing, route};
+pub use report::edges_routed;
+pub use script::{Options, Routing, printed_diagram, route};

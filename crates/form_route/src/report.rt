@@ -49,7 +49,11 @@ fn routed_by(book: &Book, edge: &Edge) -> Routed
 }
 
 /// The routes of all edges of the scene, by the answers of the book.
-fn edges_routed(alloc: Global, scene: &Scene, book: &Book) -> Result<Vec<EdgeRouted>, AllocError>
+pub fn edges_routed(
+    alloc: Global,
+    scene: &Scene,
+    book: &Book,
+) -> Result<Vec<EdgeRouted>, AllocError>
     ensures { IfOk result (λ edges. edges.items ≡ edges_routed scene.now book.now) }
 {
     let mut edges = Vec::new(alloc);

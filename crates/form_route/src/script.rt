@@ -108,7 +108,7 @@ fn output(
 }
 
 /// The printed document of the session's present scene, with its nudged lines.
-fn printed_diagram(alloc: Global, doc: &Doc, session: &Session) -> Result<Vec<u8>, AllocError>
+pub fn printed_diagram(alloc: Global, doc: &Doc, session: &Session) -> Result<Vec<u8>, AllocError>
     requires source { IsOk (scene_of (tree doc.now)) }
     requires nodes { IfOk (scene_of (tree doc.now)) (λ was. AreNodesOf was session.now.world.present) }
     requires edges { IfOk (scene_of (tree doc.now)) (λ was. AreEdgesOf was session.now.world.present) }

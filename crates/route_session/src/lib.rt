@@ -7,6 +7,7 @@ mod present;
 mod scenes;
 mod session;
 
+pub use preview::{MOST_PROPOSALS, Previewed, Proposal};
 pub use scene_model::SessionFault;
 pub use session::Session;
 pub use session_laws::{commits_are_given_back, sessions_are_worlds};

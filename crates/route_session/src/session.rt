@@ -1,5 +1,5 @@
 //! The session: what an editor embeds.
-ghost use Rattle.std.specs.Prelude.{◌≡◌, ◌≢◌, ◌+◌, ◌≤◌, ℕ, Err, Ok, IfErr, IfOk, IfSome, IsErrOf, IsSome, OnErr, OnOk, is_some, length, map, slice_get};
+ghost use Rattle.std.specs.Prelude.{◌≡◌, ◌≢◌, ◌+◌, ◌≤◌, ℕ, All, Err, Ok, IfErr, IfOk, IfSome, IsErrOf, IsSome, OnErr, OnOk, is_some, length, map, slice_get};
 ghost use Rattle.std.specs.FinMap.{len};
 ghost use Rattle.line_arena.specs.Arena.{Arena};
 ghost use Rattle.line_arena.specs.Stands.{StandsFor};
@@ -7,6 +7,7 @@ ghost use Rattle.graph_repair.specs.Change.{CountsWrites};
 ghost use Rattle.nudge_laws.specs.Apart.{KeepsApart};
 ghost use Rattle.nudge_phases.specs.Nudged.{AreLegalNudgedLines, IsNudgedScene};
 ghost use Rattle.nudge_phases.specs.Raw.{routed};
+ghost use Rattle.preview.specs.Previews.{ArePreviews, IsProposable};
 ghost use Rattle.route_book.specs.Exchange.{CountsStale};
 ghost use Rattle.line_arena.specs.Count.{counted_by};
 ghost use Rattle.session_laws.specs.Calls.{IsFaultOf};
@@ -26,6 +27,7 @@ use crate::scenes::{edits, inverses, scene_after, scene_before};
 use edit_txn::{Txn, TxnParts};
 use nudge_phases::{Nudged, nudge};
 use par_route::Gate;
+use preview::{Previewed, Proposal, preview};
 use route_book::{Book, Changes};
 use route_search::Tally;
 use scene_store::{Edit, Scene, SceneFault, SessionFault};
@@ -343,6 +345,36 @@ impl Session {
     {
         let present = &self.present;
         nudge(present.alloc, &present.scene, present.book.answers())
+    }
+
+    /// The answers to the proposals, in order, all asked of the present scene: for each what `begin`, its edits and
+    /// `commit` would give, or the first edit that is refused.
+    ///
+    /// The session stays as it is, and an open transaction makes no difference. The proposals are cut into at most
+    /// `workers` pieces, which are answered side by side. The only error is out of memory.
+    pub fn preview<R: Threads + Sync, G: Gate>(
+        &self,
+        rt: &R,
+        proposals: &[Proposal],
+        workers: u32,
+        gate: &G,
+    ) -> Result<Vec<Previewed>, AllocError>
+        requires some { 1 ≤ workers }
+        requires few { workers ≤ 4 }
+        requires few_proposals { length proposals.now ≤ 64 }
+        requires edits { All IsProposable proposals.now }
+        ensures { IfOk result (λ answers. ArePreviews self.now.world.present self.now.book proposals.now answers.items) }
+    {
+        let present = &self.present;
+        preview(
+            rt,
+            present.alloc,
+            &present.scene,
+            &present.book,
+            proposals,
+            workers,
+            gate,
+        )
     }
 
     /// The session's tally, whose count is `searched`. Drops the rest, and takes no memory.

@@ -1,7 +1,11 @@
-//! Tests of sessions and of nudged scenes, through public calls.
+//! Tests of sessions, of proposals and of nudged scenes, through public calls.
 #![tactic(auto)]
 
+#[cfg(test)]
+mod asks;
 #[cfg(test)]
 mod calls;
 #[cfg(test)]
 mod lines;
+#[cfg(test)]
+mod previews;

@@ -1,0 +1,8 @@
+-- The lemmas on proposed transactions.
+pub mod OneAnswer
+pub mod NoMemory
+pub mod Calls
+pub mod Counts
+pub mod Edits
+pub mod Cutting
+pub mod Joining

@@ -1,0 +1,58 @@
+//! The answers to many proposed transactions, side by side.
+ghost use Rattle.std.specs.Prelude.{◌≤◌, All, IfOk, length};
+ghost use Rattle.scene_model.specs.Answers.{AreAnswers};
+ghost use Rattle.preview.specs.Pieces.{IsAnswered};
+ghost use Rattle.preview.specs.Previews.{ArePreviews, IsProposable};
+
+use crate::answer::Previewed;
+use crate::pieces::{Answered, Piece, cut, join};
+use par_route::Gate;
+use route_book::Book;
+use scene_model::Edits;
+use scene_store::Scene;
+use std::alloc::{AllocError, Global};
+use std::thread;
+use std::thread::Threads;
+
+/// The most proposals of one call.
+pub const MOST_PROPOSALS: usize = 64;
+
+/// A proposed transaction: its edits, in order. Each pin that they add has a direction.
+#[derive(Drop)]
+pub struct Proposal {
+    pub edits: Edits,
+}
+
+/// The answers to the proposals, in order, all asked of the scene, for which the book is right.
+///
+/// Scene and book stay as they are. The proposals are cut into at most `workers` pieces, which are answered side by
+/// side; each piece passes the gate once, with its number from 1, before its first proposal. The only error is out of
+/// memory.
+pub fn preview<R: Threads + Sync, G: Gate>(
+    rt: &R,
+    alloc: Global,
+    scene: &Scene,
+    book: &Book,
+    proposals: &[Proposal],
+    workers: u32,
+    gate: &G,
+) -> Result<Vec<Previewed>, AllocError>
+    requires right { AreAnswers scene.now book.now }
+    requires some { 1 ≤ workers }
+    requires few { workers ≤ 4 }
+    requires few_proposals { length proposals.now ≤ 64 }
+    requires edits { All IsProposable proposals.now }
+    ensures { IfOk result (λ answers. ArePreviews scene.now book.now proposals.now answers.items) }
+{
+    let pieces = cut(alloc, proposals, workers)?;
+    let answered = thread::map_vec(
+        rt,
+        pieces,
+        &|piece: Piece| -> Result<Answered, AllocError>
+            requires right { AreAnswers scene.now book.now }
+            requires edits { All IsProposable piece.proposals.now }
+            ensures { IfOk result (IsAnswered scene.entry.now book.entry.now piece.entry) }
+        { piece.answers(rt, alloc, scene, book, gate) },
+    )?;
+    join(alloc, answered)
+}
