@@ -51,6 +51,19 @@ fn refuses_words(rt: HostRuntime) -> Result<(), Fail> {
         "make|12345678901234567890",
         "make|+1",
         "make|7|--workers=1",
+        "preview|d",
+        "preview|d|",
+        "preview|d|s|--count",
+        "preview|d|s|--workers=0",
+        "preview|d|s|--workers=1|--workers=2",
+        "shared",
+        "shared|d|e",
+        "shared|d|--workers=1",
+        "prove|",
+        "prove|d|--count",
+        "audit|d",
+        "audit|d|",
+        "audit|d|c|--workers=1",
         "help",
     ];
     for row in rows {
@@ -97,6 +110,33 @@ fn reads_route(rt: HostRuntime) -> Result<(), Fail> {
             workers,
             count,
         };
+        assert!(rt; is_read(rt.alloc(), row, Some(form))?, "{row}");
+    }
+    Ok(())
+}
+
+#[test]
+fn reads_the_other_subcommands(rt: HostRuntime) -> Result<(), Fail> {
+    let preview = |workers| Form::Preview {
+        diagram: "d",
+        script: "s",
+        workers,
+    };
+    let rows = [
+        ("preview|d|s", preview(1)),
+        ("preview|--workers|3|d|s", preview(3)),
+        ("shared|d", Form::Shared { diagram: "d" }),
+        ("shared|--|-d", Form::Shared { diagram: "-d" }),
+        ("prove|d", Form::Prove { diagram: "d" }),
+        (
+            "audit|d|--|-c",
+            Form::Audit {
+                diagram: "d",
+                certificate: "-c",
+            },
+        ),
+    ];
+    for (row, form) in rows {
         assert!(rt; is_read(rt.alloc(), row, Some(form))?, "{row}");
     }
     Ok(())

@@ -1,0 +1,791 @@
+//! Audits of the least labels of small scenes, and of certificates with one fault.
+ghost use Rattle.std.specs.Prelude.{◌≡◌, IfOk};
+ghost use Rattle.scene_model.specs.Routing.{floor_of};
+
+use plane_geom::{Point, Points};
+use route_audit::{AuditFault, Claim, LabelRow, Proof, Rows, audit};
+use scene_store::{Edge, Scene, SceneFault, Via};
+use std::alloc::{AllocError, Global};
+use visibility_graph::Graph;
+
+/// A node by its id, its centre and its whole sizes.
+#[derive(Clone, Copy)]
+struct Place(i64, i64, i64, i64, i64);
+
+/// A point.
+#[derive(Clone, Copy)]
+struct Corner(i64, i64);
+
+/// The nodes of a scene, its edges by their ends, and a checkpoint of edge 1.
+#[derive(Clone, Copy)]
+struct Plan {
+    places: &'static [Place],
+    edges: &'static [(i64, i64)],
+    via: &'static [Corner],
+}
+
+/// A label, if there is one.
+type Label = Option<u64>;
+
+/// A row of labels: its stage, its crossing, and the labels in the East, South, West and North.
+#[derive(Clone, Copy)]
+struct Row(u32, i64, i64, Label, Label, Label, Label);
+
+/// A proof; without a cost it is a cut.
+#[derive(Clone, Copy)]
+struct Given {
+    edge: u32,
+    cost: Option<u64>,
+    line: &'static [Corner],
+    rows: &'static [Row],
+}
+
+/// What is changed in the last of the proofs.
+#[derive(Clone, Copy)]
+enum Change {
+    None,
+    Edge(u32),
+    Cost(u64),
+    /// A cut, with 0 for each label.
+    Cut,
+    NoLine,
+    /// The line's last point.
+    End(i64, i64),
+    NoRows,
+    /// The row at the place, from 0, is left out.
+    Drop(usize),
+    /// The row at the place, from 0, is another.
+    Row(usize, Row),
+}
+
+/// The scene, its certificate, and the edge and the rule of the fault that is to be found.
+#[derive(Clone, Copy)]
+struct Case {
+    plan: Plan,
+    proofs: &'static [Given],
+    change: Change,
+    no: Option<(u32, u32)>,
+}
+
+const SOURCE: Place = Place(1, 0, 0, 20_000, 20_000);
+
+const TARGET: Place = Place(2, 100_000, 0, 20_000, 20_000);
+
+const STRAIGHT: Plan = Plan {
+    places: &[SOURCE, TARGET],
+    edges: &[(1, 2)],
+    via: &[],
+};
+
+const COVERED_START: Plan = Plan {
+    places: &[SOURCE, TARGET, Place(3, 0, 0, 60_000, 60_000)],
+    edges: &[(1, 2)],
+    via: &[],
+};
+
+const COVERED_END: Plan = Plan {
+    places: &[SOURCE, TARGET, Place(3, 100_000, 0, 60_000, 60_000)],
+    edges: &[(1, 2)],
+    via: &[],
+};
+
+const LOOP: Plan = Plan {
+    places: &[SOURCE, TARGET],
+    edges: &[(1, 1)],
+    via: &[],
+};
+
+const LOOP_AND_MORE: Plan = Plan {
+    places: &[SOURCE, TARGET],
+    edges: &[(1, 1), (1, 2)],
+    via: &[],
+};
+
+const NO_EDGES: Plan = Plan {
+    places: &[SOURCE, TARGET],
+    edges: &[],
+    via: &[],
+};
+
+const BOTH_WAYS: Plan = Plan {
+    places: &[SOURCE, TARGET],
+    edges: &[(1, 2), (2, 1)],
+    via: &[],
+};
+
+const BY_WAY: Plan = Plan {
+    places: &[SOURCE, TARGET],
+    edges: &[(1, 2)],
+    via: &[Corner(50_000, 0)],
+};
+
+const STRAIGHT_ROWS: [Row; 9] = [
+    Row(0, -14_000, -14_000, None, None, Some(78_000), Some(78_000)),
+    Row(0, 0, -14_000, None, None, None, Some(14_000)),
+    Row(0, 14_000, -14_000, Some(78_000), None, None, Some(78_000)),
+    Row(0, -14_000, 0, None, None, Some(14_000), None),
+    Row(0, 14_000, 0, Some(14_000), None, None, None),
+    Row(0, 86_000, 0, Some(86_000), None, None, None),
+    Row(0, -14_000, 14_000, None, Some(78_000), Some(78_000), None),
+    Row(0, 0, 14_000, None, Some(14_000), None, None),
+    Row(0, 14_000, 14_000, Some(78_000), Some(78_000), None, None),
+];
+
+const COVERED_END_ROWS: [Row; 24] = [
+    Row(0, -14_000, -34_000, None, None, Some(0), Some(0)),
+    Row(0, 0, -34_000, Some(0), None, Some(0), Some(0)),
+    Row(0, 14_000, -34_000, Some(0), None, Some(0), Some(0)),
+    Row(0, 66_000, -34_000, Some(0), None, Some(0), Some(0)),
+    Row(0, 100_000, -34_000, Some(0), None, Some(0), None),
+    Row(0, 134_000, -34_000, Some(0), None, None, Some(0)),
+    Row(0, -14_000, -14_000, None, Some(0), Some(0), Some(0)),
+    Row(0, 0, -14_000, Some(0), Some(0), Some(0), Some(0)),
+    Row(0, 14_000, -14_000, Some(0), Some(0), Some(0), Some(0)),
+    Row(0, 66_000, -14_000, Some(0), Some(0), None, Some(0)),
+    Row(0, -14_000, 0, None, Some(0), Some(0), Some(0)),
+    Row(0, 14_000, 0, Some(0), Some(0), Some(0), Some(0)),
+    Row(0, 66_000, 0, Some(0), Some(0), None, Some(0)),
+    Row(0, 134_000, 0, None, Some(0), None, Some(0)),
+    Row(0, -14_000, 14_000, None, Some(0), Some(0), Some(0)),
+    Row(0, 0, 14_000, Some(0), Some(0), Some(0), Some(0)),
+    Row(0, 14_000, 14_000, Some(0), Some(0), Some(0), Some(0)),
+    Row(0, 66_000, 14_000, Some(0), Some(0), None, Some(0)),
+    Row(0, -14_000, 34_000, None, Some(0), Some(0), None),
+    Row(0, 0, 34_000, Some(0), Some(0), Some(0), None),
+    Row(0, 14_000, 34_000, Some(0), Some(0), Some(0), None),
+    Row(0, 66_000, 34_000, Some(0), Some(0), Some(0), None),
+    Row(0, 100_000, 34_000, Some(0), None, Some(0), None),
+    Row(0, 134_000, 34_000, Some(0), Some(0), None, None),
+];
+
+const BOTH_WAYS_2_ROWS: [Row; 9] = [
+    Row(0, 86_000, -14_000, None, None, Some(78_000), Some(78_000)),
+    Row(0, 100_000, -14_000, None, None, None, Some(14_000)),
+    Row(0, 114_000, -14_000, Some(78_000), None, None, Some(78_000)),
+    Row(0, 14_000, 0, None, None, Some(86_000), None),
+    Row(0, 86_000, 0, None, None, Some(14_000), None),
+    Row(0, 114_000, 0, Some(14_000), None, None, None),
+    Row(0, 86_000, 14_000, None, Some(78_000), Some(78_000), None),
+    Row(0, 100_000, 14_000, None, Some(14_000), None, None),
+    Row(0, 114_000, 14_000, Some(78_000), Some(78_000), None, None),
+];
+
+const BY_WAY_ROWS: [Row; 10] = [
+    Row(0, -14_000, -14_000, None, None, Some(78_000), Some(78_000)),
+    Row(0, 0, -14_000, None, None, None, Some(14_000)),
+    Row(0, 14_000, -14_000, Some(78_000), None, None, Some(78_000)),
+    Row(0, -14_000, 0, None, None, Some(14_000), None),
+    Row(0, 14_000, 0, Some(14_000), None, None, None),
+    Row(0, -14_000, 14_000, None, Some(78_000), Some(78_000), None),
+    Row(0, 0, 14_000, None, Some(14_000), None, None),
+    Row(0, 14_000, 14_000, Some(78_000), Some(78_000), None, None),
+    Row(1, 50_000, 0, Some(50_000), None, None, None),
+    Row(1, 86_000, 0, Some(86_000), None, None, None),
+];
+
+const CUT_EVERY_ROWS: [Row; 16] = [
+    Row(0, -14_000, -14_000, Some(0), Some(0), Some(0), Some(0)),
+    Row(0, 0, -14_000, Some(0), Some(0), Some(0), Some(0)),
+    Row(0, 14_000, -14_000, Some(0), Some(0), Some(0), Some(0)),
+    Row(0, 86_000, -14_000, Some(0), Some(0), Some(0), Some(0)),
+    Row(0, 100_000, -14_000, Some(0), Some(0), Some(0), Some(0)),
+    Row(0, 114_000, -14_000, Some(0), Some(0), Some(0), Some(0)),
+    Row(0, -14_000, 0, Some(0), Some(0), Some(0), Some(0)),
+    Row(0, 14_000, 0, Some(0), Some(0), Some(0), Some(0)),
+    Row(0, 86_000, 0, Some(0), Some(0), Some(0), Some(0)),
+    Row(0, 114_000, 0, Some(0), Some(0), Some(0), Some(0)),
+    Row(0, -14_000, 14_000, Some(0), Some(0), Some(0), Some(0)),
+    Row(0, 0, 14_000, Some(0), Some(0), Some(0), Some(0)),
+    Row(0, 14_000, 14_000, Some(0), Some(0), Some(0), Some(0)),
+    Row(0, 86_000, 14_000, Some(0), Some(0), Some(0), Some(0)),
+    Row(0, 100_000, 14_000, Some(0), Some(0), Some(0), Some(0)),
+    Row(0, 114_000, 14_000, Some(0), Some(0), Some(0), Some(0)),
+];
+
+const STRAIGHT_PROOFS: [Given; 1] = [Given {
+    edge: 1,
+    cost: Some(100_000),
+    line: &[Corner(0, 0), Corner(100_000, 0)],
+    rows: &STRAIGHT_ROWS,
+}];
+
+const COVERED_START_PROOFS: [Given; 1] = [Given {
+    edge: 1,
+    cost: None,
+    line: &[],
+    rows: &[],
+}];
+
+const COVERED_END_PROOFS: [Given; 1] = [Given {
+    edge: 1,
+    cost: None,
+    line: &[],
+    rows: &COVERED_END_ROWS,
+}];
+
+const LOOP_AND_MORE_PROOFS: [Given; 1] = [Given {
+    edge: 2,
+    cost: Some(100_000),
+    line: &[Corner(0, 0), Corner(100_000, 0)],
+    rows: &STRAIGHT_ROWS,
+}];
+
+const BOTH_WAYS_PROOFS: [Given; 2] = [
+    Given {
+        edge: 1,
+        cost: Some(100_000),
+        line: &[Corner(0, 0), Corner(100_000, 0)],
+        rows: &STRAIGHT_ROWS,
+    },
+    Given {
+        edge: 2,
+        cost: Some(100_000),
+        line: &[Corner(100_000, 0), Corner(0, 0)],
+        rows: &BOTH_WAYS_2_ROWS,
+    },
+];
+
+const BY_WAY_PROOFS: [Given; 1] = [Given {
+    edge: 1,
+    cost: Some(100_000),
+    line: &[Corner(0, 0), Corner(100_000, 0)],
+    rows: &BY_WAY_ROWS,
+}];
+
+const NONE_PROOFS: [Given; 0] = [];
+
+const TWO_PROOFS: [Given; 2] = [
+    Given {
+        edge: 1,
+        cost: Some(100_000),
+        line: &[Corner(0, 0), Corner(100_000, 0)],
+        rows: &STRAIGHT_ROWS,
+    },
+    Given {
+        edge: 2,
+        cost: None,
+        line: &[],
+        rows: &[],
+    },
+];
+
+const CUT_PROOFS: [Given; 1] = [Given {
+    edge: 1,
+    cost: None,
+    line: &[],
+    rows: &[],
+}];
+
+const CUT_EVERY_PROOFS: [Given; 1] = [Given {
+    edge: 1,
+    cost: None,
+    line: &[],
+    rows: &CUT_EVERY_ROWS,
+}];
+
+const CASES: [Case; 45] = [
+    // The least labels.
+    Case {
+        plan: STRAIGHT,
+        proofs: &STRAIGHT_PROOFS,
+        change: Change::None,
+        no: None,
+    },
+    // No proof.
+    Case {
+        plan: STRAIGHT,
+        proofs: &NONE_PROOFS,
+        change: Change::None,
+        no: Some((1, 1)),
+    },
+    // A proof too many.
+    Case {
+        plan: STRAIGHT,
+        proofs: &TWO_PROOFS,
+        change: Change::None,
+        no: Some((0, 1)),
+    },
+    // Another edge.
+    Case {
+        plan: STRAIGHT,
+        proofs: &STRAIGHT_PROOFS,
+        change: Change::Edge(2),
+        no: Some((1, 1)),
+    },
+    // Too low a cost.
+    Case {
+        plan: STRAIGHT,
+        proofs: &STRAIGHT_PROOFS,
+        change: Change::Cost(99_999),
+        no: Some((1, 3)),
+    },
+    // Too high a cost.
+    Case {
+        plan: STRAIGHT,
+        proofs: &STRAIGHT_PROOFS,
+        change: Change::Cost(100_001),
+        no: Some((1, 3)),
+    },
+    // A cost that labels reach, which is rule 2 before rule 3.
+    Case {
+        plan: STRAIGHT,
+        proofs: &STRAIGHT_PROOFS,
+        change: Change::Cost(86_000),
+        no: Some((1, 2)),
+    },
+    // A cost of 10^18.
+    Case {
+        plan: STRAIGHT,
+        proofs: &STRAIGHT_PROOFS,
+        change: Change::Cost(1_000_000_000_000_000_000),
+        no: Some((1, 3)),
+    },
+    // A label of the cost.
+    Case {
+        plan: STRAIGHT,
+        proofs: &STRAIGHT_PROOFS,
+        change: Change::Row(
+            0,
+            Row(0, -14_000, -14_000, None, None, Some(78_000), Some(100_000)),
+        ),
+        no: Some((1, 2)),
+    },
+    // A row twice.
+    Case {
+        plan: STRAIGHT,
+        proofs: &STRAIGHT_PROOFS,
+        change: Change::Row(
+            1,
+            Row(0, -14_000, -14_000, None, None, Some(78_000), Some(78_000)),
+        ),
+        no: Some((1, 2)),
+    },
+    // A stage too high.
+    Case {
+        plan: STRAIGHT,
+        proofs: &STRAIGHT_PROOFS,
+        change: Change::Row(
+            8,
+            Row(1, 14_000, 14_000, Some(78_000), Some(78_000), None, None),
+        ),
+        no: Some((1, 2)),
+    },
+    // No crossing.
+    Case {
+        plan: STRAIGHT,
+        proofs: &STRAIGHT_PROOFS,
+        change: Change::Row(
+            0,
+            Row(0, -14_001, -14_000, None, None, Some(78_000), Some(78_000)),
+        ),
+        no: Some((1, 2)),
+    },
+    // No crossing, beyond the last one of its line.
+    Case {
+        plan: STRAIGHT,
+        proofs: &STRAIGHT_PROOFS,
+        change: Change::Row(
+            8,
+            Row(0, 500_000, 14_000, Some(78_000), Some(78_000), None, None),
+        ),
+        no: Some((1, 2)),
+    },
+    // A row without labels.
+    Case {
+        plan: STRAIGHT,
+        proofs: &STRAIGHT_PROOFS,
+        change: Change::Row(3, Row(0, -14_000, 0, None, None, None, None)),
+        no: Some((1, 2)),
+    },
+    // A line that ends elsewhere.
+    Case {
+        plan: STRAIGHT,
+        proofs: &STRAIGHT_PROOFS,
+        change: Change::End(100_000, 1000),
+        no: Some((1, 3)),
+    },
+    // A line that leaves the sheet.
+    Case {
+        plan: STRAIGHT,
+        proofs: &STRAIGHT_PROOFS,
+        change: Change::End(1_000_000_000_000, 0),
+        no: Some((1, 3)),
+    },
+    // No line.
+    Case {
+        plan: STRAIGHT,
+        proofs: &STRAIGHT_PROOFS,
+        change: Change::NoLine,
+        no: Some((1, 3)),
+    },
+    // The line alone.
+    Case {
+        plan: STRAIGHT,
+        proofs: &STRAIGHT_PROOFS,
+        change: Change::NoRows,
+        no: Some((1, 4)),
+    },
+    // An entry without a label.
+    Case {
+        plan: STRAIGHT,
+        proofs: &STRAIGHT_PROOFS,
+        change: Change::Drop(4),
+        no: Some((1, 4)),
+    },
+    // An entry with too high a label.
+    Case {
+        plan: STRAIGHT,
+        proofs: &STRAIGHT_PROOFS,
+        change: Change::Row(4, Row(0, 14_000, 0, Some(14_001), None, None, None)),
+        no: Some((1, 4)),
+    },
+    // The end of a move without a label.
+    Case {
+        plan: STRAIGHT,
+        proofs: &STRAIGHT_PROOFS,
+        change: Change::Drop(5),
+        no: Some((1, 5)),
+    },
+    // The end of a move with too high a label.
+    Case {
+        plan: STRAIGHT,
+        proofs: &STRAIGHT_PROOFS,
+        change: Change::Row(5, Row(0, 86_000, 0, Some(86_001), None, None, None)),
+        no: Some((1, 5)),
+    },
+    // The end of a bend with too high a label.
+    Case {
+        plan: STRAIGHT,
+        proofs: &STRAIGHT_PROOFS,
+        change: Change::Row(
+            8,
+            Row(0, 14_000, 14_000, Some(78_001), Some(78_000), None, None),
+        ),
+        no: Some((1, 5)),
+    },
+    // A label too low for the ending.
+    Case {
+        plan: STRAIGHT,
+        proofs: &STRAIGHT_PROOFS,
+        change: Change::Row(5, Row(0, 86_000, 0, Some(85_999), None, None, None)),
+        no: Some((1, 6)),
+    },
+    // A cut where walks go on.
+    Case {
+        plan: STRAIGHT,
+        proofs: &STRAIGHT_PROOFS,
+        change: Change::Cut,
+        no: Some((1, 5)),
+    },
+    // A cut where walks enter.
+    Case {
+        plan: STRAIGHT,
+        proofs: &CUT_PROOFS,
+        change: Change::None,
+        no: Some((1, 4)),
+    },
+    // A cut with a label that is not 0.
+    Case {
+        plan: STRAIGHT,
+        proofs: &CUT_EVERY_PROOFS,
+        change: Change::Row(
+            0,
+            Row(0, -14_000, -14_000, Some(1), Some(0), Some(0), Some(0)),
+        ),
+        no: Some((1, 2)),
+    },
+    // A cut where a walk ends.
+    Case {
+        plan: STRAIGHT,
+        proofs: &CUT_EVERY_PROOFS,
+        change: Change::None,
+        no: Some((1, 6)),
+    },
+    // No walk leaves the start.
+    Case {
+        plan: COVERED_START,
+        proofs: &COVERED_START_PROOFS,
+        change: Change::None,
+        no: None,
+    },
+    // A cost where there is no walk.
+    Case {
+        plan: COVERED_START,
+        proofs: &STRAIGHT_PROOFS,
+        change: Change::None,
+        no: Some((1, 2)),
+    },
+    // No walk reaches the end.
+    Case {
+        plan: COVERED_END,
+        proofs: &COVERED_END_PROOFS,
+        change: Change::None,
+        no: None,
+    },
+    // A cut without the label of an entry.
+    Case {
+        plan: COVERED_END,
+        proofs: &COVERED_END_PROOFS,
+        change: Change::Row(11, Row(0, 14_000, 0, None, Some(0), Some(0), Some(0))),
+        no: Some((1, 4)),
+    },
+    // A cut without the label of a move.
+    Case {
+        plan: COVERED_END,
+        proofs: &COVERED_END_PROOFS,
+        change: Change::Drop(0),
+        no: Some((1, 5)),
+    },
+    // A cost of 0 for a cut.
+    Case {
+        plan: COVERED_END,
+        proofs: &COVERED_END_PROOFS,
+        change: Change::Cost(0),
+        no: Some((1, 2)),
+    },
+    // A loop needs no proof.
+    Case {
+        plan: LOOP,
+        proofs: &NONE_PROOFS,
+        change: Change::None,
+        no: None,
+    },
+    // Nor does a scene without edges.
+    Case {
+        plan: NO_EDGES,
+        proofs: &NONE_PROOFS,
+        change: Change::None,
+        no: None,
+    },
+    // A proof where there is no connector.
+    Case {
+        plan: NO_EDGES,
+        proofs: &STRAIGHT_PROOFS,
+        change: Change::None,
+        no: Some((0, 1)),
+    },
+    // A loop before the connector.
+    Case {
+        plan: LOOP_AND_MORE,
+        proofs: &LOOP_AND_MORE_PROOFS,
+        change: Change::None,
+        no: None,
+    },
+    // Both ways.
+    Case {
+        plan: BOTH_WAYS,
+        proofs: &BOTH_WAYS_PROOFS,
+        change: Change::None,
+        no: None,
+    },
+    // The other connector has no proof.
+    Case {
+        plan: BOTH_WAYS,
+        proofs: &STRAIGHT_PROOFS,
+        change: Change::None,
+        no: Some((2, 1)),
+    },
+    // The other connector fails.
+    Case {
+        plan: BOTH_WAYS,
+        proofs: &BOTH_WAYS_PROOFS,
+        change: Change::NoRows,
+        no: Some((2, 4)),
+    },
+    // By way of a checkpoint.
+    Case {
+        plan: BY_WAY,
+        proofs: &BY_WAY_PROOFS,
+        change: Change::None,
+        no: None,
+    },
+    // Without the stage after the checkpoint.
+    Case {
+        plan: BY_WAY,
+        proofs: &BY_WAY_PROOFS,
+        change: Change::Drop(8),
+        no: Some((1, 5)),
+    },
+    // In the stage before the checkpoint.
+    Case {
+        plan: BY_WAY,
+        proofs: &BY_WAY_PROOFS,
+        change: Change::Row(8, Row(0, 50_000, 0, Some(50_000), None, None, None)),
+        no: Some((1, 2)),
+    },
+    // The line passes, the labels are of the task without a checkpoint.
+    Case {
+        plan: BY_WAY,
+        proofs: &STRAIGHT_PROOFS,
+        change: Change::None,
+        no: Some((1, 5)),
+    },
+];
+
+/// Puts in an edge with the next number, which may be a loop.
+fn load_edge(alloc: Global, scene: &mut Scene, from: i64, to: i64) -> Result<(), SceneFault> {
+    let number = scene.next_edge();
+    if number == u32::MAX {
+        return Err(SceneFault::Memory);
+    }
+    scene.load_edge(Edge {
+        number,
+        from,
+        to,
+        from_class: 0,
+        to_class: 0,
+        via: Via::new(alloc),
+        origin: None,
+        weight: 1,
+    })
+}
+
+/// Puts what the plan has into the scene.
+fn fill(alloc: Global, scene: &mut Scene, plan: Plan) -> Result<(), SceneFault> {
+    for Place(id, x, y, w, h) in plan.places {
+        scene.add_node(*id, *x, *y, *w, *h)?;
+    }
+    for (from, to) in plan.edges {
+        load_edge(alloc, scene, *from, *to)?;
+    }
+    for Corner(x, y) in plan.via {
+        scene.add_via(1, 1, *x, *y)?;
+    }
+    Ok(())
+}
+
+/// The row, for a cut with 0 for each label.
+fn label_row(row: Row, change: Change) -> LabelRow {
+    let Row(stage, x, y, east, south, west, north) = row;
+    let is_cut = matches!(change, Change::Cut);
+    LabelRow {
+        stage,
+        at: Point { x, y },
+        east: if is_cut { east.and(Some(0)) } else { east },
+        south: if is_cut { south.and(Some(0)) } else { south },
+        west: if is_cut { west.and(Some(0)) } else { west },
+        north: if is_cut { north.and(Some(0)) } else { north },
+    }
+}
+
+/// The rows after the change.
+fn rows(alloc: Global, given: Given, change: Change) -> Result<Rows, AllocError> {
+    let mut rows = Vec::new(alloc);
+    if matches!(change, Change::NoRows) {
+        return Ok(Rows(rows));
+    }
+    for (place, row) in given.rows.iter().enumerate() {
+        match change {
+            Change::Drop(at) if at == place => {}
+            Change::Row(at, other) if at == place => rows.push(label_row(other, change))?,
+            _ => rows.push(label_row(*row, change))?,
+        }
+    }
+    Ok(Rows(rows))
+}
+
+/// The line after the change.
+fn line(alloc: Global, given: Given, change: Change) -> Result<Points, AllocError> {
+    let mut points = Vec::new(alloc);
+    if matches!(change, Change::NoLine) {
+        return Ok(Points(points));
+    }
+    for Corner(x, y) in given.line {
+        points.push(Point { x: *x, y: *y })?;
+    }
+    if let Change::End(x, y) = change {
+        points.pop();
+        points.push(Point { x, y })?;
+    }
+    Ok(Points(points))
+}
+
+/// The claim after the change.
+fn claim(alloc: Global, given: Given, change: Change) -> Result<Claim, AllocError> {
+    let cost = match change {
+        Change::Cost(cost) => Some(cost),
+        Change::Cut => None,
+        _ => given.cost,
+    };
+    match cost {
+        None => Ok(Claim::Cut),
+        Some(cost) => Ok(Claim::Cost {
+            cost,
+            points: line(alloc, given, change)?,
+        }),
+    }
+}
+
+/// The proof after the change.
+fn proof(alloc: Global, given: Given, change: Change) -> Result<Proof, AllocError> {
+    let rows = rows(alloc, given, change)?;
+    let edge = match change {
+        Change::Edge(edge) => edge,
+        _ => given.edge,
+    };
+    Ok(Proof {
+        edge,
+        claim: claim(alloc, given, change)?,
+        rows,
+    })
+}
+
+/// Puts in the proofs, of which the last one is changed.
+fn put_proofs(alloc: Global, proofs: &mut Vec<Proof>, case: Case) -> Result<(), AllocError> {
+    for (place, given) in case.proofs.iter().enumerate() {
+        let is_last = place == case.proofs.len() - 1;
+        let change = if is_last { case.change } else { Change::None };
+        proofs.push(proof(alloc, *given, change)?)?;
+    }
+    Ok(())
+}
+
+/// The graph of the scene.
+fn graph_of(alloc: Global, scene: &Scene) -> Result<Graph, AllocError>
+    ensures { IfOk result (λ g. g.floor ≡ floor_of scene.now) }
+{
+    let floor = scene.floor()?;
+    Graph::build(alloc, &floor)
+}
+
+/// What an audit of the proofs answers.
+fn audited(alloc: Global, scene: &Scene, proofs: &[Proof]) -> Result<(), AuditFault> {
+    let graph = graph_of(alloc, scene)?;
+    audit(alloc, scene, &graph, proofs)
+}
+
+/// What an audit answers of the case, whose scene and proofs are empty yet.
+fn audited_by(
+    alloc: Global,
+    scene: &mut Scene,
+    proofs: &mut Vec<Proof>,
+    case: Case,
+) -> Result<(), AuditFault> {
+    if fill(alloc, scene, case.plan).is_err() {
+        return Err(AuditFault::Memory);
+    }
+    put_proofs(alloc, proofs, case)?;
+    audited(alloc, scene, proofs)
+}
+
+/// What an audit answers of the case.
+fn answer(alloc: Global, case: Case) -> Result<(), AuditFault> {
+    let mut scene = Scene::new(alloc);
+    let mut proofs = Vec::new(alloc);
+    audited_by(alloc, &mut scene, &mut proofs, case)
+}
+
+/// What an audit is to answer of the case.
+fn wanted(case: Case) -> Result<(), AuditFault> {
+    match case.no {
+        None => Ok(()),
+        Some((edge, rule)) => Err(AuditFault::No { edge, rule }),
+    }
+}
+
+#[test]
+fn finds_the_first_fault(rt: HostRuntime) {
+    for (place, case) in CASES.iter().enumerate() {
+        assert_eq!(rt; answer(rt.alloc(), *case), wanted(*case), "in case {place}");
+    }
+}

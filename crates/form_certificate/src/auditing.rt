@@ -1,0 +1,90 @@
+//! The audit of a certificate of a scene.
+ghost use Rattle.std.specs.Prelude.{◌≡◌, true, IfOk, OnOk};
+ghost use Rattle.std.specs.List.{AllZip};
+ghost use Rattle.scene_model.specs.Scene.{connectors};
+ghost use Rattle.proof_model.specs.Scenes.{HoldsClaim};
+ghost use Rattle.report_text.specs.Audits.{audit_line_line};
+ghost use Rattle.route_audit.specs.Audits.{IsAudited};
+ghost use Rattle.form_certificate.specs.Auditing.{Audits, HasTrueClaims, IsBad, Says};
+
+use proof_model::Proof;
+use proof_text::{ProofFault, read_proofs};
+use report_text::{push_audit_line_line, push_audit_rule_line, push_audit_yes_line};
+use route_audit::{AuditFault, audit};
+use scene_store::Scene;
+use std::alloc::{AllocError, Global};
+use visibility_graph::Graph;
+
+/// What is said of a certificate.
+#[derive(Drop)]
+pub struct Audited {
+    pub text: Vec<u8>,
+    /// Whether it proves the scene.
+    pub is_proved: bool,
+}
+
+/// The audit of the proofs, by a graph of the scene's own.
+fn audit_proofs(alloc: Global, scene: &Scene, proofs: &[Proof]) -> Result<(), AuditFault>
+    ensures audited { IsAudited scene.now proofs.now result }
+    ensures claims { OnOk result (AllZip (HoldsClaim scene.now) (connectors scene.now) proofs.now) }
+{
+    let floor = scene.floor()?;
+    let graph = Graph::build(alloc, &floor)?;
+    audit(alloc, scene, &graph, proofs)
+}
+
+/// What is said of an audit with this answer.
+fn answer(alloc: Global, audited: Result<(), AuditFault>) -> Result<Audited, AllocError>
+    ensures { IfOk result (λ a. Says audited a.text.items a.is_proved) }
+{
+    let mut text = Vec::new(alloc);
+    match audited {
+        Ok(()) => {
+            push_audit_yes_line(&mut text)?;
+            Ok(Audited {
+                text,
+                is_proved: true,
+            })
+        }
+        Err(AuditFault::No { edge, rule }) => {
+            push_audit_rule_line(&mut text, edge, rule)?;
+            Ok(Audited {
+                text,
+                is_proved: false,
+            })
+        }
+        Err(AuditFault::Memory) => Err(AllocError),
+    }
+}
+
+/// What is said of a file that is no certificate.
+fn no_certificate(alloc: Global, line: u64) -> Result<Audited, AllocError>
+    ensures { IfOk result (λ a. IsBad line a.text.items a.is_proved) }
+{
+    let mut text = Vec::new(alloc);
+    push_audit_line_line(&mut text, line)?;
+    Ok(Audited {
+        text,
+        is_proved: false,
+    })
+}
+
+/// Whether the bytes are a certificate that proves the scene: each connector, in order, has one proof, and all rules
+/// hold of it. If they do, each claim of the certificate is true of the scene. Otherwise the answer has the first bad
+/// line of the bytes, or the first connector for which a rule fails, with the least such rule.
+///
+/// The only error is out of memory.
+pub fn audit_certificate(
+    alloc: Global,
+    scene: &Scene,
+    certificate: &[u8],
+) -> Result<Audited, AllocError>
+    ensures audits { IfOk result (λ a. Audits scene.now certificate.now a.text.items a.is_proved) }
+    ensures claims { IfOk result (λ a. a.is_proved ≡ true → HasTrueClaims scene.now certificate.now) }
+{
+    match read_proofs(alloc, certificate) {
+        Ok(proofs) => answer(alloc, audit_proofs(alloc, scene, &proofs)),
+        Err(ProofFault::Line { line }) => no_certificate(alloc, line),
+        Err(ProofFault::Memory) => Err(AllocError),
+    }
+}

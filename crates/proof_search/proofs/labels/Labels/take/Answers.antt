@@ -1,0 +1,66 @@
+-- The label is closed, and then passed on.
+use Rattle.std.proofs.Common.{◌≡◌, None, Some, refl, sym, ap, ◌∙◌, arith}
+use Rattle.search_labels.specs.declared.label.Label.TheVariants.{Open}
+use Rattle.proof_search.specs.declared.labels.Labels.{Labels}
+use Rattle.proof_search.specs.Search.{IsReachedAt, IsSearching, cost_in, label_at}
+use Rattle.proof_search.proofs.Offering.{falls_both}
+use Rattle.proof_search.proofs.Scopes.{coming_by, small_label}
+use Rattle.proof_search.proofs.Taking.{closed_searching, closing_falls, handed_searching, none_open}
+use Rattle.proof_search.proofs.labels.Labels.take.Goals as goal
+use Rattle.proof_search.proofs.labels.Labels.take.Goals.{In-Open, In_ok-put}
+
+-- the label was open, and is reached
+is_open : (c : In-Open) → label_at c.args.self.now c.args.place.now ≡ Open c.in-Open.known
+is_open c = sym c.label.ensures ∙ c.in-Open.is
+
+reached : (c : In-Open) → IsReachedAt c.args.problem.now c.args.scope c.args.place.now c.in-Open.known.cost
+reached c = c.requires.searching.reached c.args.place.now c.in-Open.known.cost (ap cost_in (is_open c))
+
+pub returns-in_default : goal.returns-in_default
+returns-in_default c = record {
+  searching = none_open c.args.problem.now c.args.scope c.args.self.now c.args.place.now c.requires.searching
+      (λ v open_now. c.in_default.not-Open v (c.label.ensures ∙ open_now));
+  falls = λ x cost h. h;
+  lighter = omega arith;
+  err = tt;
+}
+
+-- the labels once it is closed
+abbrev closed : In_ok-put → Labels
+closed c = record { table = c.put.new.self; queue = c.args.self.now.queue }
+
+closed_one : (c : In_ok-put) → IsSearching c.args.problem.now c.args.scope (closed c) None (Some c.args.place.now)
+closed_one c =
+    closed_searching c.args.problem.now c.args.scope c.args.self.now (closed c) c.args.place.now c.in-Open.known c.requires.searching
+    (sym c.label.ensures ∙ c.in-Open.is)
+    c.in_ok-put.ensures.ok c.in_ok-put.ensures.marked refl
+
+pub hand_on-requires-clause-searching : goal.hand_on-requires-clause-searching
+hand_on-requires-clause-searching c = (Some c.args.place.now, closed_one (goal.at.hand_on-requires-clause-searching c).In_ok-put)
+
+pub hand_on-requires-clause-coming : goal.hand_on-requires-clause-coming
+hand_on-requires-clause-coming c =
+    coming_by c.args.problem.now c.args.scope c.args.place.now c.in-Open.known.cost (reached (goal.at.hand_on-requires-clause-coming c).In-Open)
+
+pub hand_on-requires-clause-small : goal.hand_on-requires-clause-small
+hand_on-requires-clause-small c =
+    small_label c.args.problem.now c.args.scope c.args.place.now c.requires.ready c.in-Open.known.cost
+    (reached (goal.at.hand_on-requires-clause-small c).In-Open)
+
+pub returns-clause-searching : goal.returns-clause-searching
+returns-clause-searching c =
+    let x = c.args.place.now in
+    let put = (goal.at.returns-clause-searching c).In_ok-put in
+    handed_searching c.args.problem.now c.args.scope (closed put) c.hand_on.new.self x c.in-Open.known c.in_ok-put.ensures.ok.changed
+    (c.in_ok-hand_on.ensures.searching (Some x) (closed_one put)) c.in_ok-hand_on.ensures.spreads c.in_ok-hand_on.ensures.handed
+
+pub returns-clause-falls : goal.returns-clause-falls
+returns-clause-falls c =
+    let x = c.args.place.now in
+    let s = c.args.scope in
+    let old = c.args.self.now in
+    let mid = closed (goal.at.returns-clause-falls c).In_ok-put in
+    falls_both s old mid c.hand_on.new.self
+    (closing_falls c.args.problem.now s old mid x c.in-Open.known c.requires.searching (sym c.label.ensures ∙ c.in-Open.is) c.in_ok-put.ensures.ok
+    c.in_ok-put.ensures.marked refl)
+    c.in_ok-hand_on.ensures.spreads.falls

@@ -1,0 +1,15 @@
+//! Certificates of cost, made: for each connector of a scene its right claim, and the least labels
+//! that prove it.
+//!
+//! Lengths and costs are in thousandths of a GML unit.
+#![tactic(auto)]
+
+mod labels;
+mod prover;
+mod rows;
+mod scene;
+mod scope;
+mod spots;
+mod spread;
+
+pub use scene::prove;

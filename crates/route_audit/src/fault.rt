@@ -1,0 +1,24 @@
+//! Why an audit says no.
+
+use std::alloc::AllocError;
+
+/// Why proofs do not prove a scene.
+#[derive(Clone, Copy, Debug, PartialEq, Eq)]
+pub enum AuditFault {
+    /// The first connector for which a rule fails, and the least such rule; edge 0 and rule 1 for a
+    /// proof too many.
+    No { edge: u32, rule: u32 },
+    /// Out of memory.
+    Memory,
+}
+
+impl From<AllocError> for AuditFault {
+    ghost use Rattle.std.specs.Prelude.{◌≡◌};
+    ghost use Rattle.route_audit.specs.declared.fault.AuditFault.TheVariants.{Memory};
+
+    ghost from_gives = { λ _ fault. fault ≡ Memory };
+
+    fn from(_: AllocError) -> AuditFault {
+        AuditFault::Memory
+    }
+}
