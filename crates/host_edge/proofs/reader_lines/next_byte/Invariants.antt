@@ -1,0 +1,6 @@
+-- Nothing was taken yet.
+use Rattle.std.specs.Io.KnownBytes.{Keeps}
+use Rattle.host_edge.proofs.reader_lines.next_byte.Given as goal
+
+abbrev pub invariant-loop : goal.invariant-loop
+invariant-loop g l = Keeps (g.R.Read.remaining l.fn.reader) (g.R.Read.remaining l.reader)

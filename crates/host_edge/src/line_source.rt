@@ -1,0 +1,38 @@
+//! What contracts ask of input that is read line by line.
+ghost use Rattle.std.specs.Prelude.{◌≡◌, ◌≤◌, ℕ, List, Option, IfOk, IfSome, vec_capacity};
+ghost use Rattle.host_edge.specs.Lines.{IsLineRead};
+
+use thiserror::Error;
+
+/// What a read of a line found.
+#[derive(Clone, Copy, Debug, PartialEq, Eq)]
+pub enum LineRead {
+    /// A line, which stands in the buffer without the line feed that ends it.
+    Whole,
+    /// A line of more bytes than the limit. It was read to its end, and the buffer has its first bytes.
+    TooLong,
+    /// The input has ended.
+    End,
+}
+
+/// The input cannot be read.
+#[derive(Clone, Copy, Debug, PartialEq, Eq, Error)]
+#[error("the input cannot be read")]
+pub struct ReadFailed;
+
+/// Input that is read line by line.
+///
+/// A line ends at a line feed or with the input. Reading takes no memory.
+pub trait LineSource {
+    /// The bytes that are still to be read, where the source exposes them.
+    ghost rest: { Self → Option (List ℕ) };
+
+    /// Reads the next line into the buffer, in place of what stands there, and answers once the line has ended.
+    ///
+    /// The limit is in bytes, and the buffer has room for them. After an error a part of a line may be lost.
+    fn next_line(&mut self, line: &mut Vec<u8>, limit: usize) -> Result<LineRead, ReadFailed>
+        requires { limit ≤ vec_capacity line.old }
+        ensures read { IfSome (rest self.old) (λ bytes.
+            IfOk result (λ read. IsLineRead limit bytes read line.new.items (rest self.new))) }
+        ensures room { vec_capacity line.new ≡ vec_capacity line.old };
+}

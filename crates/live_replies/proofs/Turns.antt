@@ -1,0 +1,65 @@
+-- Turns that follow one another.
+use Rattle.std.proofs.Common.{◌≡◌, ◌≢◌, ℕ, List, [], ◌∷◌, ◌++◌, Option, None, Some, Result, Ok, Err, refl, sym, subst}
+use Rattle.live_replies.specs.declared.serving.End.{End}
+use Rattle.live_replies.specs.declared.serving.End.TheVariants.{Input, Quit}
+use Rattle.live_replies.specs.declared.serving.ServeFault.{ServeFault}
+use Rattle.live_replies.specs.declared.serving.ServeFault.TheVariants.{Read, Write, Memory}
+use Rattle.std.specs.Prelude.{IfErr, IfOk, IfSome, OnErr, OnOk}
+use Rattle.std.specs.Io.KnownBytes.{append_known}
+use Rattle.host_edge.specs.declared.line_source.LineRead.{LineRead}
+use Rattle.host_edge.specs.Lines.{IsLineRead}
+use Rattle.host_edge.specs.Sink.{AppendsPart}
+use Rattle.live_replies.specs.Answers.{AnswersRead}
+use Rattle.live_replies.specs.Serves.{AreTurns, EndsTurn, IsTurn, Moment, Serves, ServesTo, Turn, most_line}
+
+-- nothing was read yet
+pub none_yet : (a : Moment) → Serves a a
+none_yet a = record { turns = []; are_turns = refl }
+
+-- one turn
+pub one_turn : (a b : Moment) (t : Turn) → IsTurn a t → t.after ≡ b → Serves a b
+one_turn a b t is ends = record { turns = t ∷ []; are_turns = (is, ends) }
+
+turns_on : (a b c : Moment) (ts us : List Turn) → AreTurns a ts b → AreTurns b us c → AreTurns a (ts ++ us) c
+turns_on a b c [] us h k = subst (λ m. AreTurns m us c) (sym h) k
+turns_on a b c (t ∷ ts) us h k = (h.0, turns_on t.after b c ts us h.1 k)
+
+-- some turns, and then more
+pub more_turns : (a b c : Moment) → Serves a b → Serves b c → Serves a c
+more_turns a b c h k = record { turns = h.turns ++ k.turns; are_turns = turns_on a b c h.turns k.turns h.are_turns k.are_turns }
+
+-- a turn that does not end the session
+pub turn_on : (r : Result (Option End) ServeFault) (a b c : Moment) → r ≡ Ok None → Serves a b → EndsTurn r b c → Serves a c
+turn_on r a b c is h k = more_turns a b c h (subst (λ q. EndsTurn q b c) is k)
+
+-- a turn that ends it
+pub last_turn : (r last : Result (Option End) ServeFault) (a b c : Moment) → r ≡ last → Serves a b → EndsTurn r b c → ServesTo last a c
+last_turn r last a b c is h k = record { middle = b; served = h; ended = subst (λ q. EndsTurn q b c) is k }
+
+-- what a reply that was written, whole or in part, makes of a turn
+pub turn_ends : (r : Result (Option End) ServeFault) (a b : Moment) (read : LineRead) (line said : List ℕ) → IfSome a.rest (λ bytes. IsLineRead most_line bytes read line b.rest)
+    → AnswersRead read line a.live b.live said → OnOk r (b.held ≡ append_known a.held said) → IfOk r (λ end. end ≢ Some Input) → IfErr r (λ fault. fault ≡ Write)
+    → OnErr r (AppendsPart a.held b.held said) → EndsTurn r a b
+turn_ends (Ok None) a b read line said heard answered whole other fault part =
+    one_turn a b (record { read = read; line = line; said = said; after = b }) (record { heard = heard; answered = answered; written = whole }) refl
+turn_ends (Ok (Some Quit)) a b read line said heard answered whole other fault part =
+    one_turn a b (record { read = read; line = line; said = said; after = b }) (record { heard = heard; answered = answered; written = whole }) refl
+turn_ends (Ok (Some Input)) a b read line said heard answered whole other fault part = absurd (other refl)
+turn_ends (Err Write) a b read line said heard answered whole other fault part = record {
+  turn = record { read = read; line = line; said = said; after = b };
+  heard = heard;
+  rest = refl;
+  answered = answered;
+  part = part;
+}
+turn_ends (Err Read) a b read line said heard answered whole other fault part = cc
+turn_ends (Err Memory) a b read line said heard answered whole other fault part = cc
+
+-- no memory was left for a line
+pub no_room : (r : Result End ServeFault) (a : Moment) → r ≡ Err Memory → IfErr r (λ fault. ServesTo (Err fault) a a)
+no_room r a is = subst (λ q. IfErr q (λ fault. ServesTo (Err fault) a a)) (sym is) (record { middle = a; served = none_yet a; ended = refl })
+
+-- the turn ended with this fault
+pub ended_by : (r : Result (Option End) ServeFault) (q : Result End ServeFault) (a b c : Moment) → IfErr q (λ fault. r ≡ Err fault) → Serves a b → EndsTurn r b c → IfErr q (λ fault. ServesTo (Err fault) a c)
+ended_by r (Ok end) a b c is h k = tt
+ended_by r (Err fault) a b c is h k = last_turn r (Err fault) a b c is h k

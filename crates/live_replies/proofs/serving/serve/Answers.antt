@@ -1,0 +1,16 @@
+-- One turn after another.
+use Rattle.std.proofs.Common.{◌∙◌, rules, ap, Ok}
+use Rattle.live_replies.proofs.Turns.{turn_on, no_room, ended_by}
+use Rattle.live_replies.proofs.serving.serve.Goals as goal
+
+pub loop-preserved : goal.loop-preserved
+loop-preserved g c = record {
+  room = search rules;
+  served = turn_on c.turn.result _ _ _ (c.in_ok-end.was ∙ ap Ok c.in_default.is) c.loop.invariant.served c.turn.ensures.ends;
+}
+
+pub returns-in_err-line-clause-err : goal.returns-in_err-line-clause-err
+returns-in_err-line-clause-err g c = no_room c.from_residual.result _ (search rules)
+
+pub returns-in_err-end-clause-err : goal.returns-in_err-end-clause-err
+returns-in_err-end-clause-err g c = ended_by c.turn.result c.from_residual-in_err-end.result _ _ _ (search rules) c.loop.invariant.served c.turn.ensures.ends

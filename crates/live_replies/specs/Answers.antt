@@ -1,0 +1,107 @@
+-- The reply to a request.
+use Rattle.std.specs.Prelude.{◌≡◌, ◌⊎◌, ℕ, List, ◌++◌, Result, Ok, Err}
+use Rattle.host_edge.specs.declared.line_source.LineRead.{LineRead}
+use Rattle.host_edge.specs.declared.line_source.LineRead.TheVariants.{Whole, TooLong, End}
+use Rattle.gml_text.specs.Tree.{Pairs}
+use Rattle.scene_model.specs.Scene.{Scene}
+use Rattle.walk_model.specs.declared.route.WrittenRoute.{WrittenRoute}
+use Rattle.scene_model.specs.declared.edit.Command.{Command}
+use Rattle.scene_model.specs.declared.edit.Command.TheVariants.{Begin, Edit, Commit, Abort, Undo, Redo, Bad}
+use Rattle.scene_model.specs.declared.fault.SessionFault.{SessionFault}
+use Rattle.scene_model.specs.declared.fault.SessionFault.TheVariants.{Memory}
+use Rattle.scene_model.specs.World.{given_up}
+use Rattle.report_text.specs.declared.refusal.Refusal.TheVariants as refusals
+use Rattle.session_laws.specs.State.{State}
+use Rattle.session_laws.specs.Calls.{IsCall}
+use Rattle.form_route.specs.Diagram.{IsDiagram}
+use Rattle.form_route.specs.Routes.{AreLines}
+use Rattle.live_replies.specs.declared.request.Request.{Request}
+use Rattle.live_replies.specs.declared.request.Request.TheVariants.{Nothing, Do, Lines, Gml, Next, Quit}
+use Rattle.live_replies.specs.Changes.{changes, changes_text}
+use Rattle.live_replies.specs.Live.{LiveState}
+use Rattle.live_replies.specs.Requests.{request_of}
+use Rattle.live_replies.specs.Texts.{drawn_texts, gml_text, next_text, no_memory_line, ok_line, refused_line, too_long_line, untold_line}
+
+-- these are the lines of the session's present scene
+abbrev pub AreSessionLines : State → List WrittenRoute → Type 0
+AreSessionLines s lines = AreLines s.world.present s.book lines
+
+-- the changes from the lines that were told before to the lines of the session, which are told now; or no memory is left to tell them
+abbrev pub TellsChanges : List WrittenRoute → LiveState → List ℕ → Type 0
+TellsChanges before new said =
+    (AreSessionLines new.session new.told × (said ≡ changes_text (changes before new.told) ++ ok_line))
+    ⊎ ((new.told ≡ before) × (said ≡ untold_line))
+
+-- nothing is to be told
+abbrev pub TellsNothing : List WrittenRoute → LiveState → List ℕ → Type 0
+TellsNothing before new said = (new.told ≡ before) × (said ≡ ok_line)
+
+-- the reply to a command that is done: a commit, an undo and a redo tell what they changed
+abbrev pub TellsDone : Command → List WrittenRoute → LiveState → List ℕ → Type 0
+TellsDone Begin before new said = TellsNothing before new said
+TellsDone (Edit e) before new said = TellsNothing before new said
+TellsDone Commit before new said = TellsChanges before new said
+TellsDone Abort before new said = TellsNothing before new said
+TellsDone Undo before new said = TellsChanges before new said
+TellsDone Redo before new said = TellsChanges before new said
+TellsDone Bad before new said = ⊥
+
+-- the reply to a command whose call has this result; a refusal whose text finds no memory is told as no memory
+abbrev pub TellsResult : Command → Result Unit SessionFault → List WrittenRoute → LiveState → List ℕ → Type 0
+TellsResult c (Ok done) before new said = TellsDone c before new said
+TellsResult c (Err Memory) before new said = (new.told ≡ before) × (said ≡ no_memory_line)
+TellsResult c (Err fault) before new said = (new.told ≡ before) × ((said ≡ refused_line (refusals.Command fault)) ⊎ (said ≡ no_memory_line))
+
+-- the call of a command, and what is told of its result
+pub record AnswersCall (c : Command) (old new : LiveState) (said : List ℕ) : Type 0 where
+  pub result : Result Unit SessionFault
+  pub call : IsCall c result old.session new.session
+  pub tells : TellsResult c result old.told new said
+
+-- no transaction is open, and all else is as before
+abbrev pub GivesUp : LiveState → LiveState → Type 0
+GivesUp old new =
+    (new.session.world ≡ given_up old.session.world) × (new.session.book ≡ old.session.book) × (new.told ≡ old.told)
+
+-- the reply to a command
+abbrev pub AnswersCommand : Command → LiveState → LiveState → List ℕ → Type 0
+AnswersCommand Bad old new said = GivesUp old new × ((said ≡ refused_line refusals.Syntax) ⊎ (said ≡ no_memory_line))
+AnswersCommand c old new said = AnswersCall c old new said
+
+-- no memory is left, and nothing changes
+abbrev pub AnswersNoMemory : LiveState → LiveState → List ℕ → Type 0
+AnswersNoMemory old new said = (new ≡ old) × (said ≡ no_memory_line)
+
+-- all lines of the session, which are told now
+abbrev pub TellsLines : LiveState → LiveState → List ℕ → Type 0
+TellsLines old new said =
+    AreSessionLines old.session new.told × (new ≡ record old { told = new.told }) × (said ≡ drawn_texts new.told ++ ok_line)
+
+-- a diagram with the present scene and its lines put in; of which diagram, no clause says
+pub record IsDiagramOf (s : State) (text : List ℕ) : Type 0 where
+  pub tree : Pairs
+  pub was : Scene
+  pub diagram : IsDiagram tree was s.world.present s.book text
+
+-- the diagram
+abbrev pub TellsDiagram : LiveState → LiveState → List ℕ → Type 0
+TellsDiagram old new said = (new ≡ old) × ((text : List ℕ) × IsDiagramOf old.session text × (said ≡ gml_text text ++ ok_line))
+
+-- the number of the next connector that is added
+abbrev pub TellsNext : LiveState → LiveState → List ℕ → Type 0
+TellsNext old new said = (new ≡ old) × (said ≡ next_text old.session.world.present.next_edge ++ ok_line)
+
+-- the reply to a request
+abbrev pub Answers : Request → LiveState → LiveState → List ℕ → Type 0
+Answers Nothing old new said = (new ≡ old) × (said ≡ ok_line)
+Answers (Do command) old new said = AnswersCommand command old new said
+Answers Lines old new said = TellsLines old new said ⊎ AnswersNoMemory old new said
+Answers Gml old new said = TellsDiagram old new said ⊎ AnswersNoMemory old new said
+Answers Next old new said = TellsNext old new said ⊎ AnswersNoMemory old new said
+Answers Quit old new said = (new ≡ old) × (said ≡ ok_line)
+
+-- the reply to a line that was read so: one that is too long, and one that finds no memory, gives up the transaction
+abbrev pub AnswersRead : LineRead → List ℕ → LiveState → LiveState → List ℕ → Type 0
+AnswersRead Whole line old new said = Answers (request_of line) old new said ⊎ (GivesUp old new × (said ≡ no_memory_line))
+AnswersRead TooLong line old new said = GivesUp old new × (said ≡ too_long_line)
+AnswersRead End line old new said = ⊥

@@ -1,0 +1,8 @@
+-- The replies of a session beside an editor.
+pub mod Texts
+pub mod Changes
+pub mod Requests
+pub mod Said
+pub mod Live
+pub mod Answers
+pub mod Serves

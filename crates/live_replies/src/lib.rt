@@ -1,0 +1,16 @@
+//! The engine of a session beside an editor: the reply to each line that the editor writes, and the loop that serves.
+#![tactic(auto)]
+
+mod call;
+mod change;
+mod line;
+mod live;
+mod reply;
+mod request;
+mod serving;
+mod text;
+
+pub use live::Live;
+pub use reply::Said;
+pub use request::Request;
+pub use serving::{End, ServeFault, serve};

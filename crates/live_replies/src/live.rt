@@ -1,0 +1,286 @@
+//! A session beside an editor: its diagram, its scenes, and the lines that the client was told.
+ghost use Rattle.std.specs.Prelude.{◌≡◌, ◌≢◌, ◌⊎◌, ◌≤◌, ◌++◌, ℕ, List, [], IfErr, IfOk, OnErr, OnOk, Ok};
+ghost use Rattle.gml_text.specs.Printed.{IsPrintable};
+ghost use Rattle.gml_text.specs.View.{tree};
+ghost use Rattle.diagram_read.specs.Scene.{scene_of};
+ghost use Rattle.scene_model.specs.World.{IsDirectedCommand, given_up, opened};
+ghost use Rattle.scene_model.specs.declared.edit.Command.TheVariants as commands;
+ghost use Rattle.session_laws.specs.Calls.{IsCall};
+ghost use Rattle.report_text.specs.declared.refusal.Refusal.TheVariants as refusals;
+ghost use Rattle.live_replies.specs.Answers.{Answers, AnswersCommand, AnswersNoMemory, AnswersRead, AreSessionLines, GivesUp, TellsChanges, TellsDiagram, TellsDone, TellsLines, TellsNext, TellsResult};
+ghost use Rattle.live_replies.specs.Changes.{changes, changes_text};
+ghost use Rattle.live_replies.specs.Live.{LiveState};
+ghost use Rattle.live_replies.specs.Requests.{IsDirectedRequest, request_of};
+ghost use Rattle.live_replies.specs.Said.{said_bytes};
+ghost use Rattle.live_replies.specs.Texts.{drawn_texts, gml_text, next_text, no_memory_line, ok_line, refused_line};
+ghost use Rattle.host_edge.specs.declared.line_source.LineRead.TheVariants as reads;
+
+use crate::call::call;
+use crate::reply::{Said, refused};
+use crate::request::{Request, request_of};
+use crate::text::{changes_text, gml_text, lines_text, next_text};
+use form_route::printed_diagram;
+use gml_text::Doc;
+use nudge_phases::Nudged;
+use par_route::Gate;
+use report_text::Refusal;
+use route_session::Session;
+use scene_model::{Command, SessionFault};
+use scene_store::Scene;
+use std::alloc::{AllocError, Global};
+use std::marker::Model;
+use std::thread::Threads;
+use walk_model::WrittenRoute;
+
+/// A session beside an editor.
+///
+/// Contracts see it as its session, and the lines that the client was told last. Each scene of the session comes from the
+/// diagram that it was opened with.
+#[derive(Drop)]
+pub struct Live {
+    alloc: Global,
+    doc: Doc,
+    session: Session,
+    told: Vec<WrittenRoute>,
+}
+
+impl Model for Live {
+    ghost use Rattle.gml_text.specs.View.{tree};
+    ghost use Rattle.live_replies.specs.Live.{LiveState, IsFromDiagram};
+
+    ghost Value = { LiveState };
+
+    ghost view = { λ l. record {
+      session = l.session;
+      told = l.told.items;
+    } };
+
+    ghost invariant = { λ l. IsFromDiagram (tree l.doc) l.session.world };
+}
+
+impl Live {
+    /// A session on the scene of a document. The client was told no line yet.
+    ///
+    /// Searches are made by at most `workers` side by side. The only error is out of memory.
+    pub fn open<R: Threads + Sync, G: Gate>(
+        rt: &R,
+        alloc: Global,
+        doc: Doc,
+        scene: Scene,
+        workers: u32,
+        gate: &G,
+    ) -> Result<Live, AllocError>
+        requires some { 1 ≤ workers }
+        requires few_workers { workers ≤ 4 }
+        requires source { scene_of (tree doc) ≡ Ok scene }
+        requires printable { IsPrintable (tree doc) }
+        ensures world { IfOk result (λ l. l.session.world ≡ opened scene) }
+        ensures told { IfOk result (λ l. l.told ≡ []) }
+    {
+        // That the scene is valid is known from here.
+        let _settings = scene.settings();
+        let session = Session::open(rt, alloc, scene, workers, gate)?;
+        Ok(Live {
+            alloc,
+            doc,
+            session,
+            told: Vec::new(alloc),
+        })
+    }
+
+    /// Calls the session as a command says.
+    fn call<R: Threads + Sync, G: Gate>(
+        &mut self,
+        rt: &R,
+        command: &Command,
+        workers: u32,
+        gate: &G,
+    ) -> Result<(), SessionFault>
+        requires some { 1 ≤ workers }
+        requires few_workers { workers ≤ 4 }
+        requires directed { IsDirectedCommand command.now }
+        requires form { command.now ≢ commands.Bad }
+        ensures call { IsCall command.now result self.old.session self.new.session }
+        ensures told { self.new.told ≡ self.old.told }
+    {
+        call(rt, &mut self.session, command, workers, gate)
+    }
+
+    /// Drops the transaction if one is open.
+    fn give_up(&mut self)
+        ensures { GivesUp self.old self.new }
+    {
+        self.session.give_up();
+    }
+
+    /// The lines of the session's present scene.
+    fn session_lines(&self) -> Result<Vec<WrittenRoute>, AllocError>
+        ensures { IfOk result (λ lines. AreSessionLines self.now.session lines.items) }
+    {
+        self.session.right();
+        let Nudged { routes, .. } = self.session.nudged()?;
+        Ok(routes)
+    }
+
+    /// The lines of the present scene, and the text that tells what changed.
+    fn changes(&self) -> Result<(Vec<WrittenRoute>, Vec<u8>), AllocError>
+        ensures lines { IfOk result (λ r. AreSessionLines self.now.session r.0.items) }
+        ensures text { IfOk result (λ r. r.1.items ≡ changes_text (changes self.now.told r.0.items) ++ ok_line) }
+    {
+        let lines = self.session_lines()?;
+        let text = changes_text(self.alloc, &self.told, &lines)?;
+        Ok((lines, text))
+    }
+
+    /// Tells what changed since the client was told lines last.
+    fn tell_changes(&mut self) -> Said
+        ensures tells { TellsChanges self.old.told self.new (said_bytes result) }
+        ensures session { self.new.session ≡ self.old.session }
+    {
+        match self.changes() {
+            Ok((lines, text)) => {
+                self.told = lines;
+                Said::Text(text)
+            }
+            Err(AllocError) => Said::Untold,
+        }
+    }
+
+    /// Tells that a command is done: what changed, where it may change lines.
+    fn tell_done(&mut self, command: &Command) -> Said
+        requires { command.now ≢ commands.Bad }
+        ensures tells { TellsDone command.now self.old.told self.new (said_bytes result) }
+        ensures session { self.new.session ≡ self.old.session }
+    {
+        match command {
+            Command::Commit | Command::Undo | Command::Redo => self.tell_changes(),
+            _ => Said::Done,
+        }
+    }
+
+    /// Does a command that has a form, and tells what came of it.
+    fn do_command<R: Threads + Sync, G: Gate>(
+        &mut self,
+        rt: &R,
+        command: &Command,
+        workers: u32,
+        gate: &G,
+    ) -> Said
+        requires some { 1 ≤ workers }
+        requires few_workers { workers ≤ 4 }
+        requires directed { IsDirectedCommand command.now }
+        requires form { command.now ≢ commands.Bad }
+        ensures answer { AnswersCommand command.now self.old self.new (said_bytes result) }
+    {
+        match self.call(rt, command, workers, gate) {
+            Ok(()) => self.tell_done(command),
+            Err(SessionFault::Memory) => Said::NoMemory,
+            Err(fault) => refused(self.alloc, &Refusal::Command(fault)),
+        }
+    }
+
+    /// Tells that a line has no form, which gives up the transaction.
+    fn refuse_line(&mut self) -> Said
+        ensures answer { AnswersCommand commands.Bad self.old self.new (said_bytes result) }
+    {
+        self.give_up();
+        refused(self.alloc, &Refusal::Syntax)
+    }
+
+    /// All lines of the present scene, and the text that tells them.
+    fn all_lines(&self) -> Result<(Vec<WrittenRoute>, Vec<u8>), AllocError>
+        ensures lines { IfOk result (λ r. AreSessionLines self.now.session r.0.items) }
+        ensures text { IfOk result (λ r. r.1.items ≡ drawn_texts r.0.items ++ ok_line) }
+    {
+        let lines = self.session_lines()?;
+        let text = lines_text(self.alloc, &lines)?;
+        Ok((lines, text))
+    }
+
+    /// Tells all lines of the present scene.
+    fn tell_lines(&mut self) -> Said
+        ensures { TellsLines self.old self.new (said_bytes result) ⊎ AnswersNoMemory self.old self.new (said_bytes result) }
+    {
+        match self.all_lines() {
+            Ok((lines, text)) => {
+                self.told = lines;
+                Said::Text(text)
+            }
+            Err(AllocError) => Said::NoMemory,
+        }
+    }
+
+    /// The text that tells the diagram.
+    fn diagram(&self) -> Result<Vec<u8>, AllocError>
+        ensures { IfOk result (λ text. TellsDiagram self.now self.now text.items) }
+    {
+        let diagram = printed_diagram(self.alloc, &self.doc, &self.session)?;
+        gml_text(self.alloc, &diagram)
+    }
+
+    /// The text that tells the number of the next connector.
+    fn next(&self) -> Result<Vec<u8>, AllocError>
+        ensures { IfOk result (λ text. TellsNext self.now self.now text.items) }
+    {
+        next_text(self.alloc, self.session.scene().next_edge())
+    }
+
+    /// Does what a request asks for, and tells what came of it.
+    ///
+    /// After a command that is refused no transaction is open. The other requests change no scene.
+    fn answer<R: Threads + Sync, G: Gate>(
+        &mut self,
+        rt: &R,
+        request: Request,
+        workers: u32,
+        gate: &G,
+    ) -> Said
+        requires some { 1 ≤ workers }
+        requires few_workers { workers ≤ 4 }
+        requires directed { IsDirectedRequest request }
+        ensures { Answers request self.old self.new (said_bytes result) }
+    {
+        match request {
+            Request::Nothing | Request::Quit => Said::Done,
+            Request::Do(Command::Bad) => self.refuse_line(),
+            Request::Do(command) => self.do_command(rt, &command, workers, gate),
+            Request::Lines => self.tell_lines(),
+            Request::Gml => Said::of(self.diagram()),
+            Request::Next => Said::of(self.next()),
+        }
+    }
+
+    /// The reply to a line, and whether it is the last one.
+    ///
+    /// After a refused command no transaction is open, and the scenes and lines are as before.
+    pub fn reply<R: Threads + Sync, G: Gate>(
+        &mut self,
+        rt: &R,
+        line: &[u8],
+        workers: u32,
+        gate: &G,
+    ) -> (Said, bool)
+        requires some { 1 ≤ workers }
+        requires few_workers { workers ≤ 4 }
+        ensures { AnswersRead reads.Whole line.now self.old self.new (said_bytes result.0) }
+    {
+        match request_of(self.alloc, line) {
+            Ok(request) => (
+                self.answer(rt, request, workers, gate),
+                request == Request::Quit,
+            ),
+            Err(AllocError) => {
+                self.give_up();
+                (Said::NoMemory, false)
+            }
+        }
+    }
+
+    /// The reply to a line that is too long. It gives up the transaction.
+    pub fn refuse_long_line(&mut self) -> Said
+        ensures { (line : List ℕ) → AnswersRead reads.TooLong line self.old self.new (said_bytes result) }
+    {
+        self.give_up();
+        Said::TooLong
+    }
+}

@@ -1,0 +1,53 @@
+//! The texts of replies.
+ghost use Rattle.std.specs.Prelude.{◌≡◌, ◌++◌, IfOk};
+ghost use Rattle.live_replies.specs.Changes.{changes, changes_text};
+ghost use Rattle.live_replies.specs.Texts.{drawn_texts, gml_text, next_text, ok_line};
+
+use crate::change::push_changes;
+use crate::line::{push_all_drawn, push_gml, push_next, push_ok};
+use std::alloc::{AllocError, Global};
+use walk_model::WrittenRoute;
+
+/// The text that tells the changes from the lines before to those after.
+pub(crate) fn changes_text(
+    alloc: Global,
+    before: &[WrittenRoute],
+    after: &[WrittenRoute],
+) -> Result<Vec<u8>, AllocError>
+    ensures { IfOk result (λ text. text.items ≡ changes_text (changes before.now after.now) ++ ok_line) }
+{
+    let mut text = Vec::new(alloc);
+    push_changes(alloc, &mut text, before, after)?;
+    push_ok(&mut text)?;
+    Ok(text)
+}
+
+/// The text that tells all lines.
+pub(crate) fn lines_text(alloc: Global, lines: &[WrittenRoute]) -> Result<Vec<u8>, AllocError>
+    ensures { IfOk result (λ text. text.items ≡ drawn_texts lines.now ++ ok_line) }
+{
+    let mut text = Vec::new(alloc);
+    push_all_drawn(alloc, &mut text, lines)?;
+    push_ok(&mut text)?;
+    Ok(text)
+}
+
+/// The text that tells a diagram.
+pub(crate) fn gml_text(alloc: Global, diagram: &[u8]) -> Result<Vec<u8>, AllocError>
+    ensures { IfOk result (λ text. text.items ≡ gml_text diagram.now ++ ok_line) }
+{
+    let mut text = Vec::new(alloc);
+    push_gml(&mut text, diagram)?;
+    push_ok(&mut text)?;
+    Ok(text)
+}
+
+/// The text that tells the number of the next connector.
+pub(crate) fn next_text(alloc: Global, number: u32) -> Result<Vec<u8>, AllocError>
+    ensures { IfOk result (λ text. text.items ≡ next_text number ++ ok_line) }
+{
+    let mut text = Vec::new(alloc);
+    push_next(&mut text, number)?;
+    push_ok(&mut text)?;
+    Ok(text)
+}
