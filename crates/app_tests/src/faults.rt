@@ -2,8 +2,9 @@
 //! of all statuses.
 
 use crate::rows;
-use crate::runs::{Row, Wanted, run_row, whole_row};
+use crate::runs::{Row, Wanted, exit_code, run_row, whole_row};
 use reroute_app::Status;
+use std::process::ExitCode;
 use std::test::Fail;
 
 /// Three nodes in a row, and an edge that leads around one of them.
@@ -188,7 +189,7 @@ fn refuses_long_scripts(rt: HostRuntime) -> Result<(), Fail> {
 }
 
 /// Each status, with its exit status.
-const CODES: [(Status, u8); 9] = [
+const CODES: [(Status, u8); 10] = [
     (Status::Done, 0),
     (Status::Refused, 1),
     (Status::Words, 2),
@@ -198,6 +199,7 @@ const CODES: [(Status, u8); 9] = [
     (Status::NoMemory, 6),
     (Status::TooLong, 7),
     (Status::BadLine, 8),
+    (Status::AuditNo, 9),
 ];
 
 #[test]
@@ -205,4 +207,57 @@ fn has_a_code_for_each_end(rt: HostRuntime) {
     for (status, code) in CODES {
         assert_eq!(rt; status.code(), code);
     }
+}
+
+/// A line that leaves its box beside the port.
+const BREACH: &[u8] = b"graph [ node [ id 1 graphics [ x 0 y 0 w 20 h 20 ] ] \
+    node [ id 2 graphics [ x 100 y 0 w 20 h 20 ] ] \
+    edge [ source 1 target 2 graphics [ Line [ point [ x 0 y 1 ] point [ x 100 y 1 ] ] ] ] ]";
+
+#[test]
+fn ends_with_the_code_of_its_status(rt: HostRuntime) -> Result<(), Fail> {
+    let alloc = rt.alloc();
+    let check = whole_row("check|d.gml", Status::Done, "");
+    let rows = [
+        (check, 0),
+        (
+            Row {
+                script: b"undo",
+                ..whole_row("route|d.gml|s.txt", Status::Refused, "")
+            },
+            1,
+        ),
+        (whole_row("check", Status::Words, ""), 2),
+        (
+            Row {
+                diagram: b"",
+                ..check
+            },
+            3,
+        ),
+        (whole_row("check|x.gml", Status::ReadFault, ""), 4),
+        (
+            Row {
+                diagram: ROUND,
+                failing_write: 1,
+                ..check
+            },
+            5,
+        ),
+        (
+            Row {
+                diagram: BREACH,
+                ..check
+            },
+            8,
+        ),
+    ];
+    for (row, code) in rows {
+        assert!(rt;
+            exit_code(&rt, alloc, &row)? == ExitCode::from(code),
+            "{}",
+            row.words
+        );
+    }
+    Ok(())
 }

@@ -2,7 +2,8 @@
 //! runs with them.
 
 use crate::rows;
-use crate::runs::{Row, route_row, run_row_gated};
+use crate::runs::{Row, route_row, run_row_gated, whole_row};
+use crate::subcommands::{PROPOSALS, PROPOSALS_OUT, ROUND};
 use par_route::Gate;
 use reroute_app::Status;
 use std::sync::atomic::{AtomicBool, AtomicU32, Ordering};
@@ -32,6 +33,15 @@ struct Holds {
     seen: AtomicBool,
 }
 
+impl Holds {
+    fn new() -> Self {
+        Holds {
+            second: AtomicBool::new(false),
+            seen: AtomicBool::new(false),
+        }
+    }
+}
+
 impl Gate for Holds {
     fn pass(&self, piece: u32) {
         if piece == 2 {
@@ -44,6 +54,23 @@ impl Gate for Holds {
                     return;
                 }
             }
+        }
+    }
+}
+
+/// Lets the opening's one piece pass, and then holds piece 1 until piece 2 has passed.
+#[derive(Drop)]
+struct HoldsLater {
+    is_open: AtomicBool,
+    pieces: Holds,
+}
+
+impl Gate for HoldsLater {
+    fn pass(&self, piece: u32) {
+        if self.is_open.load(Ordering::SeqCst) {
+            self.pieces.pass(piece);
+        } else {
+            self.is_open.store(true, Ordering::SeqCst);
         }
     }
 }
@@ -67,10 +94,7 @@ fn counts_searches(rt: HostRuntime) -> Result<(), Fail> {
 
 #[test]
 fn routes_side_by_side(rt: HostRuntime) -> Result<(), Fail> {
-    let gate = Holds {
-        second: AtomicBool::new(false),
-        seen: AtomicBool::new(false),
-    };
+    let gate = Holds::new();
     let row = Row {
         words: "route|--workers|2|d.gml|s.txt",
         ..route_row(
@@ -83,5 +107,25 @@ fn routes_side_by_side(rt: HostRuntime) -> Result<(), Fail> {
     let searched = run_row_gated(&rt, rt.alloc(), &row, Some(&gate))?;
     assert!(rt; gate.seen.load(Ordering::SeqCst));
     assert_eq!(rt; searched, 2);
+    Ok(())
+}
+
+#[test]
+fn previews_side_by_side(rt: HostRuntime) -> Result<(), Fail> {
+    let gate = HoldsLater {
+        is_open: AtomicBool::new(false),
+        pieces: Holds::new(),
+    };
+    let row = Row {
+        diagram: ROUND.as_bytes(),
+        script: PROPOSALS.as_bytes(),
+        ..whole_row(
+            "preview|--workers|2|d.gml|s.txt",
+            Status::Refused,
+            PROPOSALS_OUT,
+        )
+    };
+    run_row_gated(&rt, rt.alloc(), &row, Some(&gate))?;
+    assert!(rt; gate.pieces.seen.load(Ordering::SeqCst));
     Ok(())
 }

@@ -12,6 +12,8 @@ mod gates;
 #[cfg(test)]
 mod large;
 #[cfg(test)]
+mod limits;
+#[cfg(test)]
 mod outputs;
 #[cfg(test)]
 mod replies;
@@ -23,5 +25,7 @@ mod rows;
 mod runs;
 #[cfg(test)]
 mod seeds;
+#[cfg(test)]
+mod subcommands;
 #[cfg(test)]
 mod texts;

@@ -3,10 +3,10 @@
 use crate::texts::{lines_of, spaced};
 use host_edge::{MemFolder, MemSink, NamedFile};
 use par_route::{Gate, OpenGate};
-use reroute_app::{Status, run, run_gated};
+use reroute_app::{Status, exit_code_of, run, run_gated};
 use route_search::Tally;
 use std::alloc::{AllocError, Global};
-use std::process::Abort;
+use std::process::{Abort, ExitCode};
 use std::test::Fail;
 use std::thread::Threads;
 
@@ -168,4 +168,26 @@ pub(crate) fn run_row(
     row: &Row,
 ) -> Result<u64, Fail> {
     run_row_gated::<OpenGate>(rt, alloc, row, None)
+}
+
+fn code_in_folder(
+    rt: &(impl Threads + Sync),
+    alloc: Global,
+    row: &Row,
+    arguments: Vec<String>,
+    folder: &mut MemFolder,
+) -> Result<ExitCode, AllocError> {
+    let mut sink = sink(alloc, row)?;
+    Ok(exit_code_of(rt, alloc, Ok(arguments), folder, &mut sink))
+}
+
+/// The exit code of the program on the row.
+pub(crate) fn exit_code(
+    rt: &(impl Threads + Sync),
+    alloc: Global,
+    row: &Row,
+) -> Result<ExitCode, AllocError> {
+    let mut folder = folder(alloc, row)?;
+    let arguments = owned(alloc, row.words)?;
+    code_in_folder(rt, alloc, row, arguments, &mut folder)
 }

@@ -12,6 +12,14 @@ pub data Form : Type 0 where
   route : List ℕ → List ℕ → ℕ → Bool → Form
   -- the replay that is generated from this seed
   make : ℕ → Form
+  -- the transactions that the second file proposes for the diagram, and the number of workers
+  preview : List ℕ → List ℕ → ℕ → Form
+  -- the paths that the routes of the diagram with this name share
+  shared : List ℕ → Form
+  -- a certificate of the costs of the diagram with this name
+  prove : List ℕ → Form
+  -- the diagram and the certificate with these names
+  audit : List ℕ → List ℕ → Form
 
 -- an argument names a file if it is not empty
 abbrev pub names_file : List ℕ → Bool
@@ -71,7 +79,7 @@ with_workers s (Some value) = record s { workers = s.workers ++ value ∷ [] }
 abbrev pub with_count : Said → Option (List ℕ) → Option Said
 with_count s value = if is_some value || s.count then None else Some (record s { count = true })
 
--- with the option of this name; only `route` has the two options
+-- with the option of this name; a subcommand with options has two
 abbrev pub with_named : Bool → Said → List ℕ → Option (List ℕ) → Option Said
 with_named false s name value = None
 with_named true s name value =
@@ -100,10 +108,15 @@ abbrev pub said_after : Bool → Said → List (List ℕ) → Option Said
 said_after has_options s [] = if s.waits then None else Some s
 said_after has_options s (word ∷ words) = option_and_then (λ next. said_after has_options next words) (with_word has_options s word)
 
--- the subcommand of the arguments after `check`: one file
-abbrev pub check_form : List (List ℕ) → Option Form
-check_form (diagram ∷ []) = if names_file diagram then Some (check diagram) else None
-check_form plain = None
+-- the one file that was said, if it is one
+abbrev pub file_in : List (List ℕ) → Option (List ℕ)
+file_in (file ∷ []) = if names_file file then Some file else None
+file_in plain = None
+
+-- the two files that were said, if they are two
+abbrev pub files_in : List (List ℕ) → Option (List ℕ × List ℕ)
+files_in (first ∷ second ∷ []) = if names_file first && names_file second then Some (first, second) else None
+files_in plain = None
 
 -- the number of workers that was asked for, at most once; 1 if none was
 abbrev pub workers_said : List (List ℕ) → Option ℕ
@@ -113,23 +126,40 @@ workers_said words = None
 
 -- the subcommand of the arguments after `route`: two files
 abbrev pub route_form : List (List ℕ) → Bool → ℕ → Option Form
-route_form (diagram ∷ script ∷ []) count workers =
-    if names_file diagram && names_file script then Some (route diagram script workers count) else None
-route_form plain count workers = None
+route_form plain count workers = option_map (λ files. route files.0 files.1 workers count) (files_in plain)
+
+-- the subcommand of the arguments after `preview`: two files, and no `--count`
+unfoldable pub preview_form : List (List ℕ) → Bool → ℕ → Option Form
+preview_form plain count workers = if count then None else option_map (λ files. preview files.0 files.1 workers) (files_in plain)
 
 -- the subcommand of the argument after `make`: a seed
 abbrev pub make_form : List (List ℕ) → Option Form
 make_form (word ∷ []) = option_map make (seed_of word)
 make_form plain = None
 
+-- the file that the arguments of a subcommand without options name, if it is one
+abbrev pub file_said : List (List ℕ) → Option (List ℕ)
+file_said words = option_and_then (λ s. file_in s.plain) (said_after false nothing_said words)
+
+-- the two files that they name, if they are two
+abbrev pub files_said : List (List ℕ) → Option (List ℕ × List ℕ)
+files_said words = option_and_then (λ s. files_in s.plain) (said_after false nothing_said words)
+
+-- the subcommand of arguments with options
+abbrev pub form_with : (List (List ℕ) → Bool → ℕ → Option Form) → List (List ℕ) → Option Form
+form_with form words = option_and_then (λ s. option_and_then (form s.plain s.count) (workers_said s.workers)) (said_after true nothing_said words)
+
 -- the subcommand with this name and the arguments after it
 abbrev pub form_after : List ℕ → List (List ℕ) → Option Form
 form_after command words =
-    if bytes_eq command (codes "check") then option_and_then (λ s. check_form s.plain) (said_after false nothing_said words)
-    else (if bytes_eq command (codes "route")
-    then option_and_then (λ s. option_and_then (route_form s.plain s.count) (workers_said s.workers)) (said_after true nothing_said words)
+    if bytes_eq command (codes "check") then option_map check (file_said words)
+    else (if bytes_eq command (codes "route") then form_with route_form words
     else (if bytes_eq command (codes "make") then option_and_then (λ s. make_form s.plain) (said_after false nothing_said words)
-    else None))
+    else (if bytes_eq command (codes "preview") then form_with preview_form words
+    else (if bytes_eq command (codes "shared") then option_map shared (file_said words)
+    else (if bytes_eq command (codes "prove") then option_map prove (file_said words)
+    else (if bytes_eq command (codes "audit") then option_map (λ files. audit files.0 files.1) (files_said words)
+    else None))))))
 
 -- the subcommand that the arguments ask for, if they are valid
 abbrev pub form_of : List (List ℕ) → Option Form

@@ -19,4 +19,23 @@ pub enum Form<'a> {
     Make {
         seed: u64,
     },
+    /// The transactions that a script proposes for a diagram, asked by this number of workers.
+    Preview {
+        diagram: &'a str,
+        script: &'a str,
+        workers: u32,
+    },
+    /// The paths that the routes of a diagram share.
+    Shared {
+        diagram: &'a str,
+    },
+    /// A certificate of the costs of a diagram.
+    Prove {
+        diagram: &'a str,
+    },
+    /// An audit of a certificate of a diagram.
+    Audit {
+        diagram: &'a str,
+        certificate: &'a str,
+    },
 }

@@ -2,26 +2,60 @@
 ghost use Rattle.std.specs.Prelude.{◌≡◌, ◌&&◌, IfOk, [], drop, map, option_and_then, option_map, string_bytes, true, false};
 ghost use Rattle.std.specs.Option.{option_map_or};
 ghost use Rattle.clap.specs.Walk.{texts};
-ghost use Rattle.command_words.specs.Views.{view};
-ghost use Rattle.command_words.specs.Words.{check_form, form_of, make_form, names_file, nothing_said, route_form, said_after, workers_said};
+ghost use Rattle.command_words.specs.Views.{texts_of, view};
+ghost use Rattle.command_words.specs.Words.{file_said, files_in, files_said, form_of, form_with, audit, make_form, names_file, nothing_said, preview_form, route_form, said_after, workers_said};
 
 use crate::form::Form;
 use crate::matches::{COUNT, PLAIN, WORKERS, matches_of};
 use crate::values::{names_file, seed, worker_count};
 use std::alloc::{AllocError, Global};
 
-/// The arguments of `check`: a file.
-fn check_words<'a>(alloc: Global, words: &'a [String]) -> Result<Option<Form<'a>>, AllocError>
-    ensures { IfOk result (λ form. option_map view form ≡ option_and_then (λ said. check_form said.plain)
-        (said_after false nothing_said (drop 1 (map string_bytes words.entry.now)))) }
+/// The file that the arguments of a subcommand without options name, if it is one.
+fn one_file<'a>(
+    alloc: Global,
+    command: &'a str,
+    words: &'a [String],
+) -> Result<Option<&'a str>, AllocError>
+    ensures { IfOk result (λ file. option_map (λ f. f.now) file ≡ file_said (drop 1 (map string_bytes words.entry.now))) }
 {
-    let Some(matches) = matches_of(alloc, "check", false, words)? else {
+    let Some(matches) = matches_of(alloc, command, false, words)? else {
         return Ok(None);
     };
     match matches.get_raw(PLAIN) {
-        Some([diagram]) if names_file(diagram) => Ok(Some(Form::Check { diagram: *diagram })),
+        Some([file]) if names_file(file) => Ok(Some(*file)),
         _ => Ok(None),
     }
+}
+
+/// Whether both arguments name files.
+fn name_files(first: &str, second: &str) -> bool
+    ensures { result ≡ (names_file first.now && names_file second.now) }
+{
+    names_file(first) && names_file(second)
+}
+
+/// These files, if they are two.
+fn pair<'a>(files: Option<&[&'a str]>) -> Option<(&'a str, &'a str)>
+    ensures { option_map texts_of result ≡ files_in (option_map_or (λ v. texts v.now) files.entry []) }
+{
+    match files {
+        Some([first, second]) if name_files(first, second) => Some((*first, *second)),
+        _ => None,
+    }
+}
+
+/// The two files that the arguments of a subcommand without options name, if they are two.
+fn two_files<'a>(
+    alloc: Global,
+    command: &'a str,
+    words: &'a [String],
+) -> Result<Option<(&'a str, &'a str)>, AllocError>
+    ensures { IfOk result (λ files. option_map texts_of files ≡ files_said (drop 1 (map string_bytes words.entry.now))) }
+{
+    let Some(found) = matches_of(alloc, command, false, words)? else {
+        return Ok(None);
+    };
+    Ok(pair(found.get_raw(PLAIN)))
 }
 
 /// The number of workers that the values of `--workers` ask for.
@@ -35,33 +69,22 @@ fn workers(values: Option<&[&str]>) -> Option<u32>
     }
 }
 
-/// Whether the arguments name a diagram and a script.
-fn name_files(diagram: &str, script: &str) -> bool
-    ensures { result ≡ (names_file diagram.now && names_file script.now) }
-{
-    names_file(diagram) && names_file(script)
-}
-
 /// A `route` of these files, if there are two.
 fn route<'a>(files: Option<&[&'a str]>, count: bool, workers: u32) -> Option<Form<'a>>
     ensures { option_map view result ≡ route_form (option_map_or (λ v. texts v.now) files.entry []) count workers }
 {
-    match files {
-        Some([diagram, script]) if name_files(diagram, script) => Some(Form::Route {
-            diagram: *diagram,
-            script: *script,
-            workers,
-            count,
-        }),
-        _ => None,
-    }
+    let (diagram, script) = pair(files)?;
+    Some(Form::Route {
+        diagram,
+        script,
+        workers,
+        count,
+    })
 }
 
 /// The arguments of `route`: two files, with options.
 fn route_words<'a>(alloc: Global, words: &'a [String]) -> Result<Option<Form<'a>>, AllocError>
-    ensures { IfOk result (λ form. option_map view form
-        ≡ option_and_then (λ said. option_and_then (route_form said.plain said.count) (workers_said said.workers))
-        (said_after true nothing_said (drop 1 (map string_bytes words.entry.now)))) }
+    ensures { IfOk result (λ form. option_map view form ≡ form_with route_form (drop 1 (map string_bytes words.entry.now))) }
 {
     let Some(matches) = matches_of(alloc, "route", true, words)? else {
         return Ok(None);
@@ -71,6 +94,36 @@ fn route_words<'a>(alloc: Global, words: &'a [String]) -> Result<Option<Form<'a>
     };
     let count = matches.get_flag(COUNT);
     Ok(route(matches.get_raw(PLAIN), count, workers))
+}
+
+/// A preview with these files, if they are two, and if no numbers of searches are asked for.
+#[tactic(auto, unfolding(crate::specs::Words::preview_form))]
+fn preview<'a>(files: Option<&[&'a str]>, count: bool, workers: u32) -> Option<Form<'a>>
+    ensures { option_map view result ≡ preview_form (option_map_or (λ v. texts v.now) files.entry []) count workers }
+{
+    if count {
+        return None;
+    }
+    let (diagram, script) = pair(files)?;
+    Some(Form::Preview {
+        diagram,
+        script,
+        workers,
+    })
+}
+
+/// `preview` and two files, with `--workers`.
+fn preview_words<'a>(alloc: Global, words: &'a [String]) -> Result<Option<Form<'a>>, AllocError>
+    ensures { IfOk result (λ form. option_map view form ≡ form_with preview_form (drop 1 (map string_bytes words.entry.now))) }
+{
+    let Some(matches) = matches_of(alloc, "preview", true, words)? else {
+        return Ok(None);
+    };
+    let Some(workers) = workers(matches.get_raw(WORKERS)) else {
+        return Ok(None);
+    };
+    let count = matches.get_flag(COUNT);
+    Ok(preview(matches.get_raw(PLAIN), count, workers))
 }
 
 /// The argument of `make`: a seed.
@@ -87,9 +140,23 @@ fn make_words<'a>(alloc: Global, words: &'a [String]) -> Result<Option<Form<'a>>
     }
 }
 
-/// The subcommand that the arguments after the program's name ask for, or `None` if they are not
-/// valid. The subcommands are `check FILE`, `route FILE FILE` with `--workers N` and `--count`, and
-/// `make SEED`. The only error is out of memory.
+/// `audit` and two files.
+fn audit_words<'a>(alloc: Global, words: &'a [String]) -> Result<Option<Form<'a>>, AllocError>
+    ensures { IfOk result (λ form. option_map view form
+        ≡ option_map (λ files. audit files.0 files.1) (files_said (drop 1 (map string_bytes words.entry.now)))) }
+{
+    let Some((diagram, certificate)) = two_files(alloc, "audit", words)? else {
+        return Ok(None);
+    };
+    Ok(Some(Form::Audit {
+        diagram,
+        certificate,
+    }))
+}
+
+/// What the arguments after the program's name ask for, or `None` where they are of no form. The forms are
+/// `check FILE`, `route FILE FILE` with `--workers N` and `--count`, `make SEED`, `preview FILE FILE` with
+/// `--workers N`, `shared FILE`, `prove FILE` and `audit FILE FILE`. Its only error is out of memory.
 pub fn read_words<'a>(alloc: Global, words: &'a [String]) -> Result<Option<Form<'a>>, AllocError>
     ensures { IfOk result (λ form. option_map view form ≡ form_of (map string_bytes words.entry.now)) }
 {
@@ -97,9 +164,13 @@ pub fn read_words<'a>(alloc: Global, words: &'a [String]) -> Result<Option<Form<
         return Ok(None);
     };
     match command.as_str() {
-        "check" => check_words(alloc, words),
+        "check" => Ok(one_file(alloc, "check", words)?.map(|diagram| Form::Check { diagram })),
         "route" => route_words(alloc, words),
         "make" => make_words(alloc, words),
+        "preview" => preview_words(alloc, words),
+        "shared" => Ok(one_file(alloc, "shared", words)?.map(|diagram| Form::Shared { diagram })),
+        "prove" => Ok(one_file(alloc, "prove", words)?.map(|diagram| Form::Prove { diagram })),
+        "audit" => audit_words(alloc, words),
         _ => Ok(None),
     }
 }

@@ -6,3 +6,6 @@ pub mod Findings
 pub mod Routed
 pub mod Refusals
 pub mod Replies
+pub mod Previews
+pub mod Shared
+pub mod Audits

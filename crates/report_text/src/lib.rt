@@ -5,17 +5,23 @@
 //! `out` then has its former contents, perhaps followed by a part of the line.
 #![tactic(auto)]
 
+mod audit;
 mod fault;
 mod file;
 mod finding;
 mod number;
+mod preview;
 mod refusal;
 mod reply;
 mod routed;
+mod shared;
 
+pub use audit::{push_audit_line_line, push_audit_rule_line, push_audit_yes_line};
 pub use fault::{push_fault_line, push_gml_fault_line};
 pub use file::{push_read_fault_line, push_too_long_line, push_words_line};
 pub use finding::{EdgeFinding, Finding, push_finding_lines};
-pub use refusal::Refusal;
+pub use preview::{push_preview_lines, push_refused_preview};
+pub use refusal::{Refusal, push_refusal};
 pub use reply::{LineReply, Reply, push_end_line, push_open_line, push_reply_lines};
 pub use routed::{EdgeRouted, Routed, push_routed_lines};
+pub use shared::{push_crossings_line, push_shared_lines};

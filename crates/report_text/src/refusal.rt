@@ -19,7 +19,7 @@ pub enum Refusal {
 }
 
 /// Appends a refusal's code, its name and its value, if it has one.
-pub(crate) fn push_refusal(out: &mut Vec<u8>, why: &Refusal) -> Result<(), AllocError>
+pub fn push_refusal(out: &mut Vec<u8>, why: &Refusal) -> Result<(), AllocError>
     ensures { OnOk result (out.new.items ≡ out.old.items ++ refusal_text why.now) }
 {
     match why {
@@ -42,7 +42,7 @@ fn push_command(out: &mut Vec<u8>, fault: &SessionFault) -> Result<(), AllocErro
     }
 }
 
-fn push_edit(out: &mut Vec<u8>, fault: &SceneFault) -> Result<(), AllocError>
+pub(crate) fn push_edit(out: &mut Vec<u8>, fault: &SceneFault) -> Result<(), AllocError>
     ensures { OnOk result (out.new.items ≡ out.old.items ++ edit_text fault.now) }
 {
     match fault {

@@ -43,7 +43,7 @@ fn push_routed_line(out: &mut Vec<u8>, edge: &EdgeRouted) -> Result<(), AllocErr
     Ok(())
 }
 
-fn push_routed(out: &mut Vec<u8>, routed: &Routed) -> Result<(), AllocError>
+pub(crate) fn push_routed(out: &mut Vec<u8>, routed: &Routed) -> Result<(), AllocError>
     ensures { OnOk result (out.new.items ≡ out.old.items ++ routed_text routed.now) }
 {
     match *routed {

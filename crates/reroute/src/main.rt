@@ -4,20 +4,13 @@
 mod words;
 
 use host_edge::{DiskFolder, StdSink};
-use reroute_app::{Status, run};
-use route_search::Tally;
+use reroute_app::exit_code_of;
 use std::process::ExitCode;
 use words::all_words;
 
 fn main(rt: HostRuntime) -> ExitCode {
     let alloc = rt.alloc();
-    let status = match all_words(&rt, alloc) {
-        Ok(words) => {
-            let mut folder = DiskFolder::new(alloc, &rt);
-            let mut out = StdSink::new(&rt);
-            run(&rt, alloc, &words, &mut folder, &mut out, &mut Tally::new())
-        }
-        Err(_) => Status::NoMemory,
-    };
-    ExitCode::from(status.code())
+    let mut folder = DiskFolder::new(alloc, &rt);
+    let mut out = StdSink::new(&rt);
+    exit_code_of(&rt, alloc, all_words(&rt, alloc), &mut folder, &mut out)
 }

@@ -9,3 +9,4 @@ pub mod Scripts
 pub mod ReadScenes
 pub mod OneOutcome
 pub mod Causes
+pub mod Claims

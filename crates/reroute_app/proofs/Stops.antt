@@ -1,6 +1,6 @@
 -- Runs that stop early: what they end with, and what goes on.
-use Rattle.std.proofs.Common.{◌≡◌, ◌≢◌, inl, inr, ℕ, ◌<◌, false, Bool, List, [], ◌∷◌, ◌++◌, length, Option, Some, Result, Ok, Err, refl, sym, ap, subst, ◌∙◌, arith, append-nil, append_assoc}
-use Rattle.std.specs.Prelude.{IfOk, IfErr, IsErrAnd}
+use Rattle.std.proofs.Common.{◌≡◌, ◌≢◌, inl, inr, ℕ, ◌<◌, false, List, [], ◌∷◌, ◌++◌, length, Option, Some, None, Result, Ok, Err, refl, sym, ap, subst, ◌∙◌, arith, append-nil, append_assoc}
+use Rattle.std.specs.Prelude.{IfOk, IfErr, IsErrAnd, slice_get}
 use Rattle.std.proofs.lemmas.Option.{none-some, same_Some}
 use Rattle.std.specs.declared.alloc.AllocError.{AllocError}
 use Rattle.host_edge.specs.Folder.{ToldFiles}
@@ -20,16 +20,18 @@ use Rattle.reroute_app.specs.declared.outcome.Outcome.{Outcome as Made}
 use Rattle.reroute_app.specs.declared.outcome.Stop.{Stop}
 use Rattle.reroute_app.specs.declared.outcome.Stop.TheVariants.{Ended, Memory}
 use Rattle.reroute_app.specs.declared.status.Status.TheVariants.{Diagram}
-use Rattle.command_words.specs.Words.{Form, check, route, form_of}
+use Rattle.command_words.specs.Words.{Form, form_of}
 use Rattle.reroute_app.specs.Outcome.{Outcome, Course, Ends, unsearched}
 use Rattle.reroute_app.specs.Reads.{HasRead, ReadsFile}
 use Rattle.reroute_app.specs.Reads.ReadsFile.{fails, is_too_long, goes_on}
-use Rattle.reroute_app.specs.Diagram.{most_bytes, TakesScene, TakesTree, TakesDiagram, ReadsDiagram}
-use Rattle.reroute_app.specs.Check.{Checks}
-use Rattle.reroute_app.specs.Replay.{most_script_bytes, Replays}
-use Rattle.reroute_app.specs.Run.{IsFormOutcome, IsOutcome, files_of, AreNotesOf, ReadsFirstAsDiagram, ReadsInOrder}
+use Rattle.reroute_app.specs.Diagram.{most_bytes, HasDiagram, TakesScene, TakesTree, TakesDiagram, ReadsDiagram}
+use Rattle.reroute_app.specs.Replay.{most_script_bytes, ReadsScript}
+use Rattle.form_certificate.specs.Sizes.{too_large}
+use Rattle.diagram_read.specs.declared.fault.Part.{Part}
+use Rattle.reroute_app.specs.Certificate.{ReadsSmall, UnlessLarge}
+use Rattle.reroute_app.specs.Run.{IsFormOutcome, IsOutcome, files_of, AreNotesOf, ReadsFirstAsDiagram, ReadsInOrder, ReadsOnWith}
 use Rattle.reroute_app.proofs.Courses.{note}
-use Rattle.reroute_app.specs.View.{view, StopsAt, Comes, NotesOne, NotesTwo, answer_in, never, never_two, HasDiagram, HasCommands}
+use Rattle.reroute_app.specs.View.{view, StopsAt, Comes, NotesOne, NotesTwo, answer_in, never, never_two, never_three, HasBoth, HasSmall}
 use Rattle.reroute_app.specs.View.NotesTwo.{of_diagram, of_both}
 
 pub stops_as : (P Q : Outcome → Type 0) → ((o : Outcome) → P o → Q o) → (s : Stop) → StopsAt P s → StopsAt Q s
@@ -55,25 +57,42 @@ scene_as (Err fault) tree old new o is = is
 pub no_scene_ends : (bytes : List ℕ) (tree : Pairs) (notes : List Note) (o : Outcome) → IsDocument tree bytes → TakesScene never (scene_of tree) notes notes o → TakesDiagram never_two bytes notes notes o
 no_scene_ends bytes tree notes o document is = (Ok tree, document, scene_as (scene_of tree) tree notes notes o is)
 
+module _ (next other : List ℕ → Course) (on : (bytes : List ℕ) (old new : List Note) (o : Outcome) → next bytes old new o → other bytes old new o) where
+  -- a course that reads a file leads where another does that goes on as it does
+  pub file_as : (files : Option ToldFiles) (name : List ℕ) (limit : ℕ) (old new : List Note) (o : Outcome) → ReadsFile files name limit next old new o → ReadsFile files name limit other old new o
+  file_as files name limit old new o (fails failed is) = fails failed is
+  file_as files name limit old new o (is_too_long more is) = is_too_long more is
+  file_as files name limit old new o (goes_on bytes middle read later) = goes_on bytes middle read (on bytes middle new o later)
+
+module _ (next other : Pairs → Scene → Course) (on : (tree : Pairs) (s : Scene) (old new : List Note) (o : Outcome) → next tree s old new o → other tree s old new o) where
+  takes_as : (r : Result Scene DiagramFault) (tree : Pairs) (old new : List Note) (o : Outcome) → TakesScene (next tree) r old new o → TakesScene (other tree) r old new o
+  takes_as (Ok s) tree old new o is = on tree s old new o is
+  takes_as (Err fault) tree old new o is = is
+
+  tree_as : (r : Result Pairs GmlFault) (old new : List Note) (o : Outcome) → TakesTree next r old new o → TakesTree other r old new o
+  tree_as (Ok tree) old new o is = takes_as (scene_of tree) tree old new o is
+  tree_as (Err fault) old new o is = is
+
+  -- and so does one that reads a diagram
+  pub diagram_as : (files : Option ToldFiles) (name : List ℕ) (old new : List Note) (o : Outcome) → ReadsDiagram files name next old new o → ReadsDiagram files name other old new o
+  diagram_as files name =
+      file_as (TakesDiagram next) (TakesDiagram other) (λ bytes old new o is. (is.0, is.1, tree_as is.0 old new o is.2)) files name most_bytes
+
 -- a file that is not read is the end, whatever would go on
 pub file_ends : (files : Option ToldFiles) (name : List ℕ) (limit : ℕ) (next : List ℕ → Course) (old new : List Note) (o : Outcome) → ReadsFile files name limit never old new o → ReadsFile files name limit next old new o
-file_ends files name limit next old new o (fails failed is) = fails failed is
-file_ends files name limit next old new o (is_too_long more is) = is_too_long more is
-file_ends files name limit next old new o (goes_on bytes middle read later) = absurd later
-
-takes_as : (next : Pairs → Scene → Course) (r : Result Scene DiagramFault) (tree : Pairs) (old new : List Note) (o : Outcome) → TakesScene (never_two tree) r old new o → TakesScene (next tree) r old new o
-takes_as next (Ok s) tree old new o is = absurd is
-takes_as next (Err fault) tree old new o is = is
-
-bytes_end : (next : Pairs → Scene → Course) (bytes : List ℕ) (old new : List Note) (o : Outcome) (r : Result Pairs GmlFault) → ParsesAs bytes r → TakesTree never_two r old new o → TakesDiagram next bytes old new o
-bytes_end next bytes old new o (Ok tree) reads is = (Ok tree, reads, takes_as next (scene_of tree) tree old new o is)
-bytes_end next bytes old new o (Err fault) reads is = (Err fault, reads, is)
+file_ends files name limit next = file_as never next (λ bytes old new o is. absurd is) files name limit
 
 -- a diagram that is not read is the end, whatever would go on
 pub diagram_ends : (files : Option ToldFiles) (name : List ℕ) (next : Pairs → Scene → Course) (old new : List Note) (o : Outcome) → ReadsDiagram files name never_two old new o → ReadsDiagram files name next old new o
-diagram_ends files name next old new o (fails failed is) = fails failed is
-diagram_ends files name next old new o (is_too_long more is) = is_too_long more is
-diagram_ends files name next old new o (goes_on bytes middle read later) = goes_on bytes middle read (bytes_end next bytes middle new o later.0 later.1 later.2)
+diagram_ends files name next = diagram_as never_two next (λ tree s old new o is. absurd is) files name
+
+-- where diagram and script are not both read, that is the end, whatever would go on
+pub script_ends : (files : Option ToldFiles) (diagram script : List ℕ) (next : Pairs → Scene → List (ℕ × Command) → Course) (old new : List Note) (o : Outcome)
+    → ReadsScript files diagram script never_three old new o → ReadsScript files diagram script next old new o
+script_ends files diagram script next =
+    diagram_as (λ tree s. ReadsFile files script most_script_bytes (λ bytes. never_three tree s (commands bytes))) (λ tree s. ReadsFile files script most_script_bytes (λ bytes. next tree s (commands bytes)))
+    (λ tree s. file_as (λ bytes. never_three tree s (commands bytes)) (λ bytes. next tree s (commands bytes)) (λ bytes old new o is. absurd is) files script most_script_bytes)
+    files diagram
 
 -- a diagram that is read goes on
 pub diagram_goes_on : (files : Option ToldFiles) (name : List ℕ) (next : Pairs → Scene → Course) (old middle new : List Note) (o : Outcome) (tree : Pairs) (scene : Scene)
@@ -87,33 +106,31 @@ pub comes_as : (P Q : Outcome → Type 0) → ((o : Outcome) → P o → Q o) �
 comes_as P Q weaker (Ok made) is = weaker (view made) is
 comes_as P Q weaker (Err s) is = stops_as P Q weaker s is
 
--- the result of a check of a diagram
-pub checked : (files : Option ToldFiles) (name : List ℕ) (old new : List Note) (tree : Pairs) (scene : Scene) (r : Result Made Stop) → HasDiagram files name old new tree scene → Comes (Checks tree scene) r
-    → Comes (IsFormOutcome (Some (check name)) files old new) r
-checked files name old new tree scene r has is =
-    comes_as (Checks tree scene) (IsFormOutcome (Some (check name)) files old new)
-    (λ o said. diagram_goes_on files name (λ tree scene. Ends (Checks tree scene)) old new new o tree scene has (refl, said)) r is
+-- the result at the end
+pub end_comes : (P : Outcome → Type 0) (notes : List Note) (r : Result Made Stop) → Comes P r → Comes (Ends P notes notes) r
+end_comes P notes r is = comes_as P (Ends P notes notes) (λ o said. (refl, said)) r is
 
--- a diagram and a script, read one after the other
-module _ (files : Option ToldFiles) (diagram script : List ℕ) (workers : ℕ) (count : Bool) (old middle new : List Note) (tree : Pairs) (scene : Scene) (has : HasDiagram files diagram old middle tree scene) where
-  abbrev Goes : Pairs → Scene → Course
-  Goes tree s = ReadsFile files script most_script_bytes (λ bytes. Ends (Replays tree s (commands bytes) count))
+-- the result of a diagram that is read
+pub diagram_comes : (files : Option ToldFiles) (name : List ℕ) (next : Pairs → Scene → Course) (old middle new : List Note) (tree : Pairs) (scene : Scene) (r : Result Made Stop)
+    → HasDiagram files name old middle tree scene → Comes (next tree scene middle new) r → Comes (ReadsDiagram files name next old new) r
+diagram_comes files name next old middle new tree scene r has is =
+    comes_as (next tree scene middle new) (ReadsDiagram files name next old new) (λ o later. diagram_goes_on files name next old middle new o tree scene has later) r is
 
-  goes : (o : Outcome) → Goes tree scene middle new o → IsFormOutcome (Some (route diagram script workers count)) files old new o
-  goes o later = diagram_goes_on files diagram Goes old middle new o tree scene has later
+-- the result of a second file that is read
+pub file_comes : (files : Option ToldFiles) (name : List ℕ) (limit : ℕ) (next : List ℕ → Course) (old middle new : List Note) (bytes : List ℕ) (r : Result Made Stop)
+    → HasRead files name limit old middle bytes → Comes (next bytes middle new) r → Comes (ReadsFile files name limit next old new) r
+file_comes files name limit next old middle new bytes r read is =
+    comes_as (next bytes middle new) (ReadsFile files name limit next old new) (λ o later. goes_on bytes middle read later) r is
 
-  -- the result of a replay of the script's commands
-  pub replayed : (list : List (ℕ × Command)) (r : Result Made Stop) → HasCommands files script middle new list → Comes (Replays tree scene list count) r
-      → Comes (IsFormOutcome (Some (route diagram script workers count)) files old new) r
-  replayed list r read is =
-      comes_as (Replays tree scene list count) (IsFormOutcome (Some (route diagram script workers count)) files old new)
-      (λ o said. goes o (goes_on read.bytes new read.read (refl, subst (λ (cs : List (ℕ × Command)). Replays tree scene cs count o) read.are_commands said))) r is
-
-  -- and the result for a script that is not read
-  pub script_stops : (s : Stop) → StopsAt (ReadsFile files script most_script_bytes never middle new) s → StopsAt (IsFormOutcome (Some (route diagram script workers count)) files old new) s
-  script_stops s is =
-      stops_as (ReadsFile files script most_script_bytes never middle new) (IsFormOutcome (Some (route diagram script workers count)) files old new)
-      (λ o stopped. goes o (file_ends files script most_script_bytes (λ bytes. Ends (Replays tree scene (commands bytes) count)) middle new o stopped)) s is
+-- the result of a diagram and a script that are read
+pub script_comes : (files : Option ToldFiles) (diagram script : List ℕ) (P : Pairs → Scene → List (ℕ × Command) → Outcome → Type 0) (old new : List Note) (tree : Pairs) (scene : Scene)
+    (list : List (ℕ × Command)) (r : Result Made Stop) → HasBoth files diagram script old new tree scene list → Comes (P tree scene list) r
+    → Comes (ReadsScript files diagram script (λ tree s commands. Ends (P tree s commands)) old new) r
+script_comes files diagram script P old new tree scene list r has is =
+    let read = has.has_commands in
+    diagram_comes files diagram (λ tree s. ReadsFile files script most_script_bytes (λ bytes. Ends (P tree s (commands bytes)))) old has.middle new tree scene r has.has_diagram
+    (file_comes files script most_script_bytes (λ bytes. Ends (P tree scene (commands bytes))) has.middle new new read.bytes r read.read
+    (end_comes (P tree scene (commands read.bytes)) new r (subst (λ (cs : List (ℕ × Command)). Comes (P tree scene cs) r) read.are_commands is)))
 
 -- a stop that is passed
 pub stop_on : {T : Type 0} (P : Outcome → Type 0) (s : Stop) (r : Result T Stop) → StopsAt P s → IsErrAnd r (λ e. e ≡ s) → IfErr r (StopsAt P)
@@ -124,6 +141,82 @@ stop_on P s (Err e) is handed = subst (StopsAt P) (sym handed) is
 pub comes_on : (P : Outcome → Type 0) (s : Stop) (r : Result Made Stop) → StopsAt P s → IsErrAnd r (λ e. e ≡ s) → Comes P r
 comes_on P s (Ok x) is handed = absurd handed
 comes_on P s (Err e) is handed = subst (StopsAt P) (sym handed) is
+
+-- the result of a stopped read of a script, after a diagram
+pub script_unread : (files : Option ToldFiles) (diagram script : List ℕ) (old middle new : List Note) (tree : Pairs) (scene : Scene) → HasDiagram files diagram old middle tree scene → (s : Stop)
+    → StopsAt (ReadsFile files script most_script_bytes never middle new) s → StopsAt (ReadsScript files diagram script never_three old new) s
+script_unread files diagram script old middle new tree scene has s is =
+    stops_as (ReadsFile files script most_script_bytes never middle new) (ReadsScript files diagram script never_three old new)
+    (λ o stopped.
+    diagram_goes_on files diagram (λ tree s. ReadsFile files script most_script_bytes (λ bytes. never_three tree s (commands bytes))) old middle new o tree scene has
+    (file_ends files script most_script_bytes (λ bytes. never_three tree scene (commands bytes)) middle new o stopped)) s is
+
+-- ---- scenes that are small enough to have a certificate
+
+large_as : (part : Option Part) (next other : Course) (old new : List Note) (o : Outcome) → (next old new o → other old new o) → UnlessLarge part next old new o → UnlessLarge part other old new o
+large_as None next other old new o on is = on is
+large_as (Some part) next other old new o on is = is
+
+-- what goes on with a small scene goes on
+pub small_goes_on : (files : Option ToldFiles) (name : List ℕ) (next : Scene → Course) (old middle new : List Note) (o : Outcome) (tree : Pairs) (scene : Scene)
+    → HasSmall files name old middle tree scene → next scene middle new o → ReadsSmall files name next old new o
+small_goes_on files name next old middle new o tree scene is later =
+    diagram_goes_on files name (λ tree s. UnlessLarge (too_large s) (next s)) old middle new o tree scene is.has
+    (subst (λ (part : Option Part). UnlessLarge part (next scene) middle new o) (sym is.small) later)
+
+-- a diagram that is not read, or too large, is the end, whatever would go on
+pub small_ends : (files : Option ToldFiles) (name : List ℕ) (next : Scene → Course) (old new : List Note) (o : Outcome) → ReadsSmall files name never old new o → ReadsSmall files name next old new o
+small_ends files name next =
+    diagram_as (λ tree s. UnlessLarge (too_large s) (never s)) (λ tree s. UnlessLarge (too_large s) (next s))
+    (λ tree s old new o is. large_as (too_large s) (never s) (next s) old new o (λ gone. absurd gone) is) files name
+
+-- the result of a small scene that is read
+pub small_comes : (files : Option ToldFiles) (name : List ℕ) (next : Scene → Course) (old middle new : List Note) (tree : Pairs) (scene : Scene) (r : Result Made Stop)
+    → HasSmall files name old middle tree scene → Comes (next scene middle new) r → Comes (ReadsSmall files name next old new) r
+small_comes files name next old middle new tree scene r is comes =
+    comes_as (next scene middle new) (ReadsSmall files name next old new) (λ o later. small_goes_on files name next old middle new o tree scene is later) r comes
+
+-- where the diagram is not read, or too large, the run stops
+pub small_stops : (files : Option ToldFiles) (name : List ℕ) (next : Scene → Course) (old new : List Note) (s : Stop) (r : Result Made Stop)
+    → StopsAt (ReadsSmall files name never old new) s → IsErrAnd r (λ e. e ≡ s) → Comes (ReadsSmall files name next old new) r
+small_stops files name next old new s r stopped handed =
+    comes_on (ReadsSmall files name next old new) s r
+    (stops_as (ReadsSmall files name never old new) (ReadsSmall files name next old new) (small_ends files name next old new) s stopped) handed
+
+-- and so it does where the second file is not read
+pub second_stops : (files : Option ToldFiles) (name second : List ℕ) (limit : ℕ) (next : Scene → List ℕ → Course) (old middle new : List Note) (tree : Pairs) (scene : Scene) (s : Stop) (r : Result Made Stop)
+    → HasSmall files name old middle tree scene → StopsAt (ReadsFile files second limit never middle new) s → IsErrAnd r (λ e. e ≡ s)
+    → Comes (ReadsSmall files name (λ s. ReadsFile files second limit (next s)) old new) r
+second_stops files name second limit next old middle new tree scene s r is stopped handed =
+    comes_on (ReadsSmall files name (λ s. ReadsFile files second limit (next s)) old new) s r
+    (stops_as (ReadsFile files second limit never middle new) (ReadsSmall files name (λ s. ReadsFile files second limit (next s)) old new)
+    (λ o end. small_goes_on files name (λ s. ReadsFile files second limit (next s)) old middle new o tree scene is (file_ends files second limit (next scene) middle new o end)) s stopped) handed
+
+-- the result of a scene that is too large
+pub large_stops : (files : Option ToldFiles) (name : List ℕ) (old new : List Note) (tree : Pairs) (scene : Scene) → HasDiagram files name old new tree scene → (s : Stop)
+    → StopsAt (UnlessLarge (too_large scene) (never scene) new new) s → StopsAt (ReadsSmall files name never old new) s
+large_stops files name old new tree scene has s is =
+    stops_as (UnlessLarge (too_large scene) (never scene) new new) (ReadsSmall files name never old new)
+    (λ o large. diagram_goes_on files name (λ tree s. UnlessLarge (too_large s) (never s)) old new new o tree scene has large) s is
+
+-- and the result of a diagram that is not read
+pub unread_stops : (files : Option ToldFiles) (name : List ℕ) (old new : List Note) (s : Stop) → StopsAt (ReadsDiagram files name never_two old new) s → StopsAt (ReadsSmall files name never old new) s
+unread_stops files name old new s is =
+    stops_as (ReadsDiagram files name never_two old new) (ReadsSmall files name never old new) (diagram_ends files name (λ tree s. UnlessLarge (too_large s) (never s)) old new) s is
+
+-- where the diagram is not read, the run stops
+pub diagram_stops : (files : Option ToldFiles) (name : List ℕ) (next : Pairs → Scene → Course) (old new : List Note) (s : Stop) (r : Result Made Stop)
+    → StopsAt (ReadsDiagram files name never_two old new) s → IsErrAnd r (λ e. e ≡ s) → Comes (ReadsDiagram files name next old new) r
+diagram_stops files name next old new s r stopped handed =
+    comes_on (ReadsDiagram files name next old new) s r
+    (stops_as (ReadsDiagram files name never_two old new) (ReadsDiagram files name next old new) (diagram_ends files name next old new) s stopped) handed
+
+-- and so it does where diagram and script are not both read
+pub script_stops : (files : Option ToldFiles) (diagram script : List ℕ) (next : Pairs → Scene → List (ℕ × Command) → Course) (old new : List Note) (s : Stop) (r : Result Made Stop)
+    → StopsAt (ReadsScript files diagram script never_three old new) s → IsErrAnd r (λ e. e ≡ s) → Comes (ReadsScript files diagram script next old new) r
+script_stops files diagram script next old new s r stopped handed =
+    comes_on (ReadsScript files diagram script next old new) s r
+    (stops_as (ReadsScript files diagram script never_three old new) (ReadsScript files diagram script next old new) (script_ends files diagram script next old new) s stopped) handed
 
 -- the result of a stopped read of a file, where a diagram was asked for
 pub file_stops : (files : Option ToldFiles) (name : List ℕ) (old new : List Note) (s : Stop) → StopsAt (ReadsFile files name most_bytes never old new) s → StopsAt (ReadsDiagram files name never_two old new) s
@@ -153,12 +246,12 @@ none_in_order words files old = record { gained = []; grown = sym (append-nil ol
 
 module _ (words : List (List ℕ)) (form : Option Form) (files : Option ToldFiles) (old new : List Note) (same : form ≡ form_of words) where
   -- notes of the files that the subcommand names are of those that the arguments name
-  in_order : (gained : List Note) → new ≡ old ++ gained → AreNotesOf (files_of form) gained → (1 < length gained → ReadsFirstAsDiagram files (files_of form) old gained) → ReadsInOrder words files old new
+  in_order : (gained : List Note) → new ≡ old ++ gained → AreNotesOf (files_of form) gained → (1 < length gained → ReadsFirstAsDiagram files form old gained) → ReadsInOrder words files old new
   in_order gained grown are second = record {
     gained = gained;
     grown = grown;
     in_order = subst (λ (f : Option Form). AreNotesOf (files_of f) gained) same are;
-    second = λ two. subst (λ (f : Option Form). ReadsFirstAsDiagram files (files_of f) old gained) same (second two);
+    second = λ two. subst (λ (f : Option Form). ReadsFirstAsDiagram files f old gained) same (second two);
   }
 
   -- one note of the diagram alone
@@ -168,32 +261,33 @@ module _ (words : List (List ℕ)) (form : Option Form) (files : Option ToldFile
       let n = note name most_bytes one.0 one.1 in
       in_order (n ∷ []) one.2 (first n refl refl) (λ two. absurd (omega (arith, two)))
 
--- the one note that was added, if one was, is of the file that the arguments name
-pub one_in_order : (words : List (List ℕ)) (files : Option ToldFiles) (name : List ℕ) (old new : List Note) → Some (check name) ≡ form_of words → NotesOne name most_bytes old new → ReadsInOrder words files old new
-one_in_order words files name old new same notes = alone words (Some (check name)) files old new same name (λ n named limited. (named, limited, tt)) notes
+  -- the one note that was added, if one was, is of the file that the subcommand names
+  pub one_in_order : (name : List ℕ) (rest : List (List ℕ × ℕ)) → files_of form ≡ (name, most_bytes) ∷ rest → NotesOne name most_bytes old new → ReadsInOrder words files old new
+  one_in_order name rest is notes =
+      alone name (λ n named limited. subst (λ (fs : List (List ℕ × ℕ)). AreNotesOf fs (n ∷ [])) (sym is) (named, limited, tt)) notes
 
--- the notes that were added, if there were any, are of the diagram, and of the script after a diagram
-pub two_in_order : (words : List (List ℕ)) (files : Option ToldFiles) (diagram script : List ℕ) (workers : ℕ) (count : Bool) (old new : List Note) → Some (route diagram script workers count) ≡ form_of words
-    → NotesTwo files diagram script old new → ReadsInOrder words files old new
-two_in_order words files diagram script workers count old new same (of_diagram notes) =
-    alone words (Some (route diagram script workers count)) files old new same diagram (λ n named limited. (named, limited, tt)) notes
-two_in_order words files diagram script workers count old new same (of_both middle tree scene has (inl none)) =
-    alone words (Some (route diagram script workers count)) files old new same diagram (λ n named limited. (named, limited, tt)) (inr (length has.bytes, false, none ∙ has.read.noted))
-two_in_order words files diagram script workers count old new same (of_both middle tree scene has (inr one)) =
-    let first = note diagram most_bytes (length has.bytes) false in
-    let second = note script most_script_bytes one.0 one.1 in
-    in_order words (Some (route diagram script workers count)) files old new same (first ∷ second ∷ [])
-    (one.2 ∙ ap (λ (ns : List Note). ns ++ second ∷ []) has.read.noted ∙ append_assoc old (first ∷ []) (second ∷ []))
-    (refl, refl, (refl, refl, tt))
-    (λ two. record {
-      first = (diagram, most_bytes);
-      is_first = refl;
-      bytes = has.bytes;
-      middle = middle;
-      read = has.read;
-      rest = second ∷ [];
-      behind = sym (ap (λ (ns : List Note). ns ++ second ∷ []) has.read.noted ∙ append_assoc old (first ∷ []) (second ∷ []));
-      tree = tree;
-      scene = scene;
-      diagram = has.diagram;
-    })
+  -- the notes that were added, if there were any, are of the diagram, and of the second file after a diagram that meets the condition
+  pub two_in_order : (diagram second : List ℕ) (limit : ℕ) (Fits : Scene → Type 0) → files_of form ≡ (diagram, most_bytes) ∷ (second, limit) ∷ []
+      → ((s : Scene) → Fits s → ReadsOnWith form s) → NotesTwo files diagram second limit Fits old new → ReadsInOrder words files old new
+  two_in_order diagram second limit Fits is on (of_diagram notes) = one_in_order diagram ((second, limit) ∷ []) is notes
+  two_in_order diagram second limit Fits is on (of_both middle tree scene has fits (inl none)) =
+      one_in_order diagram ((second, limit) ∷ []) is (inr (length has.bytes, false, none ∙ has.read.noted))
+  two_in_order diagram second limit Fits is on (of_both middle tree scene has fits (inr one)) =
+      let first = note diagram most_bytes (length has.bytes) false in
+      let last = note second limit one.0 one.1 in
+      in_order (first ∷ last ∷ [])
+      (one.2 ∙ ap (λ (ns : List Note). ns ++ last ∷ []) has.read.noted ∙ append_assoc old (first ∷ []) (last ∷ []))
+      (subst (λ (fs : List (List ℕ × ℕ)). AreNotesOf fs (first ∷ last ∷ [])) (sym is) (refl, refl, (refl, refl, tt)))
+      (λ two. record {
+        first = (diagram, most_bytes);
+        is_first = ap (λ (fs : List (List ℕ × ℕ)). slice_get fs 0) is;
+        bytes = has.bytes;
+        middle = middle;
+        read = has.read;
+        rest = last ∷ [];
+        behind = sym (ap (λ (ns : List Note). ns ++ last ∷ []) has.read.noted ∙ append_assoc old (first ∷ []) (last ∷ []));
+        tree = tree;
+        scene = scene;
+        diagram = has.diagram;
+        reads_on = on scene fits;
+      })

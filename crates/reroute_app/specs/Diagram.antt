@@ -10,7 +10,8 @@ use Rattle.diagram_read.specs.Scene.{scene_of}
 use Rattle.report_text.specs.Faults.{fault_line, gml_fault_line}
 use Rattle.reroute_app.specs.declared.status.Status.TheVariants.{Diagram}
 use Rattle.reroute_app.specs.Outcome.{Course, EndsWith, unsearched}
-use Rattle.reroute_app.specs.Reads.{ReadsFile}
+use Rattle.host_edge.specs.Note.{Note}
+use Rattle.reroute_app.specs.Reads.{HasRead, ReadsFile}
 
 -- the greatest number of bytes of a diagram
 abbrev pub most_bytes : ℕ
@@ -20,6 +21,12 @@ most_bytes = 16777216
 pub record IsDiagram (bytes : List ℕ) (tree : Pairs) (scene : Scene) : Type 0 where
   pub document : IsDocument tree bytes
   pub is_scene : scene_of tree ≡ Ok scene
+
+-- the file was read, and is the diagram of this tree and this scene
+pub record HasDiagram (files : Option ToldFiles) (name : List ℕ) (old new : List Note) (tree : Pairs) (scene : Scene) : Type 0 where
+  pub bytes : List ℕ
+  pub read : HasRead files name most_bytes old new bytes
+  pub diagram : IsDiagram bytes tree scene
 
 -- a tree has a scene, with which the course continues, or a fault
 abbrev pub TakesScene : (Scene → Course) → Result Scene DiagramFault → Course

@@ -6,6 +6,10 @@ pub mod Diagram
 pub mod Check
 pub mod Replay
 pub mod Make
+pub mod Preview
+pub mod Shared
+pub mod Certificate
 pub mod Run
 pub mod Causes
+pub mod Exit
 pub mod View

@@ -1,5 +1,5 @@
 -- Outcomes, and the courses that lead to them.
-use Rattle.std.specs.Prelude.{◌≡◌, ℕ, List, Option, Some}
+use Rattle.std.specs.Prelude.{◌≡◌, ℕ, List, Option, Some, None}
 use Rattle.host_edge.specs.Note.{Note}
 use Rattle.reroute_app.specs.declared.status.Status.{Status}
 
@@ -12,6 +12,10 @@ pub record Outcome : Type 0 where
 -- an outcome without a search
 abbrev pub unsearched : Status → List ℕ → Outcome
 unsearched status text = record { status = status; text = text; searched = Some 0 }
+
+-- an outcome of whose searches nothing is said
+abbrev pub uncounted : Status → List ℕ → Outcome
+uncounted status text = record { status = status; text = text; searched = None }
 
 -- a course relates the notes before it and those after it to an outcome
 abbrev pub Course : Type 1

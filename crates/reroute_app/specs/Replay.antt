@@ -1,18 +1,27 @@
 -- The outcome of a replay of a script on a diagram.
-use Rattle.std.specs.Prelude.{◌≡◌, ℕ, Bool, true, false, List, Some}
+use Rattle.std.specs.Prelude.{◌≡◌, ℕ, Bool, true, false, List, Option, Some}
+use Rattle.host_edge.specs.Folder.{ToldFiles}
 use Rattle.gml_text.specs.Tree.{Pairs}
 use Rattle.scene_model.specs.declared.edit.Command.{Command}
 use Rattle.scene_model.specs.Scene.{Scene}
+use Rattle.edit_script.specs.Script.{commands as commands_of}
 use Rattle.form_route.specs.Routes.{Routes}
 use Rattle.reroute_app.specs.declared.status.Status.{Status}
 use Rattle.reroute_app.specs.declared.status.Status.TheVariants.{Done, Refused}
-use Rattle.reroute_app.specs.Outcome.{Outcome}
+use Rattle.reroute_app.specs.Outcome.{Outcome, Course}
+use Rattle.reroute_app.specs.Reads.{ReadsFile}
+use Rattle.reroute_app.specs.Diagram.{ReadsDiagram}
 
 -- the greatest number of bytes of a script
 abbrev pub most_script_bytes : ℕ
 most_script_bytes = 4194304
 
--- the status of a replay in which something was refused, or nothing was
+-- a diagram is read and then a script, and the course goes on with the tree, the scene and the commands
+abbrev pub ReadsScript : Option ToldFiles → List ℕ → List ℕ → (Pairs → Scene → List (ℕ × Command) → Course) → Course
+ReadsScript files diagram script next =
+    ReadsDiagram files diagram (λ tree s. ReadsFile files script most_script_bytes (λ bytes. next tree s (commands_of bytes)))
+
+-- how a script ends in which something was refused, or nothing was
 abbrev pub replay_status : Bool → Status
 replay_status true = Refused
 replay_status false = Done

@@ -9,23 +9,30 @@ use Rattle.scene_model.specs.Scene.{Scene}
 use Rattle.report_text.specs.Files.{words_line}
 use Rattle.reroute_app.specs.declared.status.Status.{Status}
 use Rattle.reroute_app.specs.declared.status.Status.TheVariants.{Words}
-use Rattle.command_words.specs.Words.{Form, check, route, make, form_of}
-use Rattle.edit_script.specs.Script.{commands}
+use Rattle.command_words.specs.Words.{Form, check, route, make, preview, shared, prove, audit, form_of}
 use Rattle.line_arena.specs.Count.{counted_by}
 use Rattle.reroute_app.specs.Outcome.{Outcome, Course, Ends, EndsWith, unsearched}
 use Rattle.reroute_app.specs.Reads.{HasRead, ReadsFile}
 use Rattle.reroute_app.specs.Diagram.{most_bytes, IsDiagram, ReadsDiagram}
 use Rattle.reroute_app.specs.Check.{Checks}
-use Rattle.reroute_app.specs.Replay.{most_script_bytes, Replays}
+use Rattle.reroute_app.specs.Replay.{most_script_bytes, ReadsScript, Replays}
 use Rattle.reroute_app.specs.Make.{Summarizes}
+use Rattle.reroute_app.specs.Preview.{Previews}
+use Rattle.reroute_app.specs.Shared.{ListsPaths}
+use Rattle.form_certificate.specs.Sizes.{too_large}
+use Rattle.reroute_app.specs.Certificate.{most_certificate_bytes, AuditsCertificate, ReadsSmall, WritesCertificate}
 
 -- the course of a subcommand, whether the files are exposed or not
 abbrev pub IsFormOutcome : Option Form → Option ToldFiles → Course
 IsFormOutcome None files = EndsWith (unsearched Words words_line)
 IsFormOutcome (Some (check diagram)) files = ReadsDiagram files diagram (λ tree s. Ends (Checks tree s))
-IsFormOutcome (Some (route diagram script workers count)) files =
-    ReadsDiagram files diagram (λ tree s. ReadsFile files script most_script_bytes (λ bytes. Ends (Replays tree s (commands bytes) count)))
+IsFormOutcome (Some (route diagram script workers count)) files = ReadsScript files diagram script (λ tree s commands. Ends (Replays tree s commands count))
 IsFormOutcome (Some (make seed)) files = Ends (Summarizes seed)
+IsFormOutcome (Some (preview diagram script workers)) files = ReadsScript files diagram script (λ tree s commands. Ends (Previews s commands))
+IsFormOutcome (Some (shared diagram)) files = ReadsDiagram files diagram (λ tree s. Ends (ListsPaths s))
+IsFormOutcome (Some (prove diagram)) files = ReadsSmall files diagram (λ s. Ends (WritesCertificate s))
+IsFormOutcome (Some (audit diagram certificate)) files =
+    ReadsSmall files diagram (λ s. ReadsFile files certificate most_certificate_bytes (λ bytes. Ends (AuditsCertificate s bytes)))
 
 -- the outcome of the arguments, of the files if they are exposed, and of the reads in the notes
 abbrev pub IsOutcome : List (List ℕ) → Option ToldFiles → Course
@@ -54,6 +61,10 @@ files_of None = []
 files_of (Some (check diagram)) = (diagram, most_bytes) ∷ []
 files_of (Some (route diagram script workers count)) = (diagram, most_bytes) ∷ (script, most_script_bytes) ∷ []
 files_of (Some (make seed)) = []
+files_of (Some (preview diagram script workers)) = (diagram, most_bytes) ∷ (script, most_script_bytes) ∷ []
+files_of (Some (shared diagram)) = (diagram, most_bytes) ∷ []
+files_of (Some (prove diagram)) = (diagram, most_bytes) ∷ []
+files_of (Some (audit diagram certificate)) = (diagram, most_bytes) ∷ (certificate, most_certificate_bytes) ∷ []
 
 -- the notes are of the first of these files, in order
 abbrev pub AreNotesOf : List (List ℕ × ℕ) → List Note → Type 0
@@ -61,10 +72,15 @@ AreNotesOf files [] = Unit {0}
 AreNotesOf [] (n ∷ ns) = ⊥
 AreNotesOf (f ∷ fs) (n ∷ ns) = (n.name ≡ f.0) × (n.limit ≡ f.1) × AreNotesOf fs ns
 
--- the first of these notes is of the first of the files, which is a diagram
-pub record ReadsFirstAsDiagram (files : Option ToldFiles) (named : List (List ℕ × ℕ)) (old gained : List Note) : Type 0 where
+-- the subcommand reads on after a diagram of this scene: an audit does where the scene is small enough
+abbrev pub ReadsOnWith : Option Form → Scene → Type 0
+ReadsOnWith (Some (audit diagram certificate)) s = too_large s ≡ None
+ReadsOnWith other s = Unit {0}
+
+-- the first of these notes is of the first file that the subcommand names, which is a diagram after which it reads on
+pub record ReadsFirstAsDiagram (files : Option ToldFiles) (form : Option Form) (old gained : List Note) : Type 0 where
   pub first : List ℕ × ℕ
-  pub is_first : slice_get named 0 ≡ Some first
+  pub is_first : slice_get (files_of form) 0 ≡ Some first
   pub bytes : List ℕ
   pub middle : List Note
   pub read : HasRead files first.0 first.1 old middle bytes
@@ -73,13 +89,14 @@ pub record ReadsFirstAsDiagram (files : Option ToldFiles) (named : List (List �
   pub tree : Pairs
   pub scene : Scene
   pub diagram : IsDiagram bytes tree scene
+  pub reads_on : ReadsOnWith form scene
 
 -- the files that were read are the first of those that the arguments name, each once and with its limit; a second one only after a valid diagram
 pub record ReadsInOrder (words : List (List ℕ)) (files : Option ToldFiles) (old new : List Note) : Type 0 where
   pub gained : List Note
   pub grown : new ≡ old ++ gained
   pub in_order : AreNotesOf (files_of (form_of words)) gained
-  pub second : 1 < length gained → ReadsFirstAsDiagram files (files_of (form_of words)) old gained
+  pub second : 1 < length gained → ReadsFirstAsDiagram files (form_of words) old gained
 
 -- the count rose by the searches of the outcome, if their number is defined
 pub record Tallies (words : List (List ℕ)) (files : Option ToldFiles) (old new : List Note) (before after : ℕ) : Type 0 where

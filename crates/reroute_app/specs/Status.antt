@@ -1,7 +1,7 @@
 -- The exit status for each status of a run.
 use Rattle.std.specs.Prelude.{◌≢◌, ℕ}
 use Rattle.reroute_app.specs.declared.status.Status.{Status}
-use Rattle.reroute_app.specs.declared.status.Status.TheVariants.{Done, Refused, Words, Diagram, ReadFault, WriteFault, NoMemory, TooLong, BadLine}
+use Rattle.reroute_app.specs.declared.status.Status.TheVariants.{Done, Refused, Words, Diagram, ReadFault, WriteFault, NoMemory, TooLong, BadLine, AuditNo}
 
 -- the exit status of the program
 abbrev pub code_of : Status → ℕ
@@ -14,6 +14,7 @@ code_of WriteFault = 5
 code_of NoMemory = 6
 code_of TooLong = 7
 code_of BadLine = 8
+code_of AuditNo = 9
 
 -- neither memory nor the output failed
 abbrev pub IsOutputWritten : Status → Type 0

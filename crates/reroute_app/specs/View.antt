@@ -11,14 +11,15 @@ use Rattle.diagram_read.specs.declared.fault.DiagramFault.TheVariants as faults
 use Rattle.reroute_app.specs.declared.outcome.Outcome.{Outcome as Made}
 use Rattle.reroute_app.specs.declared.outcome.Stop.{Stop}
 use Rattle.reroute_app.specs.declared.outcome.Stop.TheVariants.{Ended, Memory}
+use Rattle.form_certificate.specs.Sizes.{too_large}
 use Rattle.reroute_app.specs.Outcome.{Outcome, Course}
 use Rattle.reroute_app.specs.Reads.{HasRead}
-use Rattle.reroute_app.specs.Diagram.{most_bytes, IsDiagram}
+use Rattle.reroute_app.specs.Diagram.{most_bytes, HasDiagram}
 use Rattle.reroute_app.specs.Replay.{most_script_bytes}
 
 -- an outcome of the code as an outcome of the definitions
 abbrev pub view : Made → Outcome
-view made = record { status = made.status; text = made.text.items; searched = Some made.tally }
+view made = record { status = made.status; text = made.text.items; searched = made.tally }
 
 -- a run that stops early ends with this, unless out of memory
 abbrev pub StopsAt : (Outcome → Type 0) → Stop → Type 0
@@ -43,26 +44,43 @@ never x old new o = ⊥
 abbrev pub never_two : {X Y : Type 0} → X → Y → Course
 never_two x y old new o = ⊥
 
--- the file was read, and is the diagram of this tree and this scene
-pub record HasDiagram (files : Option ToldFiles) (name : List ℕ) (old new : List Note) (tree : Pairs) (scene : Scene) : Type 0 where
-  pub bytes : List ℕ
-  pub read : HasRead files name most_bytes old new bytes
-  pub diagram : IsDiagram bytes tree scene
+abbrev pub never_three : {X Y Z : Type 0} → X → Y → Z → Course
+never_three x y z old new o = ⊥
 
 -- at most one note was added, of a read of this file
 abbrev pub NotesOne : List ℕ → ℕ → List Note → List Note → Type 0
 NotesOne name limit old new = (new ≡ old) ⊎ ((taken : ℕ) × (failed : Bool) × GainsNote old new name limit taken failed)
 
--- only the diagram was read, if it was; or also the script, after a valid diagram
-pub data NotesTwo (files : Option ToldFiles) (diagram script : List ℕ) (old new : List Note) : Type 0 where
-  of_diagram : NotesOne diagram most_bytes old new → NotesTwo files diagram script old new
-  of_both : (middle : List Note) (tree : Pairs) (scene : Scene) → HasDiagram files diagram old middle tree scene → NotesOne script most_script_bytes middle new → NotesTwo files diagram script old new
+-- only the diagram was read, if it was; or also a second file with its limit, after a diagram whose scene meets the condition
+pub data NotesTwo (files : Option ToldFiles) (diagram second : List ℕ) (limit : ℕ) (Fits : Scene → Type 0) (old new : List Note) : Type 0 where
+  of_diagram : NotesOne diagram most_bytes old new → NotesTwo files diagram second limit Fits old new
+  of_both : (middle : List Note) (tree : Pairs) (scene : Scene) → HasDiagram files diagram old middle tree scene → Fits scene → NotesOne second limit middle new
+      → NotesTwo files diagram second limit Fits old new
+
+-- the file was read, and is the diagram of this tree and this scene, which is small enough to have a certificate
+pub record HasSmall (files : Option ToldFiles) (name : List ℕ) (old new : List Note) (tree : Pairs) (scene : Scene) : Type 0 where
+  pub has : HasDiagram files name old new tree scene
+  pub small : too_large scene ≡ None
+
+-- the scene is small enough to have a certificate
+abbrev pub IsSmall : Scene → Type 0
+IsSmall s = too_large s ≡ None
+
+-- any scene
+abbrev pub AnyScene : Scene → Type 0
+AnyScene s = Unit {0}
 
 -- the script was read, and has these commands
 pub record HasCommands (files : Option ToldFiles) (name : List ℕ) (old new : List Note) (list : List (ℕ × Command)) : Type 0 where
   pub bytes : List ℕ
   pub read : HasRead files name most_script_bytes old new bytes
   pub are_commands : list ≡ commands bytes
+
+-- diagram and script were read: this is the diagram's tree and scene, and these are the commands
+pub record HasBoth (files : Option ToldFiles) (diagram script : List ℕ) (old new : List Note) (tree : Pairs) (scene : Scene) (list : List (ℕ × Command)) : Type 0 where
+  pub middle : List Note
+  pub has_diagram : HasDiagram files diagram old middle tree scene
+  pub has_commands : HasCommands files script middle new list
 
 -- the fault is the first of the lines, or out of memory, on which the lines have no influence
 abbrev pub IsLineFault : Option DiagramFault → DiagramFault → Type 0

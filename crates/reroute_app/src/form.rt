@@ -5,11 +5,14 @@ ghost use Rattle.reroute_app.specs.Run.{IsFormOutcome, IsOutcome, ReadsInOrder};
 ghost use Rattle.reroute_app.specs.Diagram.{most_bytes};
 ghost use Rattle.reroute_app.specs.View.{Comes, NotesOne, answer_in, view};
 
+use crate::certificate::{audit_files, prove_file};
 use crate::check::check_diagram;
 use crate::make::summary_of;
 use crate::outcome::{Outcome, Stop, not_understood};
+use crate::proposals::preview_files;
 use crate::read::read_diagram;
 use crate::replay::replay_files;
+use crate::shared::share_file;
 use command_words::{Form, read_words};
 use form_route::Options;
 use host_edge::Folder;
@@ -67,5 +70,20 @@ pub(crate) fn outcome_of<R: Threads + Sync, F: Folder, G: Gate>(
             answer_of(replay_files(rt, alloc, diagram, script, options, folder, gate))
         }
         Some(Form::Make { seed }) => summary_of(rt, alloc, seed, gate),
+        Some(
+            Form::Preview {
+                diagram,
+                script,
+                workers,
+            },
+        ) => answer_of(preview_files(rt, alloc, diagram, script, workers, folder, gate)),
+        Some(Form::Shared { diagram }) => answer_of(share_file(rt, alloc, diagram, folder, gate)),
+        Some(Form::Prove { diagram }) => answer_of(prove_file(alloc, diagram, folder)),
+        Some(
+            Form::Audit {
+                diagram,
+                certificate,
+            },
+        ) => answer_of(audit_files(alloc, diagram, certificate, folder)),
     }
 }

@@ -6,25 +6,33 @@ ghost use Rattle.host_edge.specs.Count.{NeverFalls, Rose};
 ghost use Rattle.host_edge.specs.Folder.{ToldFiles};
 ghost use Rattle.host_edge.specs.Note.{Note};
 ghost use Rattle.command_words.specs.Words.{form_of};
-ghost use Rattle.reroute_app.specs.Causes.{FindsBadLine, FindsNoDiagram, FindsNothing, FindsRefusal, LastFailed, LastTookMore};
+ghost use Rattle.reroute_app.specs.Causes.{ClaimsAreTrue, FindsBadLine, FindsNoDiagram, FindsNoProof, FindsNothing, FindsRefusal, LastFailed, LastTookMore};
 ghost use Rattle.reroute_app.specs.Run.{HasOneOutcome, ReadsInOrder, Tallies, Writes, WritesPart};
 ghost use Rattle.reroute_app.specs.Status.{IsOutputWritten};
 
+mod certificate;
 mod check;
+mod exit;
 mod form;
 mod make;
 mod outcome;
+mod proposals;
 mod read;
 mod replay;
+mod shared;
 mod status;
 
 use crate::form::outcome_of;
 use crate::outcome::Outcome;
+pub use exit::exit_code_of;
+use form_certificate::certificates_come_to_one;
 use form_make::seeds_come_to_one;
+use form_preview::proposals_come_to_one;
 use form_route::replays_come_to_one;
+use form_shared::shares_come_to_one;
 use host_edge::{Folder, Sink, WriteFailed, write_all_to};
 use par_route::{Gate, OpenGate};
-pub use read::{MOST_BYTES, MOST_SCRIPT_BYTES};
+pub use read::{MOST_BYTES, MOST_CERTIFICATE_BYTES, MOST_SCRIPT_BYTES};
 use route_search::Tally;
 pub use status::Status;
 use std::alloc::Global;
@@ -40,8 +48,17 @@ use std::thread::Threads;
 /// - `route FILE FILE`, with `--workers N` and `--count`, reads a diagram and a script, replays the
 ///   script, and writes the report and the diagram of the scene at the end, with its nudged lines.
 /// - `make SEED` generates a diagram and a script from a seed, routes them, and writes a summary.
+/// - `preview FILE FILE`, with `--workers N`, reads a diagram and a script of proposed transactions,
+///   and writes what each of them would give: the costs of its edges, or its first edit that is
+///   refused.
+/// - `shared FILE` reads a diagram, and writes the paths that its routes share and how often its
+///   nudged lines cross.
+/// - `prove FILE` reads a diagram, and writes a certificate of the costs of its connectors.
+/// - `audit FILE FILE` reads a diagram and a certificate, and says whether the certificate proves
+///   the costs.
 ///
-/// The whole output is made first, and then written. `tally` counts the searches.
+/// The whole output is made first, and then written. `tally` counts the searches that `route` and
+/// `make` made.
 pub fn run_gated<R: Threads + Sync, F: Folder, O: Sink, G: Gate>(
     rt: &R,
     alloc: Global,
@@ -72,9 +89,15 @@ pub fn run_gated<R: Threads + Sync, F: Folder, O: Sink, G: Gate>(
         ↔ FindsRefusal (map string_bytes words.now) (F.files folder.old) (F.notes folder.old) (F.notes folder.new) }
     ensures bad_line { IsSome (F.files folder.old) → IsOutputWritten result → (result ≡ Status.BadLine)
         ↔ FindsBadLine (map string_bytes words.now) (F.files folder.old) (F.notes folder.old) (F.notes folder.new) }
+    ensures audit_no { IsSome (F.files folder.old) → IsOutputWritten result → (result ≡ Status.AuditNo)
+        ↔ FindsNoProof (map string_bytes words.now) (F.files folder.old) (F.notes folder.old) (F.notes folder.new) }
     ensures done { IsSome (F.files folder.old) → IsOutputWritten result → (result ≡ Status.Done)
         ↔ FindsNothing (map string_bytes words.now) (F.files folder.old) (F.notes folder.old) (F.notes folder.new) }
     ensures write_fault { result ≡ Status.WriteFault → Rose (O.faults out.old) (O.faults out.new) }
+
+    // An audit that says yes is of a certificate whose claims are true.
+    ensures claims { result ≡ Status.Done → ClaimsAreTrue (map string_bytes words.now)
+        (F.files folder.old) (F.notes folder.old) (F.notes folder.new) }
 
     // The files that the arguments name are read in order, each at most once and with its limit,
     // and no other files are.
@@ -88,6 +111,9 @@ pub fn run_gated<R: Threads + Sync, F: Folder, O: Sink, G: Gate>(
     ensures tally_never_falls { tally.old ≤ tally.new }
 {
     tally.bounded();
+    // For the proof: proposals and audits have one answer.
+    proposals_come_to_one();
+    certificates_come_to_one();
     let Ok(outcome) = outcome_of(rt, alloc, words, folder, gate) else {
         return Status::NoMemory;
     };
@@ -96,7 +122,9 @@ pub fn run_gated<R: Threads + Sync, F: Folder, O: Sink, G: Gate>(
         text,
         tally: part,
     } = outcome;
-    tally.join(part);
+    if let Some(part) = part {
+        tally.join(part);
+    }
     match write_all_to(out, &text) {
         Ok(()) => status,
         Err(WriteFailed) => Status::WriteFault,
@@ -106,7 +134,7 @@ pub fn run_gated<R: Threads + Sync, F: Folder, O: Sink, G: Gate>(
 /// The same with a gate that delays no piece of searches.
 ///
 /// The subcommands are those of `run_gated`. The whole output is made first, and then written.
-/// `tally` counts the searches.
+/// `tally` counts the searches that `route` and `make` made.
 pub fn run<R: Threads + Sync, F: Folder, O: Sink>(
     rt: &R,
     alloc: Global,
@@ -136,9 +164,15 @@ pub fn run<R: Threads + Sync, F: Folder, O: Sink>(
         ↔ FindsRefusal (map string_bytes words.now) (F.files folder.old) (F.notes folder.old) (F.notes folder.new) }
     ensures bad_line { IsSome (F.files folder.old) → IsOutputWritten result → (result ≡ Status.BadLine)
         ↔ FindsBadLine (map string_bytes words.now) (F.files folder.old) (F.notes folder.old) (F.notes folder.new) }
+    ensures audit_no { IsSome (F.files folder.old) → IsOutputWritten result → (result ≡ Status.AuditNo)
+        ↔ FindsNoProof (map string_bytes words.now) (F.files folder.old) (F.notes folder.old) (F.notes folder.new) }
     ensures done { IsSome (F.files folder.old) → IsOutputWritten result → (result ≡ Status.Done)
         ↔ FindsNothing (map string_bytes words.now) (F.files folder.old) (F.notes folder.old) (F.notes folder.new) }
     ensures write_fault { result ≡ Status.WriteFault → Rose (O.faults out.old) (O.faults out.new) }
+
+    // An audit that says yes is of a certificate whose claims are true.
+    ensures claims { result ≡ Status.Done → ClaimsAreTrue (map string_bytes words.now)
+        (F.files folder.old) (F.notes folder.old) (F.notes folder.new) }
 
     // The files that the arguments name are read in order, each at most once and with its limit,
     // and no other files are.
@@ -162,4 +196,7 @@ pub fn one_outcome()
 {
     replays_come_to_one();
     seeds_come_to_one();
+    proposals_come_to_one();
+    shares_come_to_one();
+    certificates_come_to_one();
 }

@@ -23,6 +23,6 @@ pub(crate) fn summary_of<R: Threads + Sync, G: Gate>(
     Ok(Outcome {
         status: Status::Done,
         text: text.into_bytes(),
-        tally,
+        tally: Some(tally),
     })
 }

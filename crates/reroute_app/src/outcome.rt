@@ -2,7 +2,7 @@
 ghost use Rattle.std.specs.Prelude.{◌≡◌, IfOk};
 ghost use Rattle.report_text.specs.Faults.{fault_line, gml_fault_line};
 ghost use Rattle.report_text.specs.Files.{read_fault_line, too_long_line, words_line};
-ghost use Rattle.reroute_app.specs.Outcome.{unsearched};
+ghost use Rattle.reroute_app.specs.Outcome.{uncounted, unsearched};
 ghost use Rattle.reroute_app.specs.View.{view};
 
 use crate::status::Status;
@@ -14,12 +14,13 @@ use report_text::{
 use route_search::Tally;
 use std::alloc::{AllocError, AllocFailed, Global};
 
-/// The outcome of a run: its status, the whole output, and the searches that were made for it.
+/// What is answered: how the run ends, the whole output, and the searches that were made for it, where they are
+/// counted.
 #[derive(Drop)]
 pub(crate) struct Outcome {
     pub(crate) status: Status,
     pub(crate) text: Vec<u8>,
-    pub(crate) tally: Tally,
+    pub(crate) tally: Option<Tally>,
 }
 
 /// Why a run stops early.
@@ -58,7 +59,18 @@ pub(crate) fn unsearched(status: Status, text: Vec<u8>) -> Outcome
     Outcome {
         status,
         text,
-        tally: Tally::new(),
+        tally: Some(Tally::new()),
+    }
+}
+
+/// What is answered by a subcommand whose searches are not counted.
+pub(crate) fn uncounted(status: Status, text: Vec<u8>) -> Outcome
+    ensures { view result ≡ uncounted status text.items }
+{
+    Outcome {
+        status,
+        text,
+        tally: None,
     }
 }
 

@@ -4,10 +4,11 @@ ghost use Rattle.host_edge.specs.Note.{Note};
 ghost use Rattle.gml_text.specs.Parse.{IsDocument};
 ghost use Rattle.gml_text.specs.View.{tree};
 ghost use Rattle.diagram_read.specs.Scene.{scene_of};
-ghost use Rattle.reroute_app.specs.Diagram.{IsDiagram, ReadsDiagram, TakesDiagram, TakesScene, most_bytes};
+ghost use Rattle.reroute_app.specs.Diagram.{HasDiagram, IsDiagram, ReadsDiagram, TakesDiagram, TakesScene, most_bytes};
 ghost use Rattle.reroute_app.specs.Reads.{HasRead, ReadsFile};
+ghost use Rattle.reroute_app.specs.Certificate.{most_certificate_bytes};
 ghost use Rattle.reroute_app.specs.Replay.{most_script_bytes};
-ghost use Rattle.reroute_app.specs.View.{HasDiagram, NotesOne, StopsAt, never, never_two};
+ghost use Rattle.reroute_app.specs.View.{NotesOne, StopsAt, never, never_two};
 
 use crate::outcome::{Stop, no_diagram, no_document, read_fault, too_long};
 use diagram_read::{DiagramFault, scene_of};
@@ -21,6 +22,9 @@ pub const MOST_BYTES: u64 = 16_777_216;
 
 /// The greatest number of bytes of a script.
 pub const MOST_SCRIPT_BYTES: u64 = 4_194_304;
+
+/// The greatest number of bytes of a certificate.
+pub const MOST_CERTIFICATE_BYTES: u64 = 1_073_741_824;
 
 /// A document and its scene.
 #[derive(Drop)]
@@ -116,4 +120,20 @@ pub(crate) fn read_script<F: Folder>(
     ensures files_kept { F.files folder.new ≡ F.files folder.old }
 {
     read_file(alloc, folder, name, MOST_SCRIPT_BYTES)
+}
+
+/// The bytes of the certificate in the file with this name.
+pub(crate) fn read_certificate<F: Folder>(
+    alloc: Global,
+    folder: &mut F,
+    name: &str,
+) -> Result<Vec<u8>, Stop>
+    ensures read { IfOk result (λ bytes. HasRead (F.files folder.old) name.now most_certificate_bytes
+        (F.notes folder.old) (F.notes folder.new) bytes.items) }
+    ensures stopped { IfErr result (StopsAt (ReadsFile (F.files folder.old) name.now most_certificate_bytes never
+        (F.notes folder.old) (F.notes folder.new))) }
+    ensures notes { NotesOne name.now most_certificate_bytes (F.notes folder.old) (F.notes folder.new) }
+    ensures files_kept { F.files folder.new ≡ F.files folder.old }
+{
+    read_file(alloc, folder, name, MOST_CERTIFICATE_BYTES)
 }

@@ -6,9 +6,9 @@ ghost use Rattle.diagram_read.specs.Scene.{scene_of};
 ghost use Rattle.command_words.specs.Words.{route as route_form};
 ghost use Rattle.script_replay.specs.Replies.{AreDirected};
 ghost use Rattle.reroute_app.specs.Reads.{ReadsFile};
-ghost use Rattle.reroute_app.specs.Replay.{Replays, most_script_bytes, replay_status};
+ghost use Rattle.reroute_app.specs.Replay.{ReadsScript, Replays, most_script_bytes, replay_status};
 ghost use Rattle.reroute_app.specs.Run.{IsFormOutcome};
-ghost use Rattle.reroute_app.specs.View.{Comes, HasCommands, NotesOne, NotesTwo, StopsAt, never};
+ghost use Rattle.reroute_app.specs.View.{AnyScene, Comes, HasBoth, HasCommands, NotesOne, NotesTwo, StopsAt, never, never_three};
 
 use crate::outcome::{Outcome, Stop};
 use crate::read::{Diagram, read_diagram, read_script};
@@ -23,8 +23,8 @@ use scene_store::Scene;
 use std::alloc::Global;
 use std::thread::Threads;
 
-/// The status of a replay in which something was refused, or nothing was.
-fn status_of(is_refused: bool) -> Status
+/// How a script ends in which something was refused, or nothing was.
+pub(crate) fn status_of(is_refused: bool) -> Status
     ensures { result ≡ replay_status is_refused }
 {
     if is_refused {
@@ -49,6 +49,33 @@ fn read_commands<F: Folder>(
 {
     let bytes = read_script(alloc, folder, name)?;
     Ok(commands(alloc, &bytes)?)
+}
+
+/// A diagram, and the commands of a script.
+#[derive(Drop)]
+pub(crate) struct Scripted {
+    pub(crate) diagram: Diagram,
+    pub(crate) commands: Vec<(usize, Command)>,
+}
+
+/// The diagram and the commands of the script in the files with these names.
+pub(crate) fn read_both<F: Folder>(
+    alloc: Global,
+    folder: &mut F,
+    diagram: &str,
+    script: &str,
+) -> Result<Scripted, Stop>
+    ensures read { IfOk result (λ both. HasBoth (F.files folder.old) diagram.now script.now
+        (F.notes folder.old) (F.notes folder.new) (tree both.diagram.doc) both.diagram.scene both.commands.items) }
+    ensures stopped { IfErr result (StopsAt (ReadsScript (F.files folder.old) diagram.now script.now never_three
+        (F.notes folder.old) (F.notes folder.new))) }
+    ensures notes { NotesTwo (F.files folder.old) diagram.now script.now most_script_bytes AnyScene
+        (F.notes folder.old) (F.notes folder.new) }
+    ensures files_kept { F.files folder.new ≡ F.files folder.old }
+{
+    let diagram = read_diagram(alloc, folder, diagram)?;
+    let commands = read_commands(alloc, folder, script)?;
+    Ok(Scripted { diagram, commands })
 }
 
 /// The outcome of a replay of the commands on the document with this scene.
@@ -78,7 +105,7 @@ fn replay_diagram<R: Threads + Sync, G: Gate>(
     Ok(Outcome {
         status: status_of(is_refused),
         text,
-        tally,
+        tally: Some(tally),
     })
 }
 
@@ -96,11 +123,12 @@ pub(crate) fn replay_files<R: Threads + Sync, F: Folder, G: Gate>(
     requires few_workers { options.workers ≤ 4 }
     ensures outcome { Comes (IsFormOutcome (Some (route_form diagram.now script.now options.workers options.count)) (F.files folder.old)
         (F.notes folder.old) (F.notes folder.new)) result }
-    ensures notes { NotesTwo (F.files folder.old) diagram.now script.now (F.notes folder.old) (F.notes folder.new) }
+    ensures notes { NotesTwo (F.files folder.old) diagram.now script.now most_script_bytes AnyScene
+        (F.notes folder.old) (F.notes folder.new) }
     ensures files_kept { F.files folder.new ≡ F.files folder.old }
 {
-    let read = read_diagram(alloc, folder, diagram)?;
-    let commands = read_commands(alloc, folder, script)?;
-    let Diagram { doc, scene } = read;
+    let both = read_both(alloc, folder, diagram, script)?;
+    let Scripted { diagram, commands } = both;
+    let Diagram { doc, scene } = diagram;
     replay_diagram(rt, alloc, &doc, scene, &commands, options, gate)
 }

@@ -22,6 +22,8 @@ pub enum Status {
     TooLong = 7,
     /// The line of an edge breaks a rule.
     BadLine = 8,
+    /// The file is no certificate, or it does not prove the scene.
+    AuditNo = 9,
 }
 
 impl Status {

@@ -1,0 +1,7 @@
+-- What is told so far, and the elements that are left, give the whole.
+use Rattle.std.proofs.Common.{◌≡◌, ◌++◌, drop}
+use Rattle.report_text.specs.Shared.{shared_lines}
+use Rattle.report_text.proofs.shared.push_shared_lines.Given as goal
+
+abbrev pub invariant-loop-path : goal.invariant-loop-path
+invariant-loop-path l = l.out.items ++ shared_lines (drop l.path-index l.paths) ≡ l.fn.out.items ++ shared_lines l.paths

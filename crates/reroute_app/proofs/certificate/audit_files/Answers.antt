@@ -1,0 +1,56 @@
+-- A diagram or a certificate that is not read is the end, and what is read is audited.
+use Rattle.std.proofs.Common.{ℕ, List, sym, subst}
+use Rattle.std.specs.Prelude.{Option}
+use Rattle.host_edge.specs.Folder.{ToldFiles}
+use Rattle.gml_text.specs.View.{tree}
+use Rattle.scene_model.specs.Scene.{Scene}
+use Rattle.reroute_app.specs.Outcome.{Course, Ends}
+use Rattle.reroute_app.specs.Certificate.{AuditsCertificate, most_certificate_bytes}
+use Rattle.reroute_app.specs.Reads.{HasRead, ReadsFile}
+use Rattle.reroute_app.specs.View.{Comes, StopsAt, never}
+use Rattle.reroute_app.specs.View.NotesTwo.{of_both}
+use Rattle.reroute_app.proofs.Stops.{end_comes, file_comes, second_stops, small_comes, small_stops}
+use Rattle.reroute_app.proofs.certificate.audit_files.Goals as goal
+
+abbrev next : Scene → List ℕ → Course
+next s bytes = Ends (AuditsCertificate s bytes)
+
+pub returns-in_err-read-clause-outcome : goal.returns-in_err-read-clause-outcome
+returns-in_err-read-clause-outcome g c =
+    let files = g.F.Folder.files c.args.folder.now in
+    small_stops files c.args.diagram.now (λ s. ReadsFile files c.args.certificate.now most_certificate_bytes (next s)) (g.F.Folder.notes c.args.folder.now) (g.F.Folder.notes c.read_small.new.folder)
+    c.in_err-read.field-0.0 c.from_residual.result c.in_err-read.ensures.stopped c.from_residual.ensures.1
+
+pub returns-in_err-bytes-clause-outcome : goal.returns-in_err-bytes-clause-outcome
+returns-in_err-bytes-clause-outcome g c =
+    let files = g.F.Folder.files c.args.folder.now in
+    let middle = g.F.Folder.notes c.read_small.new.folder in
+    let new = g.F.Folder.notes c.read_certificate.new.folder in
+    let d = c.in_ok-read.read in
+    second_stops files c.args.diagram.now c.args.certificate.now most_certificate_bytes next (g.F.Folder.notes c.args.folder.now) middle new (tree d.doc) d.scene c.in_err-bytes.field-0.0
+    c.from_residual-in_err-bytes.result c.in_ok-read.ensures.read
+    (subst (λ (told : Option ToldFiles). StopsAt (ReadsFile told c.args.certificate.now most_certificate_bytes never middle new) c.in_err-bytes.field-0.0) c.read_small.ensures.files_kept c.in_err-bytes.ensures.stopped)
+    c.from_residual-in_err-bytes.ensures.1
+
+pub returns-in_err-bytes-clause-notes : goal.returns-in_err-bytes-clause-notes
+returns-in_err-bytes-clause-notes g c =
+    let is = c.in_ok-read.ensures.read in
+    of_both (g.F.Folder.notes c.read_small.new.folder) (tree c.in_ok-read.read.doc) c.in_ok-read.read.scene is.has is.small c.read_certificate.ensures.notes
+
+pub returns-clause-outcome : goal.returns-clause-outcome
+returns-clause-outcome g c =
+    let files = g.F.Folder.files c.args.folder.now in
+    let middle = g.F.Folder.notes c.read_small.new.folder in
+    let new = g.F.Folder.notes c.read_certificate.new.folder in
+    let d = c.in_ok-read.read in
+    let bytes = c.in_ok-bytes.bytes.items in
+    let r = c.audit_scene.result in
+    small_comes files c.args.diagram.now (λ s. ReadsFile files c.args.certificate.now most_certificate_bytes (next s)) (g.F.Folder.notes c.args.folder.now) middle new (tree d.doc) d.scene r c.in_ok-read.ensures.read
+    (file_comes files c.args.certificate.now most_certificate_bytes (next d.scene) middle new new bytes r
+    (subst (λ (told : Option ToldFiles). HasRead told c.args.certificate.now most_certificate_bytes middle new bytes) c.read_small.ensures.files_kept c.in_ok-bytes.ensures.read)
+    (end_comes (AuditsCertificate d.scene bytes) new r (subst (λ (bs : List ℕ). Comes (AuditsCertificate d.scene bs) r) c.deref.ensures.value c.audit_scene.ensures)))
+
+pub returns-clause-notes : goal.returns-clause-notes
+returns-clause-notes g c =
+    let is = c.in_ok-read.ensures.read in
+    of_both (g.F.Folder.notes c.read_small.new.folder) (tree c.in_ok-read.read.doc) c.in_ok-read.read.scene is.has is.small c.read_certificate.ensures.notes

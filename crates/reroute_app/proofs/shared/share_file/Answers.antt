@@ -1,0 +1,18 @@
+-- A diagram that is not read is the end, and the paths of one that is read are listed.
+use Rattle.gml_text.specs.View.{tree}
+use Rattle.reroute_app.specs.Outcome.{Ends}
+use Rattle.reroute_app.specs.Shared.{ListsPaths}
+use Rattle.reroute_app.proofs.Stops.{diagram_comes, diagram_stops, end_comes}
+use Rattle.reroute_app.proofs.shared.share_file.Goals as goal
+
+pub returns-in_err-diagram-clause-outcome : goal.returns-in_err-diagram-clause-outcome
+returns-in_err-diagram-clause-outcome g c =
+    diagram_stops (g.F.Folder.files c.args.folder.now) c.args.name.now (λ tree s. Ends (ListsPaths s)) (g.F.Folder.notes c.args.folder.now) (g.F.Folder.notes c.read_diagram.new.folder)
+    c.in_err-diagram.field-0.0 c.from_residual.result c.in_err-diagram.ensures.stopped c.from_residual.ensures.1
+
+pub returns-clause-outcome : goal.returns-clause-outcome
+returns-clause-outcome g c =
+    let new = g.F.Folder.notes c.read_diagram.new.folder in
+    let s = c.in_ok-diagram.diagram.scene in
+    diagram_comes (g.F.Folder.files c.args.folder.now) c.args.name.now (λ tree s. Ends (ListsPaths s)) (g.F.Folder.notes c.args.folder.now) new new (tree c.in_ok-diagram.diagram.doc) s
+    c.share_scene.result c.in_ok-diagram.ensures.read (end_comes (ListsPaths s) new c.share_scene.result c.share_scene.ensures)
