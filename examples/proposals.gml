@@ -1,0 +1,6 @@
+graph [
+  node [ id 1 label "Orders" graphics [ x 0 y 0 w 20 h 20 ] ]
+  node [ id 2 label "Stock" graphics [ x 100 y 0 w 20 h 20 ] ]
+  node [ id 3 label "Audit" graphics [ x 50 y 100 w 20 h 40 ] ]
+  edge [ source 1 target 2 ]
+]
