@@ -1,0 +1,23 @@
+// Moves a box between two others, has an edit refused, and undoes the move: node move_a_box.mjs PROGRAM
+import { Refused, Session } from './reroute.mjs';
+
+const session = await Session.open(process.argv[2] ?? 'reroute_live');
+const shown = edge => JSON.stringify(session.lines.get(edge));
+const edge = await session.transaction(async () => {
+  await session.addBox(1, 0, 0, 20, 20);
+  await session.addBox(2, 100, 0, 20, 20);
+  await session.addBox(3, 50, 80, 20, 40);
+  return session.connect(1, 2);
+});
+console.log('out of the way:', shown(edge));
+await session.transaction(() => session.move(3, 50, 0));
+console.log('between the others:', shown(edge), 'changed', JSON.stringify(session.changed));
+try {
+  await session.transaction(() => session.drop(1));
+} catch (error) {
+  if (!(error instanceof Refused)) throw error;
+  console.log('refused:', error.message);
+}
+await session.undo();
+console.log('back:', shown(edge));
+process.exitCode = await session.close();

@@ -1,0 +1,22 @@
+"""Moves a box between two others, has an edit refused, and undoes the move: move_a_box.py PROGRAM"""
+import sys
+
+from reroute import Refused, Session
+
+with Session(sys.argv[1] if len(sys.argv) > 1 else 'reroute_live') as session:
+    with session.transaction():
+        session.add_box(1, 0, 0, 20, 20)
+        session.add_box(2, 100, 0, 20, 20)
+        session.add_box(3, 50, 80, 20, 40)
+        edge = session.connect(1, 2)
+    print('out of the way:', session.lines[edge])
+    with session.transaction():
+        session.move(3, 50, 0)
+    print('between the others:', session.lines[edge], 'changed', session.changed)
+    try:
+        with session.transaction():
+            session.drop(1)
+    except Refused as refused:
+        print('refused:', refused)
+    session.undo()
+    print('back:', session.lines[edge])
