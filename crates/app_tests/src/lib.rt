@@ -26,6 +26,8 @@ mod runs;
 #[cfg(test)]
 mod seeds;
 #[cfg(test)]
+mod sizes;
+#[cfg(test)]
 mod subcommands;
 #[cfg(test)]
 mod texts;

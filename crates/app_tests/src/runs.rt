@@ -170,6 +170,30 @@ pub(crate) fn run_row(
     run_row_gated::<OpenGate>(rt, alloc, row, None)
 }
 
+fn written_in_folder(
+    rt: &(impl Abort + Threads + Sync),
+    alloc: Global,
+    row: &Row,
+    words: &[String],
+    folder: &mut MemFolder,
+) -> Result<Vec<u8>, Fail> {
+    let mut sink = sink(alloc, row)?;
+    let status = run(rt, alloc, words, folder, &mut sink, &mut Tally::new());
+    assert!(rt; status == row.status, "{}", row.words);
+    Ok(Vec::from_slice(alloc, sink.held())?)
+}
+
+/// What the program writes for the row, which must end with its status.
+pub(crate) fn written(
+    rt: &(impl Abort + Threads + Sync),
+    alloc: Global,
+    row: &Row,
+) -> Result<Vec<u8>, Fail> {
+    let words = owned(alloc, row.words)?;
+    let mut folder = folder(alloc, row)?;
+    written_in_folder(rt, alloc, row, &words, &mut folder)
+}
+
 fn code_in_folder(
     rt: &(impl Threads + Sync),
     alloc: Global,

@@ -243,41 +243,6 @@ fn refuses_damaged_certificates(rt: HostRuntime) -> Result<(), Fail> {
     Ok(())
 }
 
-fn push_nodes(diagram: &mut String) -> Result<(), AllocError> {
-    for k in 1..50u32 {
-        write!(
-            diagram,
-            " node [ id {k} graphics [ x {} y 0 w 20 h 20 ] ]",
-            k * 100
-        )?;
-    }
-    Ok(())
-}
-
-/// A diagram of 49 nodes.
-fn large(alloc: Global) -> Result<String, AllocError> {
-    let mut diagram = String::from_str(alloc, "graph [")?;
-    push_nodes(&mut diagram)?;
-    diagram.push_str(" ]")?;
-    Ok(diagram)
-}
-
-#[test]
-fn refuses_large_scenes(rt: HostRuntime) -> Result<(), Fail> {
-    let diagram = large(rt.alloc())?;
-    for words in ["prove|d.gml", "audit|d.gml|missing.txt"] {
-        let refused = row(
-            words,
-            diagram.as_str(),
-            "",
-            Status::Diagram,
-            "diagram: TooMany node\n",
-        );
-        run_row(&rt, rt.alloc(), &refused)?;
-    }
-    Ok(())
-}
-
 #[test]
 fn meets_faults(rt: HostRuntime) -> Result<(), Fail> {
     let rows = [
