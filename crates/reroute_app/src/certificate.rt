@@ -6,8 +6,9 @@ ghost use Rattle.command_words.specs.Words.{audit as audit_form, prove as prove_
 ghost use Rattle.form_certificate.specs.Sizes.{too_large};
 ghost use Rattle.reroute_app.specs.Certificate.{AuditsCertificate, ReadsSmall, UnlessLarge, WritesCertificate, audit_status, most_certificate_bytes};
 ghost use Rattle.reroute_app.specs.Diagram.{most_bytes};
+ghost use Rattle.reroute_app.specs.Outcome.{uncounted};
 ghost use Rattle.reroute_app.specs.Run.{IsFormOutcome};
-ghost use Rattle.reroute_app.specs.View.{Comes, HasSmall, IsSmall, NotesOne, NotesTwo, StopsAt, never};
+ghost use Rattle.reroute_app.specs.View.{Comes, HasSmall, IsSmall, NotesOne, NotesTwo, StopsAt, never, view};
 
 use crate::outcome::{Outcome, Stop, no_diagram, uncounted};
 use crate::read::{Diagram, read_certificate, read_diagram};
@@ -77,12 +78,20 @@ fn status_of(is_proved: bool) -> Status
     }
 }
 
-/// What an audit of the bytes says of the scene.
+/// The outcome of an audit with this answer.
+fn outcome_of_audit(audited: Audited) -> Outcome
+    ensures { view result ≡ uncounted (audit_status audited.is_proved) audited.text.items }
+{
+    let Audited { text, is_proved } = audited;
+    uncounted(status_of(is_proved), text)
+}
+
+/// The outcome of an audit of the bytes, for the scene.
 fn audit_scene(alloc: Global, scene: &Scene, certificate: &[u8]) -> Result<Outcome, Stop>
     ensures { Comes (AuditsCertificate scene.now certificate.now) result }
 {
-    let Audited { text, is_proved } = audit_certificate(alloc, scene, certificate)?;
-    Ok(uncounted(status_of(is_proved), text))
+    let audited = audit_certificate(alloc, scene, certificate)?;
+    Ok(outcome_of_audit(audited))
 }
 
 /// What an audit of the certificate says of the diagram, both in the files with these names.
