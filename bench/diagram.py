@@ -110,26 +110,31 @@ def lines_of_libavoid(text):
 
 # ---- Graphviz ----
 
+# A unit in its points. With most other scales its orthogonal router ends by a failed assertion, or takes minutes, on
+# some of the diagrams; with this one sizes in inches are exact.
+POINTS = 18
+
+
 def for_graphviz(diagram):
     """The diagram for `neato -n`, whose y grows upwards."""
     text = ['graph {\n node [ shape=box fixedsize=true label="" ]\n']
-    text += [f' {node.id} [ pos="{node.x},{-node.y}" width={node.w / 72} height={node.h / 72} ]\n'
-             for node in diagram.nodes]
+    text += [f' {node.id} [ pos="{node.x * POINTS},{-node.y * POINTS}" width={node.w * POINTS / 72} '
+             f'height={node.h * POINTS / 72} ]\n' for node in diagram.nodes]
     text += [f' {edge.source} -- {edge.target} [ id={k} ]\n' for k, edge in enumerate(diagram.edges)]
     return ''.join(text) + '}\n'
 
 
 def lines_of_graphviz(diagram, text):
-    """The lines that it drew, without those that it left out, which are empty."""
+    """The lines that it drew; those that it left out are empty."""
     drawn = json.loads(text)
-    # (it moves the whole drawing; what each box was moved by has its own rounding)
-    moved = [(float(x) - node.x, float(y) + node.y) for node, made in zip(diagram.nodes, drawn['objects'])
-             for x, y in [made['pos'].split(',')]]
-    off_x, off_y = (sorted(way)[len(moved) // 2] for way in zip(*moved))
+    # (it moves the whole drawing, so that its lower left corner is at 0, 0)
+    box = next(step['points'] for step in drawn['objects'][0]['_draw_'] if step['op'] in 'pP')
+    off_x, off_y = (sum(way) / len(box) for way in zip(*box))
+    off_x, off_y = off_x / POINTS - diagram.nodes[0].x, off_y / POINTS + diagram.nodes[0].y
     lines = [[] for _ in diagram.edges]
     for edge in drawn.get('edges', []):
         curves = [step['points'] for step in edge.get('_draw_', []) if step['op'] == 'b']
-        lines[int(edge['id'])] = [(x - off_x, off_y - y) for curve in curves for x, y in curve]
+        lines[int(edge['id'])] = [(x / POINTS - off_x, off_y - y / POINTS) for curve in curves for x, y in curve]
     return lines
 
 
