@@ -55,9 +55,10 @@ using namespace Avoid;
 static_assert(sizeof(Point) == 24 && sizeof(Checkpoint) == 32, "as in the library");
 const unsigned CENTRE = 65536, ALL = 15;
 
+// (the library has one thread; the clock of the process counts whole ticks while a limit of its time is set)
 static double processor() {
     timespec t;
-    clock_gettime(CLOCK_PROCESS_CPUTIME_ID, &t);
+    clock_gettime(CLOCK_THREAD_CPUTIME_ID, &t);
     return t.tv_sec + t.tv_nsec * 1e-9;
 }
 
