@@ -55,7 +55,8 @@ def read_edge(pairs):
     drawn = first(first(pairs, 'graphics', []), 'Line', [])
     return Edge(int(first(pairs, 'source')), int(first(pairs, 'target')),
                 int(first(pairs, 'sourcePin', '0')), int(first(pairs, 'targetPin', '0')),
-                tuple(place(via) for via in lists(pairs, 'via')), tuple(place(point) for point in lists(drawn, 'point')))
+                tuple(place(via) for via in lists(pairs, 'via')),
+                tuple(place(point) for point in lists(drawn, 'point')))
 
 
 def read(text):
@@ -69,7 +70,8 @@ def written(diagram):
     """The diagram as GML, with the lines of its edges."""
     text = [f'graph [\n router [ penalty {diagram.penalty} buffer {diagram.buffer} nudge {diagram.nudge} ]\n']
     for node in diagram.nodes:
-        pins = ''.join(f' pin [ class {pin.of_class} x {pin.x:.3f} y {pin.y:.3f} dirs "{pin.dirs}" ]' for pin in node.pins)
+        pins = ''.join(f' pin [ class {pin.of_class} x {pin.x:.3f} y {pin.y:.3f} dirs "{pin.dirs}" ]'
+                       for pin in node.pins)
         group = ' isGroup 1' if node.is_group else ''
         text.append(f' node [ id {node.id} graphics [ x {node.x} y {node.y} w {node.w} h {node.h} ]{group}{pins} ]\n')
     for edge in diagram.edges:

@@ -10,7 +10,8 @@ greatest  the diagram with the most lines and crossings within the limits: 1280 
 pairs     two boxes and an edge, and a list of as many short foreign pairs as 16 MiB leave room for
 nodes     256 boxes, each with as many foreign pairs of the kinds that editors write as 16 MiB leave room for
 
-With --moves it prints a script of 30 transactions, each of which moves a box; `greatest`, `pairs` and `nodes` have none.
+With --moves it prints a script of 30 transactions, each of which moves a box; `greatest`, `pairs` and `nodes` have
+none.
 """
 import argparse
 import random
@@ -101,7 +102,8 @@ def near(count, draws):
 
 def channels(draws):
     # (a box of 48 units with its buffer is 56 wide, in a cell of 60)
-    boxes = [(k + 1, k % 16 * 60 + draws.between(-1, 1), k // 16 * 60 + draws.between(-1, 1), 48, 48) for k in range(256)]
+    boxes = [(k + 1, k % 16 * 60 + draws.between(-1, 1), k // 16 * 60 + draws.between(-1, 1), 48, 48)
+             for k in range(256)]
     return graph([node(*box) for box in boxes], any_edges(256, 512, draws)), moves_near(boxes, draws, 2)
 
 
@@ -120,7 +122,8 @@ def pins(draws):
     nodes = []
     for number, x, y, w, h in boxes:
         places = ((w / 2, 0, 'E'), (0, h / 2, 'S'), (-w / 2, 0, 'W'), (0, -h / 2, 'N'))
-        own = ''.join(f' pin [ class {k + 1} x {dx:g} y {dy:g} dirs "{way}" ]' for k, (dx, dy, way) in enumerate(places))
+        own = ''.join(f' pin [ class {k + 1} x {dx:g} y {dy:g} dirs "{way}" ]'
+                      for k, (dx, dy, way) in enumerate(places))
         nodes.append(node(number, x, y, w, h, own))
     return graph(nodes, any_edges(64, 512, draws, rest)), moves_near(boxes, draws, 30)
 
