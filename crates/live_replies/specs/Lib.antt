@@ -5,4 +5,5 @@ pub mod Requests
 pub mod Said
 pub mod Live
 pub mod Answers
+pub mod Client
 pub mod Serves

@@ -3,6 +3,7 @@
 
 mod call;
 mod change;
+mod laws;
 mod line;
 mod live;
 mod reply;
@@ -10,6 +11,7 @@ mod request;
 mod serving;
 mod text;
 
+pub use laws::changes_keep_clients;
 pub use live::Live;
 pub use reply::Said;
 pub use request::Request;
