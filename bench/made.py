@@ -6,12 +6,13 @@ near_N    the same boxes, and 2 N edges between boxes that stand side by side
 channels  256 boxes that leave a net of channels between them, 2 to 6 units wide, and 512 edges between any two
 parallel  512 equal edges between two boxes that stand on both sides of a third one
 pins      64 boxes with four pins each, and 512 edges that name a pin at each end; 256 have a checkpoint
+zigzag    512 equal edges that pass four walls, so that all their routes share nine runs
 greatest  the diagram with the most lines and crossings within the limits: 1280 whole lines each way
+certified the same within the limits of certificates: 48 boxes, pins and checkpoints, and 64 edges
 pairs     two boxes and an edge, and a list of as many short foreign pairs as 16 MiB leave room for
 nodes     256 boxes, each with as many foreign pairs of the kinds that editors write as 16 MiB leave room for
 
-With --moves it prints a script of 30 transactions, each of which moves a box; `greatest`, `pairs` and `nodes` have
-none.
+With --moves it prints a script of 30 transactions, each of which moves a box; the last five have none.
 """
 import argparse
 import random
@@ -128,22 +129,36 @@ def pins(draws):
     return graph(nodes, any_edges(64, 512, draws, rest)), moves_near(boxes, draws, 30)
 
 
-def greatest(_):
-    """256 groups, which have no solids, have one pin each, and of 512 connectors 256 have a checkpoint. No two of the
-    ports, pins and checkpoints are in line unless they are of one node's centre, so each has lines of its own."""
+def whole_lines(boxes, count, vias):
+    """Groups, which have no solids, have one pin each, and some connectors a checkpoint. No two of the ports, pins and
+    checkpoints are in line unless they are of one node's centre, so each has lines of its own, which no box interrupts."""
     nodes = []
-    for k in range(256):
-        # (37 has no factor in common with 256)
-        x, y = 3000 * k, 3000 * (k * 37 % 256)
+    for k in range(boxes):
+        # (37 and 101 have no factor in common with 256 or 48)
+        x, y = 3000 * k, 3000 * (k * 37 % boxes)
         nodes.append(node(k + 1, x, y, 200, 200, ' isGroup 1 pin [ class 1 x 50 y 50 dirs "ESWN" ]'))
     edges = []
-    for k in range(512):
-        source = k % 256 + 1
-        target = (k * 7 + 11 + k // 256) % 256 + 1
-        target = target if target != source else target % 256 + 1
-        x, y = 3000 * k + 1500, 3000 * (k * 101 % 256) + 1500
-        edges.append(edge(source, target, f' via [ x {x} y {y} ]' if k < 256 else ''))
+    for k in range(count):
+        source = k % boxes + 1
+        target = (k * 7 + 11 + k // boxes) % boxes + 1
+        target = target if target != source else target % boxes + 1
+        x, y = 3000 * k + 1500, 3000 * (k * 101 % boxes) + 1500
+        edges.append(edge(source, target, f' via [ x {x} y {y} ]' if k < vias else ''))
     return graph(nodes, edges), ''
+
+
+def greatest(_):
+    return whole_lines(256, 512, 256)
+
+
+def certified(_):
+    return whole_lines(48, 64, 48)
+
+
+def zigzag(_):
+    """Four walls that stand to the one side and to the other of the straight way, so that each route has nine runs."""
+    walls = [node(k + 3, 150 + 200 * k, -190 if k % 2 == 0 else 190, 40, 400) for k in range(4)]
+    return graph([node(1, 0, 0), node(2, 900, 0), *walls], [edge(1, 2)] * 512), ''
 
 
 def pairs(_):
@@ -163,7 +178,7 @@ def nodes(_):
 
 
 KINDS = {'far': far, 'near': near}
-NAMES = {made.__name__: made for made in (channels, parallel, pins, greatest, pairs, nodes)}
+NAMES = {made.__name__: made for made in (channels, parallel, pins, zigzag, greatest, certified, pairs, nodes)}
 
 
 def made(name, seed=1):
