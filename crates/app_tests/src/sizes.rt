@@ -3,7 +3,9 @@
 use crate::runs::{Row, run_row, whole_row, written};
 use reroute_app::Status;
 use std::alloc::{AllocError, Global};
+use std::process::Abort;
 use std::test::Fail;
+use std::thread::Threads;
 
 /// The numbers that are limited: a pin is on the node with its number, and a checkpoint on the edge
 /// with its number.
@@ -40,36 +42,46 @@ const REFUSED: [(Sizes, &str); 5] = [
     ),
 ];
 
-/// The nodes in rows of eight, each with a pin in its centre; the pins beyond are of the first node.
+/// How many pins the node has: the ones without a node of their own are on the first.
+fn pins_of(node: u32, sizes: Sizes) -> u32 {
+    if node == 0 {
+        sizes.pins.saturating_sub(sizes.nodes).saturating_add(1)
+    } else {
+        u32::from(node < sizes.pins)
+    }
+}
+
+fn push_pins(diagram: &mut String, count: u32) -> Result<(), AllocError> {
+    for _ in 0..count {
+        diagram.push_str(" pin [ class 1 x 0 y 0 dirs \"ESWN\" ]")?;
+    }
+    Ok(())
+}
+
+/// The nodes in rows of eight, of which there are fewer than eight, each with pins in its centre.
 fn push_nodes(diagram: &mut String, sizes: Sizes) -> Result<(), AllocError> {
     for k in 0..sizes.nodes {
-        let (x, y) = (k % 8 * 100, k / 8 * 100);
+        let (x, y) = (k % 8 * 100, k % 64 / 8 * 100);
         write!(diagram, " node [ id {k} graphics [ x {x} y {y} w 20 h 20 ]")?;
-        let beyond = sizes.pins.saturating_sub(sizes.nodes);
-        let pins = u32::from(k < sizes.pins) + if k == 0 { beyond } else { 0 };
-        for _ in 0..pins {
-            diagram.push_str(" pin [ class 1 x 0 y 0 dirs \"ESWN\" ]")?;
-        }
+        push_pins(diagram, pins_of(k, sizes))?;
         diagram.push_str(" ]")?;
     }
     Ok(())
 }
 
-/// Edges from each node to the fifth after it, from pin to pin, the first ones with a checkpoint.
+/// Edges from each node to the fifth after it, from pin to pin, the first ones with a checkpoint
+/// between four nodes.
 fn push_edges(diagram: &mut String, sizes: Sizes) -> Result<(), AllocError> {
     for k in 0..sizes.edges {
-        let (source, target) = (k % 48, (k + 5) % 48);
+        let source = k % 48;
+        let target = (source + 5) % 48;
         write!(
             diagram,
             " edge [ source {source} target {target} sourcePin 1"
         )?;
         if k < sizes.vias {
-            write!(
-                diagram,
-                " via [ x {} y {} ]",
-                k % 8 * 100 + 50,
-                k / 8 * 100 + 50
-            )?;
+            let (x, y) = (k % 8 * 100 + 50, k % 64 / 8 * 100 + 50);
+            write!(diagram, " via [ x {x} y {y} ]")?;
         }
         diagram.push_str(" ]")?;
     }
@@ -84,35 +96,72 @@ fn diagram(alloc: Global, sizes: Sizes) -> Result<String, AllocError> {
     Ok(diagram)
 }
 
+/// Runs `prove` and `audit` of the diagram, which must end with this output.
+fn refuse(
+    rt: &(impl Abort + Threads + Sync),
+    alloc: Global,
+    diagram: &[u8],
+    output: &str,
+) -> Result<(), Fail> {
+    for words in ["prove|d.gml", "audit|d.gml|missing.txt"] {
+        let row = Row {
+            diagram,
+            ..whole_row(words, Status::Diagram, output)
+        };
+        run_row(rt, alloc, &row)?;
+    }
+    Ok(())
+}
+
+fn refuse_sizes(
+    rt: &(impl Abort + Threads + Sync),
+    alloc: Global,
+    sizes: Sizes,
+    output: &str,
+) -> Result<(), Fail> {
+    let diagram = diagram(alloc, sizes)?;
+    refuse(rt, alloc, diagram.as_bytes(), output)
+}
+
 #[test]
 fn refuses_one_more_of_each(rt: HostRuntime) -> Result<(), Fail> {
     for (sizes, output) in REFUSED {
-        let diagram = diagram(rt.alloc(), sizes)?;
-        for words in ["prove|d.gml", "audit|d.gml|missing.txt"] {
-            let row = Row {
-                diagram: diagram.as_bytes(),
-                ..whole_row(words, Status::Diagram, output)
-            };
-            run_row(&rt, rt.alloc(), &row)?;
-        }
+        refuse_sizes(&rt, rt.alloc(), sizes, output)?;
     }
+    Ok(())
+}
+
+fn prove(
+    rt: &(impl Abort + Threads + Sync),
+    alloc: Global,
+    diagram: &[u8],
+) -> Result<Vec<u8>, Fail> {
+    let row = Row {
+        diagram,
+        ..whole_row("prove|d.gml", Status::Done, "")
+    };
+    written(rt, alloc, &row)
+}
+
+fn audit(
+    rt: &(impl Abort + Threads + Sync),
+    alloc: Global,
+    diagram: &[u8],
+    certificate: &[u8],
+) -> Result<(), Fail> {
+    assert!(rt; certificate.starts_with(b"edge 1 cost "));
+    let row = Row {
+        diagram,
+        script: certificate,
+        ..whole_row("audit|d.gml|s.txt", Status::Done, "audit: yes\n")
+    };
+    run_row(rt, alloc, &row)?;
     Ok(())
 }
 
 #[test]
 fn proves_the_greatest_diagram(rt: HostRuntime) -> Result<(), Fail> {
     let diagram = diagram(rt.alloc(), MOST)?;
-    let row = Row {
-        diagram: diagram.as_bytes(),
-        ..whole_row("prove|d.gml", Status::Done, "")
-    };
-    let certificate = written(&rt, rt.alloc(), &row)?;
-    assert!(rt; certificate.starts_with(b"edge 1 cost "));
-    let audited = Row {
-        diagram: diagram.as_bytes(),
-        script: &certificate,
-        ..whole_row("audit|d.gml|s.txt", Status::Done, "audit: yes\n")
-    };
-    run_row(&rt, rt.alloc(), &audited)?;
-    Ok(())
+    let certificate = prove(&rt, rt.alloc(), diagram.as_bytes())?;
+    audit(&rt, rt.alloc(), diagram.as_bytes(), &certificate)
 }
