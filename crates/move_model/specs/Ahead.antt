@@ -34,6 +34,10 @@ with_stretch penalty heading s v = record {
   lean = (if turn heading s.dir == 0 then pos 0 else across (way_of s.dir) s.from) +ℤ v.lean;
 }
 
+-- the same after so many steps straight on
+abbrev pub with_steps : ℕ → Ahead → Ahead
+with_steps n v = record { cost = v.cost + n; runs = v.runs; lean = v.lean }
+
 -- the same with the stub of a start choice in front, and the choice's connection cost
 abbrev pub with_start : Choice → Ahead → Ahead
 with_start s v = record { cost = stub_length s + s.cost + v.cost; runs = 1 + v.runs; lean = across (way_of s.dir) s.pin +ℤ v.lean }

@@ -5,3 +5,4 @@ pub mod Ways
 pub mod Boxes
 pub mod Corners
 pub mod Problems
+pub mod Stations

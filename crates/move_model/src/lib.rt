@@ -7,6 +7,7 @@
 mod ahead;
 mod laws;
 mod place;
+mod stations;
 
 pub use ahead::{Ahead, Stretch};
 pub use laws::{
@@ -16,3 +17,8 @@ pub use laws::{
     stretches_in_front, stubs_in_front, ways_are_legal, ways_go_on,
 };
 pub use place::Place;
+pub use stations::{
+    first_walks_stop_at_stations, legs_go_straight, rests_have_numbers, rests_have_stations,
+    runs_into_bends_are_held, runs_lie_on_lines, straight_legs_are_held, straight_legs_in_front,
+    ways_double_back_at_checkpoints, ways_have_stations,
+};

@@ -1,15 +1,14 @@
 -- How a first walk lies in the lines of a floor.
-use Rattle.std.specs.Prelude.{ℕ, ◌≡◌, ◌⊎◌, ◌+◌, ◌<◌, ◌≤◌, pos, ◌+ℤ◌, ◌-ℤ◌, List, Any, Contains, take, drop, replicate}
+use Rattle.std.specs.Prelude.{ℕ, ◌≡◌, ◌+◌, ◌<◌, ◌≤◌, pos, ◌+ℤ◌, ◌-ℤ◌, List, Contains, take, drop, replicate}
 use Rattle.plane_geom.specs.declared.point.Point.{Point}
 use Rattle.plane_geom.specs.declared.point.Dir.{Dir}
 use Rattle.plane_geom.specs.declared.point.Dir.TheVariants.{East, South, West, North}
 use Rattle.plane_geom.specs.declared.point.Way.TheVariants.{Vertical, Horizontal}
-use Rattle.plane_geom.specs.declared.rect.Solid.{Solid}
 use Rattle.plane_geom.specs.declared.floor.Line.{Line}
 use Rattle.plane_geom.specs.declared.floor.Floor.{Floor}
 use Rattle.plane_geom.specs.Point.{PointIsOnSheet}
 use Rattle.plane_geom.specs.Along.{way_of}
-use Rattle.plane_geom.specs.Floor.{Holds, SharesSide, IsKept, IsCrossing}
+use Rattle.plane_geom.specs.Floor.{Holds, IsKept, IsCrossing}
 use Rattle.walk_model.specs.Walk.{Walk, point_at, step_at}
 use Rattle.walk_model.specs.Legal.{Passes}
 use Rattle.walk_model.specs.Cost.{turn}
@@ -38,16 +37,6 @@ run_line p East n = record { way = Horizontal; at = p.y; lo = p.x; hi = p.x +ℤ
 run_line p South n = record { way = Vertical; at = p.x; lo = p.y; hi = p.y +ℤ pos n }
 run_line p West n = record { way = Horizontal; at = p.y; lo = p.x -ℤ pos n; hi = p.x }
 run_line p North n = record { way = Vertical; at = p.x; lo = p.y -ℤ pos n; hi = p.y }
-
--- the line shares a point with a closed side of a solid on its whole line, or holds a checkpoint
-abbrev pub IsHeld : List Solid → List Point → Line → Type 0
-IsHeld solids via l = Any (λ s. SharesSide l s.rect) solids ⊎ Any (Holds l) via
-
--- each run of the walk that begins after its point number `from` and ends before its point number `to` is held
-abbrev pub AreRunsHeld : List Solid → List Point → Walk → ℕ → ℕ → Type 0
-AreRunsHeld solids via w from to =
-    (k n : ℕ) (d : Dir) → from ≤ k → 0 < n → k + 1 + n < to → take n (drop (k + 1) w.steps) ≡ replicate n d →
-    0 < turn (step_at w k) d → 0 < turn d (step_at w (k + 1 + n)) → IsHeld solids via (run_line (point_at w (k + 1)) d n)
 
 -- where the walk doubles back between these two of its points, there is a checkpoint
 abbrev pub DoublesBackAtCheckpoints : List Point → Walk → ℕ → ℕ → Type 0

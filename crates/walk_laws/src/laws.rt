@@ -9,7 +9,8 @@ ghost use Rattle.walk_model.specs.Choice.{stub_length};
 ghost use Rattle.walk_model.specs.Cost.{runs};
 ghost use Rattle.walk_model.specs.Legal.{IsTask};
 ghost use Rattle.walk_model.specs.Floors.{IsFloorOf};
-ghost use Rattle.walk_laws.specs.Lines.{AreRunsHeld, DoublesBackAtCheckpoints, GoesAlongLines, IsInOneLeg};
+ghost use Rattle.walk_laws.specs.Lines.{DoublesBackAtCheckpoints, GoesAlongLines, IsInOneLeg};
+ghost use Rattle.walk_laws.specs.Sides.{AreRunsHeldTo};
 ghost use Rattle.walk_model.specs.Order.{IsFirst, Triple};
 ghost use Rattle.walk_model.specs.Walk.{point_at};
 ghost use Rattle.walk_model.specs.declared.task.Task.{Task};
@@ -45,11 +46,14 @@ pub fn first_walks_have_few_runs()
         runs t.walk.steps ≤ 2 + (length task.via + 1) * length lines }
 {}
 
-/// Each run of a first walk that begins after the start port and ends before the end port shares a
-/// point with a closed side of a solid on its whole line, or holds a checkpoint.
-pub fn runs_are_held()
+/// Each run of a first walk that begins after the start port and ends before the end port holds a
+/// checkpoint, or shares a point with a closed side of a solid on its whole line.
+///
+/// The solid lies on the side from which the walk comes to the run; where the walk goes on after
+/// the run in the direction in which it came, on the side of the lesser coordinate.
+pub fn runs_are_held_to_a_side()
     ensures { (solids : List Solid) (task : Task) (t : Triple) → IsTask task → (first : IsFirst solids task t) →
-        AreRunsHeld solids task.via t.walk (stub_length first.legal.start)
+        AreRunsHeldTo solids task.via t.walk (stub_length first.legal.start)
         (length t.walk.steps - stub_length first.legal.end) }
 {}
 

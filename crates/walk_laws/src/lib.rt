@@ -6,7 +6,7 @@ mod sizes;
 
 pub use laws::{
     checkpoints_are_crossings, doublings_back_are_at_checkpoints, first_walks_go_along_lines,
-    first_walks_have_few_runs, one_run_per_free_piece, runs_are_held,
+    first_walks_have_few_runs, one_run_per_free_piece, runs_are_held_to_a_side,
 };
 pub use sizes::{
     both_ways_are_all_runs, first_routes_are_small, first_walks_are_small,

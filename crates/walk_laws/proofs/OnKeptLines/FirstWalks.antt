@@ -16,7 +16,8 @@ use Rattle.walk_model.specs.Legal.{IsTask}
 use Rattle.walk_model.specs.Floors.{IsFloorOf}
 use Rattle.walk_model.specs.Order.{Triple, IsFirst}
 use Rattle.walk_model.proofs.CornerByCorner.Scan.{after-append}
-use Rattle.walk_laws.specs.Lines.{GoesAlongLines, IsInOneLeg, IsHeld, AreRunsHeld, DoublesBackAtCheckpoints, run_line}
+use Rattle.walk_laws.specs.Lines.{GoesAlongLines, IsInOneLeg, DoublesBackAtCheckpoints, run_line}
+use Rattle.walk_laws.specs.Sides.{IsHeldTo, AreRunsHeldTo, held_to}
 use Rattle.walk_laws.proofs.Steps.Clear.{ComesBy}
 use Rattle.walk_laws.proofs.Replacing.Tours.{IsTour, stub, stub_back, tour_from_legal}
 use Rattle.walk_laws.proofs.Replacing.Legs.{tour_part, part_begin, comes_around}
@@ -38,7 +39,7 @@ module _ (solids : List Solid) (task : Task) (t : Triple) (is_task : IsTask task
 
   module _ (middle : List Dir) (tour : IsTour solids task.via first.legal.start t.walk first.legal.end middle) where
     held_run : (xs : List Dir) (u d : Dir) (n : ℕ) (v : Dir) (ys : List Dir) (k : ℕ) → 0 < n → middle ≡ xs ++ u ∷ (replicate n d ++ v ∷ ys) → k ≡ begin + length xs →
-        0 < turn (step_at t.walk k) d → 0 < turn d (step_at t.walk (k + 1 + n)) → IsHeld solids task.via (run_line (point_at t.walk (k + 1)) d n)
+        0 < turn (step_at t.walk k) d → 0 < turn d (step_at t.walk (k + 1 + n)) → IsHeldTo solids task.via (held_to (step_at t.walk k) (step_at t.walk (k + 1 + n))) (run_line (point_at t.walk (k + 1)) d n)
     held_run xs u d zero v ys k some cut place hu hv = absurd (omega arith)
     held_run xs u d (suc n) v ys k some cut place hu hv =
         let run = replicate (suc n) d in
@@ -50,20 +51,22 @@ module _ (solids : List Solid) (task : Task) (t : Triple) (is_task : IsTask task
         let behind : step_at t.walk (k + 1 + suc n) ≡ v =
         step_of solids task t is_task first.legal middle tour ((xs ++ u ∷ []) ++ run) v ys (k + 1 + suc n) last
         (omega (arith, place, length-append xs (u ∷ []), length-append (xs ++ u ∷ []) run, length-replicate n d)) in
-        subst (λ p. IsHeld solids task.via (run_line p d (suc n))) (sym here)
+        subst (λ p. IsHeldTo solids task.via (held_to (step_at t.walk k) (step_at t.walk (k + 1 + suc n))) (run_line p d (suc n))) (sym here)
+        (subst (λ (x : Dir). IsHeldTo solids task.via (held_to x (step_at t.walk (k + 1 + suc n))) (run_line (after first.legal.start.port (xs ++ u ∷ [])) d (suc n))) (sym before)
+        (subst (λ (x : Dir). IsHeldTo solids task.via (held_to u x) (run_line (after first.legal.start.port (xs ++ u ∷ [])) d (suc n))) (sym behind)
         (tour_held solids task t first (chosen_start solids task t is_task first.legal) (chosen_end solids task t is_task first.legal) middle tour xs u d n v ys cut
-        (subst (λ x. 0 < turn x d) before hu) (subst (λ x. 0 < turn d x) behind hv))
+        (subst (λ x. 0 < turn x d) before hu) (subst (λ x. 0 < turn d x) behind hv))))
 
-    held_runs : AreRunsHeld solids task.via t.walk begin finish
+    held_runs : AreRunsHeldTo solids task.via t.walk begin finish
     held_runs k n d from some to equal hu hv =
         let c = cut_at solids task t is_task first.legal middle tour k from (omega arith) in
         behind_step c.front c.behind c.cut c.number (left_of solids task t is_task first.legal middle tour c.front c.behind k c.cut c.number)
       where
-        behind_run : (xs : List Dir) (u : Dir) (rest ys : List Dir) → middle ≡ xs ++ u ∷ rest → k ≡ begin + length xs → rest ≡ replicate n d ++ ys → 0 < length ys → IsHeld solids task.via (run_line (point_at t.walk (k + 1)) d n)
+        behind_run : (xs : List Dir) (u : Dir) (rest ys : List Dir) → middle ≡ xs ++ u ∷ rest → k ≡ begin + length xs → rest ≡ replicate n d ++ ys → 0 < length ys → IsHeldTo solids task.via (held_to (step_at t.walk k) (step_at t.walk (k + 1 + n))) (run_line (point_at t.walk (k + 1)) d n)
         behind_run xs u rest [] cut is run more = absurd (omega (arith, more))
         behind_run xs u rest (v ∷ ys) cut is run more = held_run xs u d n v ys k some (cut ∙ ap (λ ds. xs ++ u ∷ ds) run) is hu hv
 
-        behind_step : (xs rest : List Dir) → middle ≡ xs ++ rest → k ≡ begin + length xs → finish ≡ k + length rest → IsHeld solids task.via (run_line (point_at t.walk (k + 1)) d n)
+        behind_step : (xs rest : List Dir) → middle ≡ xs ++ rest → k ≡ begin + length xs → finish ≡ k + length rest → IsHeldTo solids task.via (held_to (step_at t.walk k) (step_at t.walk (k + 1 + n))) (run_line (point_at t.walk (k + 1)) d n)
         behind_step xs [] cut is left = absurd (omega (arith, left, to))
         behind_step xs (u ∷ rest) cut is left =
             let next : middle ≡ (xs ++ u ∷ []) ++ rest = cut ∙ sym (append_assoc xs (u ∷ []) rest) in
@@ -79,7 +82,7 @@ module _ (solids : List Solid) (task : Task) (t : Triple) (is_task : IsTask task
         (tour_tip solids task t first (chosen_start solids task t is_task first.legal) (chosen_end solids task t is_task first.legal) middle tour s.before s.one s.two s.behind s.cut
         (sym (ap (λ x. turn x s.two) s.is_one) ∙ sym (ap (turn (step_at t.walk k)) s.is_two) ∙ back))
 
-  pub runs_held : AreRunsHeld solids task.via t.walk begin finish
+  pub runs_held : AreRunsHeldTo solids task.via t.walk begin finish
   runs_held = let tour = first_tour in held_runs tour.0 tour.1
 
   pub doublings_back : DoublesBackAtCheckpoints task.via t.walk begin finish

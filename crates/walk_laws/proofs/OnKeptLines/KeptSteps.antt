@@ -23,9 +23,10 @@ use Rattle.walk_model.specs.Order.{Triple, IsFirst}
 use Rattle.walk_model.proofs.CornerByCorner.Scan.{after-append, after-replicate, forward-zero, forward-forward}
 use Rattle.walk_model.proofs.CornerByCorner.Bends.{one_direction, stretch_end}
 use Rattle.walk_laws.specs.Lines.{run_line}
+use Rattle.walk_laws.specs.Sides.{SharesSideTo, held_to}
 use Rattle.walk_laws.proofs.Steps.Clear.{IsClear, IsClearStep, clear_front, clear_back}
 use Rattle.walk_laws.proofs.Steps.Shift.{across-forward}
-use Rattle.walk_laws.proofs.Steps.Flanks.{run_holds}
+use Rattle.walk_laws.proofs.Steps.Flanks.{run_holds, shares_side}
 use Rattle.walk_laws.proofs.Replacing.Parts.{IsPart, part_of_part}
 use Rattle.walk_laws.proofs.Replacing.InnerRuns.{no_doubling, inner_run}
 
@@ -201,7 +202,10 @@ module _ (floor : Floor) (task : Task) (t : Triple) (first : IsFirst floor.solid
           let inner = part_of_part floor.solids task t front us (u ∷ (replicate n d ++ (v ∷ []))) vs back (subst (λ ds. IsPart floor.solids task t front ds back) cut h) in
           let there : forward u 1 (after t.walk.start (front ++ us)) ≡ after q r.before =
           ap (forward u 1) (after-append t.walk.start front us) ∙ sym (after-append q us (u ∷ [])) ∙ ap (after q) (sym f) in
-          inr (inr (subst (λ x. Any (λ s. SharesSide (run_line x d n) s.rect) floor.solids) there (inner_run floor.solids task t first (front ++ us) (vs ++ back) u d v (r.sooner + r.later) hu hv inner)))
+          let run = run_line (forward u 1 (after t.walk.start (front ++ us))) d n in
+          let held : Any (λ s. SharesSideTo (held_to u v) run s.rect) floor.solids = inner_run floor.solids task t first (front ++ us) (vs ++ back) u d v (r.sooner + r.later) hu hv inner in
+          let beside : Any (λ s. SharesSide run s.rect) floor.solids = (held.0, held.1, held.2, held.3, shares_side (held_to u v) run held.1.rect held.4) in
+          inr (inr (subst (λ x. Any (λ s. SharesSide (run_line x d n) s.rect) floor.solids) there beside))
 
   module _ (sides : All (λ s. RectIsOnSheet s.rect) floor.solids) (begin_in : PointIsOnSheet q) (end_in : PointIsOnSheet (after q part)) where
     -- where a run begins and where it ends

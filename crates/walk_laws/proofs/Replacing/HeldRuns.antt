@@ -1,18 +1,19 @@
--- Between the ports of a first walk each run is held, and a doubling back stands at a checkpoint.
+-- Between the ports of a first walk each run is held to its side, and a doubling back stands at a checkpoint.
 use Rattle.std.proofs.Common.{◌≡◌, ℕ, suc, ◌<◌, ◌≤◌, List, [], ◌∷◌, ◌++◌, length, take, replicate, Any, Contains, refl, sym, ap, subst, ◌∙◌, inl, inr, arith, append_assoc, length-append}
 use Rattle.std.proofs.lemmas.List.{length-replicate, take_at, take-replicate}
 use Rattle.plane_geom.specs.declared.point.Point.{Point}
 use Rattle.plane_geom.specs.declared.point.Dir.{Dir}
 use Rattle.plane_geom.specs.declared.rect.Solid.{Solid}
 use Rattle.plane_geom.specs.Point.{forward}
-use Rattle.plane_geom.specs.Floor.{Holds, SharesSide}
+use Rattle.plane_geom.specs.Floor.{Holds}
 use Rattle.walk_model.specs.declared.task.Task.{Task}
 use Rattle.walk_model.specs.Walk.{after}
 use Rattle.walk_model.specs.Choice.{IsChoice}
 use Rattle.walk_model.specs.Cost.{turn}
 use Rattle.walk_model.specs.Order.{Triple, IsFirst}
 use Rattle.walk_model.proofs.CornerByCorner.Scan.{after-append, after-replicate}
-use Rattle.walk_laws.specs.Lines.{run_line, IsHeld}
+use Rattle.walk_laws.specs.Lines.{run_line}
+use Rattle.walk_laws.specs.Sides.{SharesSideTo, IsHeldTo, held_to}
 use Rattle.walk_laws.proofs.Steps.Flanks.{run_holds}
 use Rattle.walk_laws.proofs.Replacing.Tours.{IsTour, stub, stub_back}
 use Rattle.walk_laws.proofs.Replacing.Parts.{IsPart, part_of_part}
@@ -38,9 +39,9 @@ module _ (solids : List Solid) (task : Task) (t : Triple) (first : IsFirst solid
       ∙ ap (λ p. after p (u ∷ leg.behind)) (sym (after-append port leg.front leg.before) ∙ ap (after port) (sym leg.first))
       ∙ ap (λ p. after p leg.behind) (sym (after-append port xs (u ∷ [])))
 
-  -- a run between two other steps shares a side of a solid, or a leg ends on it
+  -- a run between two other steps shares a side to where it is held, or a leg ends on it
   pub tour_held : (xs : List Dir) (u d : Dir) (n : ℕ) (v : Dir) (ys : List Dir) → middle ≡ xs ++ u ∷ (replicate (suc n) d ++ v ∷ ys) → 0 < turn u d → 0 < turn d v →
-      IsHeld solids task.via (run_line (after port (xs ++ u ∷ [])) d (suc n))
+      IsHeldTo solids task.via (held_to u v) (run_line (after port (xs ++ u ∷ [])) d (suc n))
   tour_held xs u d n v ys whole hu hv = by_cut (cut run v ys leg.behind leg.back leg.last)
     where
       run : List Dir
@@ -52,7 +53,7 @@ module _ (solids : List Solid) (task : Task) (t : Triple) (first : IsFirst solid
       p : Point
       p = after port (xs ++ u ∷ [])
 
-      by_cut : Cut run v ys leg.behind leg.back → IsHeld solids task.via (run_line p d (suc n))
+      by_cut : Cut run v ys leg.behind leg.back → IsHeldTo solids task.via (held_to u v) (run_line p d (suc n))
       by_cut (in_front zs f g) =
           let part : IsPart solids task t (stub first.legal.start ++ leg.front) (leg.before ++ ((u ∷ (run ++ v ∷ [])) ++ zs)) (leg.back ++ stub_back first.legal.end) =
           subst (λ ds. IsPart solids task t (stub first.legal.start ++ leg.front) (leg.before ++ u ∷ ds) (leg.back ++ stub_back first.legal.end))
@@ -64,9 +65,9 @@ module _ (solids : List Solid) (task : Task) (t : Triple) (first : IsFirst solid
           ∙ part_begin solids task t first.legal hs he middle tour (leg.front ++ leg.before) ∙ ap (after port) (sym leg.first) in
           let there : forward u 1 (after t.walk.start ((stub first.legal.start ++ leg.front) ++ leg.before)) ≡ p =
           ap (forward u 1) begin ∙ sym (after-append port xs (u ∷ [])) in
-          inl (subst (λ q. Any (λ s. SharesSide (run_line q d (suc n)) s.rect) solids) there
+          inl (subst (λ q. Any (λ s. SharesSideTo (held_to u v) (run_line q d (suc n)) s.rect) solids) there
           (inner_run solids task t first ((stub first.legal.start ++ leg.front) ++ leg.before) (zs ++ (leg.back ++ stub_back first.legal.end)) u d v n hu hv inner))
-      by_cut (behind zs f g) = elim leg.ends as (λ _. IsHeld solids task.via (run_line p d (suc n))) [
+      by_cut (behind zs f g) = elim leg.ends as (λ _. IsHeldTo solids task.via (held_to u v) (run_line p d (suc n))) [
         | inl none ↦ absurd (omega (arith, ap length none, ap length g, length-append zs (v ∷ ys)))
         | inr some ↦ (
             let k = length leg.behind in

@@ -1,5 +1,5 @@
--- Within a part a first walk does not double back, and each run between two others shares a side of a solid.
-use Rattle.std.proofs.Common.{◌≡◌, ◌⊎◌, ℕ, suc, zero, ◌+◌, ◌<◌, ◌≤◌, ℤ, ◌≤ℤ◌, None, List, [], ◌∷◌, ◌++◌, length, replicate, get_or, All, Any, refl, sym, ap, subst, ◌∙◌, inl, inr, arith, append-nil}
+-- Within a part a first walk does not double back, and each run between two others shares a side of a solid to where it is held.
+use Rattle.std.proofs.Common.{◌≡◌, ◌⊎◌, ℕ, suc, zero, ◌+◌, ◌<◌, ◌≤◌, ℤ, ◌≤ℤ◌, ◌<ℤ◌, None, List, [], ◌∷◌, ◌++◌, length, replicate, get_or, All, Any, refl, sym, ap, subst, ◌∙◌, inl, inr, arith, append-nil}
 use Rattle.std.proofs.lemmas.Int.{ints, by_lt_z}
 use Rattle.std.proofs.lemmas.List.Elements.{All-cons, All-nil}
 use Rattle.plane_geom.specs.declared.point.Point.{Point}
@@ -12,7 +12,7 @@ use Rattle.plane_geom.specs.declared.rect.Rect.{Rect}
 use Rattle.plane_geom.specs.declared.rect.Solid.{Solid}
 use Rattle.plane_geom.specs.Point.{forward, opposite}
 use Rattle.plane_geom.specs.Rect.{StepMeets}
-use Rattle.plane_geom.specs.Floor.{SharesSide}
+use Rattle.plane_geom.specs.Along.{across, way_of}
 use Rattle.walk_model.specs.declared.task.Task.{Task}
 use Rattle.walk_model.specs.Walk.{after}
 use Rattle.walk_model.specs.Cost.{turn}
@@ -20,19 +20,32 @@ use Rattle.walk_model.specs.Order.{Triple, IsFirst}
 use Rattle.walk_model.proofs.CornerByCorner.Bends.{stretch_end}
 use Rattle.walk_model.proofs.CornerByCorner.Scan.{after-append, after-replicate, forward-zero, forward-forward}
 use Rattle.walk_laws.specs.Lines.{run_line}
+use Rattle.walk_laws.specs.Sides.{SharesSideTo, held_to}
 use Rattle.walk_laws.proofs.Steps.Clear.{IsClear, IsClearStep, clear-append, clear_front, clear_back}
 use Rattle.walk_laws.proofs.Replacing.Tours.{back_and_there}
 use Rattle.walk_laws.proofs.Steps.Turns.{across_two, one_or_two}
 use Rattle.walk_laws.proofs.Steps.Shift.{exchange, bend_differs}
 use Rattle.walk_laws.proofs.Steps.Flanks.{HasSquare, inside_or_side, beside_square, begin_square, end_square}
-use Rattle.walk_laws.proofs.Replacing.Parts.{IsPart, part_of_part, straight_part, shift_part}
+use Rattle.walk_laws.proofs.Replacing.Parts.{IsPart, part_of_part, straight_part, not_sooner, not_later}
 
 -- a longer run shares the sides of its parts
-pub shares_longer : (r : Rect) (p : Point) (d : Dir) (k m n : ℕ) → k + m ≤ n → SharesSide (run_line (forward d k p) d m) r → SharesSide (run_line p d n) r
-shares_longer r p East k m n h s = (s.0, s.1, s.2, omega (arith, ints, s.3), omega (arith, ints, s.4))
-shares_longer r p South k m n h s = (s.0, s.1, s.2, omega (arith, ints, s.3), omega (arith, ints, s.4))
-shares_longer r p West k m n h s = (s.0, s.1, s.2, omega (arith, ints, s.3), omega (arith, ints, s.4))
-shares_longer r p North k m n h s = (s.0, s.1, s.2, omega (arith, ints, s.3), omega (arith, ints, s.4))
+shares_longer : (side : Dir) (r : Rect) (p : Point) (d : Dir) (k m n : ℕ) → k + m ≤ n → SharesSideTo side (run_line (forward d k p) d m) r → SharesSideTo side (run_line p d n) r
+shares_longer East r p East k m n h s = (s.0, s.1, omega (arith, ints, s.2), omega (arith, ints, s.3))
+shares_longer East r p South k m n h s = (s.0, s.1, omega (arith, ints, s.2), omega (arith, ints, s.3))
+shares_longer East r p West k m n h s = (s.0, s.1, omega (arith, ints, s.2), omega (arith, ints, s.3))
+shares_longer East r p North k m n h s = (s.0, s.1, omega (arith, ints, s.2), omega (arith, ints, s.3))
+shares_longer South r p East k m n h s = (s.0, s.1, omega (arith, ints, s.2), omega (arith, ints, s.3))
+shares_longer South r p South k m n h s = (s.0, s.1, omega (arith, ints, s.2), omega (arith, ints, s.3))
+shares_longer South r p West k m n h s = (s.0, s.1, omega (arith, ints, s.2), omega (arith, ints, s.3))
+shares_longer South r p North k m n h s = (s.0, s.1, omega (arith, ints, s.2), omega (arith, ints, s.3))
+shares_longer West r p East k m n h s = (s.0, s.1, omega (arith, ints, s.2), omega (arith, ints, s.3))
+shares_longer West r p South k m n h s = (s.0, s.1, omega (arith, ints, s.2), omega (arith, ints, s.3))
+shares_longer West r p West k m n h s = (s.0, s.1, omega (arith, ints, s.2), omega (arith, ints, s.3))
+shares_longer West r p North k m n h s = (s.0, s.1, omega (arith, ints, s.2), omega (arith, ints, s.3))
+shares_longer North r p East k m n h s = (s.0, s.1, omega (arith, ints, s.2), omega (arith, ints, s.3))
+shares_longer North r p South k m n h s = (s.0, s.1, omega (arith, ints, s.2), omega (arith, ints, s.3))
+shares_longer North r p West k m n h s = (s.0, s.1, omega (arith, ints, s.2), omega (arith, ints, s.3))
+shares_longer North r p North k m n h s = (s.0, s.1, omega (arith, ints, s.2), omega (arith, ints, s.3))
 
 -- a step and the same step back
 step_back : (r : Rect) (p : Point) (u : Dir) → StepMeets r p u → StepMeets r (forward u 1 p) (opposite u)
@@ -49,7 +62,7 @@ turn_opposite North North h = absurd (omega (arith, h))
 turn_opposite _ _ h = omega (arith, h)
 
 -- a step that is clear, on a line beside no side
-module _ (solids : List Solid) (p : Point) (d u : Dir) (cross : turn u d ≡ 1) (clear : IsClearStep solids None p d) (apart : All (λ s. SharesSide (run_line p d 1) s.rect → ⊥) solids) where
+module _ (solids : List Solid) (p : Point) (d u : Dir) (cross : turn u d ≡ 1) (clear : IsClearStep solids None p d) (apart : All (λ s. SharesSideTo u (run_line p d 1) s.rect → ⊥) solids) where
   no_square : All (λ s. HasSquare s.rect p d u → ⊥) solids
   no_square k s inside h = elim (inside_or_side (get_or solids k s).rect p d u cross h) as (λ _. ⊥) [
     | inl m ↦ clear k s inside (λ e. cc) m
@@ -66,39 +79,39 @@ module _ (solids : List Solid) (p : Point) (d u : Dir) (cross : turn u d ≡ 1) 
   step_at_end k s inside other m = no_square k s inside (end_square (get_or solids k s).rect p d u cross m)
 
 -- a run that is clear, beside no side
-pub record IsAlone (solids : List Solid) (p : Point) (d : Dir) (n : ℕ) : Type 0 where
+record IsAlone (solids : List Solid) (u : Dir) (p : Point) (d : Dir) (n : ℕ) : Type 0 where
   pub clear : IsClear solids None p (replicate n d)
-  pub apart : All (λ s. SharesSide (run_line p d n) s.rect → ⊥) solids
+  pub apart : All (λ s. SharesSideTo u (run_line p d n) s.rect → ⊥) solids
 
-first_alone : (solids : List Solid) (p : Point) (d : Dir) (n : ℕ) → IsAlone solids p d (suc n) → All (λ s. SharesSide (run_line p d 1) s.rect → ⊥) solids
-first_alone solids p d n h k s inside side =
-    h.apart k s inside (shares_longer (get_or solids k s).rect p d 0 1 (suc n) (omega arith) (subst (λ x. SharesSide (run_line x d 1) (get_or solids k s).rect) (sym (forward-zero d p)) side))
+first_alone : (solids : List Solid) (u : Dir) (p : Point) (d : Dir) (n : ℕ) → IsAlone solids u p d (suc n) → All (λ s. SharesSideTo u (run_line p d 1) s.rect → ⊥) solids
+first_alone solids u p d n h k s inside side =
+    h.apart k s inside (shares_longer u (get_or solids k s).rect p d 0 1 (suc n) (omega arith) (subst (λ x. SharesSideTo u (run_line x d 1) (get_or solids k s).rect) (sym (forward-zero d p)) side))
 
-next_alone : (solids : List Solid) (p : Point) (d : Dir) (n : ℕ) → IsAlone solids p d (suc n) → IsAlone solids (forward d 1 p) d n
-next_alone solids p d n h = record {
+next_alone : (solids : List Solid) (u : Dir) (p : Point) (d : Dir) (n : ℕ) → IsAlone solids u p d (suc n) → IsAlone solids u (forward d 1 p) d n
+next_alone solids u p d n h = record {
   clear = h.clear.1;
-  apart = λ k s inside side. h.apart k s inside (shares_longer (get_or solids k s).rect p d 1 n (suc n) (omega arith) side);
+  apart = λ k s inside side. h.apart k s inside (shares_longer u (get_or solids k s).rect p d 1 n (suc n) (omega arith) side);
 }
 
 -- it is clear on both sides as well
-run_beside : (solids : List Solid) (p : Point) (d u : Dir) (n : ℕ) → turn u d ≡ 1 → IsAlone solids p d n → IsClear solids None (forward u 1 p) (replicate n d)
+run_beside : (solids : List Solid) (p : Point) (d u : Dir) (n : ℕ) → turn u d ≡ 1 → IsAlone solids u p d n → IsClear solids None (forward u 1 p) (replicate n d)
 run_beside solids p d u zero cross h = tt
 run_beside solids p d u (suc n) cross h = (
-  step_beside solids p d u cross h.clear.0 (first_alone solids p d n h),
-  subst (λ x. IsClear solids None x (replicate n d)) (exchange u d 1 1 p) (run_beside solids (forward d 1 p) d u n cross (next_alone solids p d n h)),
+  step_beside solids p d u cross h.clear.0 (first_alone solids u p d n h),
+  subst (λ x. IsClear solids None x (replicate n d)) (exchange u d 1 1 p) (run_beside solids (forward d 1 p) d u n cross (next_alone solids u p d n h)),
 )
 
 -- and so are the ways to there at its begin and at its end
-at_begin : (solids : List Solid) (p : Point) (d u : Dir) (n : ℕ) → turn u d ≡ 1 → 0 < n → IsAlone solids p d n → IsClearStep solids None p u
+at_begin : (solids : List Solid) (p : Point) (d u : Dir) (n : ℕ) → turn u d ≡ 1 → 0 < n → IsAlone solids u p d n → IsClearStep solids None p u
 at_begin solids p d u zero cross some h = absurd (omega arith)
-at_begin solids p d u (suc n) cross some h = step_at_begin solids p d u cross h.clear.0 (first_alone solids p d n h)
+at_begin solids p d u (suc n) cross some h = step_at_begin solids p d u cross h.clear.0 (first_alone solids u p d n h)
 
-at_end : (solids : List Solid) (p : Point) (d u : Dir) (n : ℕ) → turn u d ≡ 1 → 0 < n → IsAlone solids p d n → IsClearStep solids None (forward d n p) u
+at_end : (solids : List Solid) (p : Point) (d u : Dir) (n : ℕ) → turn u d ≡ 1 → 0 < n → IsAlone solids u p d n → IsClearStep solids None (forward d n p) u
 at_end solids p d u zero cross some h = absurd (omega arith)
-at_end solids p d u (suc zero) cross some h = step_at_end solids p d u cross h.clear.0 (first_alone solids p d 0 h)
+at_end solids p d u (suc zero) cross some h = step_at_end solids p d u cross h.clear.0 (first_alone solids u p d 0 h)
 at_end solids p d u (suc (suc n)) cross some h =
     subst (λ x. IsClearStep solids None x u) (forward-forward d (suc n) 1 p ∙ ap (λ k. forward d k p) (omega arith))
-    (at_end solids (forward d 1 p) d u (suc n) cross (omega arith) (next_alone solids p d (suc n) h))
+    (at_end solids (forward d 1 p) d u (suc n) cross (omega arith) (next_alone solids u p d (suc n) h))
 
 -- whether a line shares a side, and whether it shares one of some
 pub same_or_not : (a b : ℤ) → (a ≡ b) ⊎ (a ≡ b → ⊥)
@@ -107,26 +120,38 @@ same_or_not a b = by_lt_z a b (λ l. inr (λ e. omega (arith, ints, l, e))) (λ 
 upto_or_not : (a b : ℤ) → (a ≤ℤ b) ⊎ (a ≤ℤ b → ⊥)
 upto_or_not a b = by_lt_z b a (λ l. inr (λ h. omega (arith, ints, l, h))) (λ l. inl l)
 
-side_or_not : (at lo hi first second from to : ℤ) → (((first ≡ at) ⊎ (second ≡ at)) × (lo ≤ℤ to) × (from ≤ℤ hi)) ⊎ ((((first ≡ at) ⊎ (second ≡ at)) × (lo ≤ℤ to) × (from ≤ℤ hi)) → ⊥)
-side_or_not at lo hi first second from to = ends (upto_or_not lo to) (upto_or_not from hi) (same_or_not first at) (same_or_not second at)
+side_or_not : (at lo hi edge from to : ℤ) → ((edge ≡ at) × (lo ≤ℤ to) × (from ≤ℤ hi)) ⊎ ((edge ≡ at) × (lo ≤ℤ to) × (from ≤ℤ hi) → ⊥)
+side_or_not at lo hi edge from to = ends (upto_or_not lo to) (upto_or_not from hi) (same_or_not edge at)
   where
-    ends : (lo ≤ℤ to) ⊎ (lo ≤ℤ to → ⊥) → (from ≤ℤ hi) ⊎ (from ≤ℤ hi → ⊥) → (first ≡ at) ⊎ (first ≡ at → ⊥) → (second ≡ at) ⊎ (second ≡ at → ⊥) →
-        (((first ≡ at) ⊎ (second ≡ at)) × (lo ≤ℤ to) × (from ≤ℤ hi)) ⊎ ((((first ≡ at) ⊎ (second ≡ at)) × (lo ≤ℤ to) × (from ≤ℤ hi)) → ⊥)
-    ends (inr a) b c d = inr (λ h. a h.1)
-    ends (inl a) (inr b) c d = inr (λ h. b h.2)
-    ends (inl a) (inl b) (inl c) d = inl (inl c, a, b)
-    ends (inl a) (inl b) (inr c) (inl d) = inl (inr d, a, b)
-    ends (inl a) (inl b) (inr c) (inr d) = inr (λ h. elim h.0 as (λ _. ⊥) [ inl e ↦ c e | inr e ↦ d e ])
+    ends : (lo ≤ℤ to) ⊎ (lo ≤ℤ to → ⊥) → (from ≤ℤ hi) ⊎ (from ≤ℤ hi → ⊥) → (edge ≡ at) ⊎ (edge ≡ at → ⊥) →
+        ((edge ≡ at) × (lo ≤ℤ to) × (from ≤ℤ hi)) ⊎ ((edge ≡ at) × (lo ≤ℤ to) × (from ≤ℤ hi) → ⊥)
+    ends (inr a) b c = inr (λ h. a h.1)
+    ends (inl a) (inr b) c = inr (λ h. b h.2)
+    ends (inl a) (inl b) (inl c) = inl (c, a, b)
+    ends (inl a) (inl b) (inr c) = inr (λ h. c h.0)
 
-shares_or_not : (way : Way) (at lo hi : ℤ) (r : Rect) → SharesSide (record { way = way; at = at; lo = lo; hi = hi }) r ⊎ (SharesSide (record { way = way; at = at; lo = lo; hi = hi }) r → ⊥)
-shares_or_not Vertical at lo hi r = elim (side_or_not at lo hi r.left r.right r.top r.bottom) as (λ _. SharesSide (record { way = Vertical; at = at; lo = lo; hi = hi }) r ⊎ (SharesSide (record { way = Vertical; at = at; lo = lo; hi = hi }) r → ⊥)) [
-  | inl h ↦ inl (r.top, r.bottom, (h.0, refl, refl), h.1, h.2)
-  | inr not ↦ inr (λ s. not (s.2.0, omega (arith, ints, s.2.2, s.3), omega (arith, ints, s.2.1, s.4)))
+shares_or_not : (side : Dir) (way : Way) (at lo hi : ℤ) (r : Rect) →
+    SharesSideTo side (record { way = way; at = at; lo = lo; hi = hi }) r ⊎ (SharesSideTo side (record { way = way; at = at; lo = lo; hi = hi }) r → ⊥)
+shares_or_not East Vertical at lo hi r = elim (side_or_not at lo hi r.left r.top r.bottom) as (λ _. SharesSideTo East (record { way = Vertical; at = at; lo = lo; hi = hi }) r ⊎ (SharesSideTo East (record { way = Vertical; at = at; lo = lo; hi = hi }) r → ⊥)) [
+  | inl h ↦ inl (refl, h.0, h.1, h.2)
+  | inr not ↦ inr (λ s. not (s.1, s.2, s.3))
 ]
-shares_or_not Horizontal at lo hi r = elim (side_or_not at lo hi r.top r.bottom r.left r.right) as (λ _. SharesSide (record { way = Horizontal; at = at; lo = lo; hi = hi }) r ⊎ (SharesSide (record { way = Horizontal; at = at; lo = lo; hi = hi }) r → ⊥)) [
-  | inl h ↦ inl (r.left, r.right, (h.0, refl, refl), h.1, h.2)
-  | inr not ↦ inr (λ s. not (s.2.0, omega (arith, ints, s.2.2, s.3), omega (arith, ints, s.2.1, s.4)))
+shares_or_not East Horizontal at lo hi r = inr (λ s. let e : Horizontal ≡ Vertical = s.0 in absurd cc)
+shares_or_not South Horizontal at lo hi r = elim (side_or_not at lo hi r.top r.left r.right) as (λ _. SharesSideTo South (record { way = Horizontal; at = at; lo = lo; hi = hi }) r ⊎ (SharesSideTo South (record { way = Horizontal; at = at; lo = lo; hi = hi }) r → ⊥)) [
+  | inl h ↦ inl (refl, h.0, h.1, h.2)
+  | inr not ↦ inr (λ s. not (s.1, s.2, s.3))
 ]
+shares_or_not South Vertical at lo hi r = inr (λ s. let e : Vertical ≡ Horizontal = s.0 in absurd cc)
+shares_or_not West Vertical at lo hi r = elim (side_or_not at lo hi r.right r.top r.bottom) as (λ _. SharesSideTo West (record { way = Vertical; at = at; lo = lo; hi = hi }) r ⊎ (SharesSideTo West (record { way = Vertical; at = at; lo = lo; hi = hi }) r → ⊥)) [
+  | inl h ↦ inl (refl, h.0, h.1, h.2)
+  | inr not ↦ inr (λ s. not (s.1, s.2, s.3))
+]
+shares_or_not West Horizontal at lo hi r = inr (λ s. let e : Horizontal ≡ Vertical = s.0 in absurd cc)
+shares_or_not North Horizontal at lo hi r = elim (side_or_not at lo hi r.bottom r.left r.right) as (λ _. SharesSideTo North (record { way = Horizontal; at = at; lo = lo; hi = hi }) r ⊎ (SharesSideTo North (record { way = Horizontal; at = at; lo = lo; hi = hi }) r → ⊥)) [
+  | inl h ↦ inl (refl, h.0, h.1, h.2)
+  | inr not ↦ inr (λ s. not (s.1, s.2, s.3))
+]
+shares_or_not North Vertical at lo hi r = inr (λ s. let e : Vertical ≡ Horizontal = s.0 in absurd cc)
 
 any_or_all : {A : Type 0} (P : A → Type 0) → ((x : A) → P x ⊎ (P x → ⊥)) → (xs : List A) → Any P xs ⊎ All (λ x. P x → ⊥) xs
 any_or_all P each [] = inr (All-nil (λ x. P x → ⊥))
@@ -138,8 +163,39 @@ any_or_all P each (x ∷ xs) = elim (each x) as (λ _. Any P (x ∷ xs) ⊎ All 
   ]
 ]
 
-pub beside_or_alone : (solids : List Solid) (l : Line) → Any (λ s. SharesSide l s.rect) solids ⊎ All (λ s. SharesSide l s.rect → ⊥) solids
-beside_or_alone solids l = any_or_all (λ s. SharesSide l s.rect) (λ s. shares_or_not l.way l.at l.lo l.hi s.rect) solids
+shares_or_alone : (side : Dir) (solids : List Solid) (l : Line) → Any (λ s. SharesSideTo side l s.rect) solids ⊎ All (λ s. SharesSideTo side l s.rect → ⊥) solids
+shares_or_alone side solids l = any_or_all (λ s. SharesSideTo side l s.rect) (λ s. shares_or_not side l.way l.at l.lo l.hi s.rect) solids
+
+-- where the walk goes on after a run as it came, the run is held to the side on which it would lean less
+backward_leans_less : (u d : Dir) (q : Point) → turn u d ≡ 1 → held_to u u ≡ opposite u → across (way_of d) q <ℤ across (way_of d) (forward u 1 q)
+backward_leans_less East East q h e = absurd (omega (arith, h))
+backward_leans_less East West q h e = absurd (omega (arith, h))
+backward_leans_less South South q h e = absurd (omega (arith, h))
+backward_leans_less South North q h e = absurd (omega (arith, h))
+backward_leans_less West d q h e = absurd (let f : West ≡ East = e in cc)
+backward_leans_less North d q h e = absurd (let f : North ≡ South = e in cc)
+backward_leans_less _ _ q h e = omega (arith, ints)
+
+forward_leans_less : (u d : Dir) (q : Point) → turn u d ≡ 1 → held_to u u ≡ u → across (way_of d) (forward u 2 q) <ℤ across (way_of d) (forward u 1 q)
+forward_leans_less West East q h e = absurd (omega (arith, h))
+forward_leans_less West West q h e = absurd (omega (arith, h))
+forward_leans_less North South q h e = absurd (omega (arith, h))
+forward_leans_less North North q h e = absurd (omega (arith, h))
+forward_leans_less East d q h e = absurd (let f : West ≡ East = e in cc)
+forward_leans_less South d q h e = absurd (let f : North ≡ South = e in cc)
+forward_leans_less _ _ q h e = omega (arith, ints)
+
+same_side : (u : Dir) → (held_to u u ≡ opposite u) ⊎ (held_to u u ≡ u)
+same_side East = inl refl
+same_side South = inl refl
+same_side West = inr refl
+same_side North = inr refl
+
+other_side : (u : Dir) → held_to u (opposite u) ≡ opposite u
+other_side East = refl
+other_side South = refl
+other_side West = refl
+other_side North = refl
 
 -- to double back leads to where it began
 doubling : (u d : Dir) (p : Point) → turn u d ≡ 2 → forward d 1 (forward u 1 p) ≡ p
@@ -164,9 +220,9 @@ module _ (solids : List Solid) (task : Task) (t : Triple) (first : IsFirst solid
         let long : 2 ≡ 0 = ap length none in omega (arith, long))
   ]
 
-  -- a run between two other steps of one part shares a side of a solid
+  -- a run between two other steps of one part shares a side to where it is held
   pub inner_run : (front back : List Dir) (u d v : Dir) (n : ℕ) → 0 < turn u d → 0 < turn d v → IsPart solids task t front (u ∷ (replicate (suc n) d ++ (v ∷ []))) back →
-      Any (λ s. SharesSide (run_line (forward u 1 (after t.walk.start front)) d (suc n)) s.rect) solids
+      Any (λ s. SharesSideTo (held_to u v) (run_line (forward u 1 (after t.walk.start front)) d (suc n)) s.rect) solids
   inner_run front back u d v n hu hv h =
       let q = after t.walk.start front in
       let p = forward u 1 q in
@@ -177,26 +233,37 @@ module _ (solids : List Solid) (task : Task) (t : Triple) (first : IsFirst solid
       part_of_part solids task t front (u ∷ replicate n d) (d ∷ v ∷ []) [] back (subst (λ ds. IsPart solids task t front (u ∷ ds) back) (stretch_end n d (v ∷ [])) h) in
       let cross = no_doubling front ((replicate n d ++ (v ∷ [])) ++ back) u d begin hu in
       let cross' = no_doubling (front ++ (u ∷ replicate n d)) back d v end hv in
-      elim (beside_or_alone solids (run_line p d m)) as (λ _. Any (λ s. SharesSide (run_line p d m) s.rect) solids) [
+      let run_clear : IsClear solids None p (replicate m d) = clear_front solids None p (replicate m d) (v ∷ []) h.clear.1 in
+      elim (shares_or_alone (held_to u v) solids (run_line p d m)) as (λ _. Any (λ s. SharesSideTo (held_to u v) (run_line p d m) s.rect) solids) [
         | inl shares ↦ shares
         | inr apart ↦ absurd (
-            let run_clear : IsClear solids None p (replicate m d) = clear_front solids None p (replicate m d) (v ∷ []) h.clear.1 in
-            let alone : IsAlone solids p d m = record { clear = run_clear; apart = apart } in
-            let back_clear : IsClear solids None q (replicate m d) = subst (λ x. IsClear solids None x (replicate m d)) (back_and_there u 1 q) (run_beside solids p d (opposite u) m (turn_opposite u d cross) alone) in
             elim (across_two d u v cross cross') as (λ _. ⊥) [
               | inl same ↦ (
                   let h' : IsPart solids task t front (u ∷ (replicate m d ++ (u ∷ []))) back = subst (λ (f : Dir). IsPart solids task t front (u ∷ (replicate m d ++ (f ∷ []))) back) same h in
                   let last : IsClear solids None (forward d m p) (u ∷ []) =
                   subst (λ x. IsClear solids None x (u ∷ [])) (after-replicate p m d) (clear_back solids None p (replicate m d) (u ∷ []) h'.clear.1) in
                   let across : forward d m p ≡ forward u 1 (forward d m q) = exchange d u m 1 q in
-                  let over : IsClearStep solids None (forward d m q) u = λ k s inside other meets.
-                  at_end solids p d (opposite u) m (turn_opposite u d cross) (omega arith) alone k s inside other
-                  (subst (λ x. StepMeets (get_or solids k s).rect x (opposite u)) (sym across) (step_back (get_or solids k s).rect (forward d m q) u meets)) in
-                  shift_part solids task t first front back u d m cross (omega arith) h'
-                  (clear-append solids None q (replicate m d) (u ∷ u ∷ []) back_clear
-                  (subst (λ x. IsClear solids None x (u ∷ u ∷ [])) (sym (after-replicate q m d)) (over, subst (λ x. IsClear solids None x (u ∷ [])) across last)))
-                  (h'.clear.0, (at_begin solids p d u m cross (omega arith) alone, run_beside solids p d u m cross alone)))
+                  elim (same_side u) as (λ _. ⊥) [
+                    | inl back_there ↦ (
+                        let side : held_to u v ≡ opposite u = ap (held_to u) same ∙ back_there in
+                        let alone : IsAlone solids (opposite u) p d m = record { clear = run_clear; apart = subst (λ (x : Dir). All (λ s. SharesSideTo x (run_line p d m) s.rect → ⊥) solids) side apart } in
+                        let back_clear : IsClear solids None q (replicate m d) = subst (λ x. IsClear solids None x (replicate m d)) (back_and_there u 1 q) (run_beside solids p d (opposite u) m (turn_opposite u d cross) alone) in
+                        let over : IsClearStep solids None (forward d m q) u = λ k s inside other meets.
+                        at_end solids p d (opposite u) m (turn_opposite u d cross) (omega arith) alone k s inside other
+                        (subst (λ x. StepMeets (get_or solids k s).rect x (opposite u)) (sym across) (step_back (get_or solids k s).rect (forward d m q) u meets)) in
+                        not_sooner solids task t first front back u d m cross (omega arith) h' (backward_leans_less u d q cross back_there)
+                        (clear-append solids None q (replicate m d) (u ∷ u ∷ []) back_clear
+                        (subst (λ x. IsClear solids None x (u ∷ u ∷ [])) (sym (after-replicate q m d)) (over, subst (λ x. IsClear solids None x (u ∷ [])) across last))))
+                    | inr on_there ↦ (
+                        let side : held_to u v ≡ u = ap (held_to u) same ∙ on_there in
+                        let alone : IsAlone solids u p d m = record { clear = run_clear; apart = subst (λ (x : Dir). All (λ s. SharesSideTo x (run_line p d m) s.rect → ⊥) solids) side apart } in
+                        not_later solids task t first front back u d m cross (omega arith) h' (forward_leans_less u d q cross on_there)
+                        (h'.clear.0, (at_begin solids p d u m cross (omega arith) alone, run_beside solids p d u m cross alone)))
+                  ])
               | inr other ↦ (
+                  let side : held_to u v ≡ opposite u = ap (held_to u) other ∙ other_side u in
+                  let alone : IsAlone solids (opposite u) p d m = record { clear = run_clear; apart = subst (λ (x : Dir). All (λ s. SharesSideTo x (run_line p d m) s.rect → ⊥) solids) side apart } in
+                  let back_clear : IsClear solids None q (replicate m d) = subst (λ x. IsClear solids None x (replicate m d)) (back_and_there u 1 q) (run_beside solids p d (opposite u) m (turn_opposite u d cross) alone) in
                   let ends : after q (u ∷ (replicate m d ++ (v ∷ []))) ≡ forward d m q =
                   after-append p (replicate m d) (v ∷ []) ∙ ap (λ x. forward v 1 x) (after-replicate p m d ∙ exchange d u m 1 q) ∙ ap (λ (f : Dir). forward f 1 (forward u 1 (forward d m q))) other ∙ back_and_there u 1 (forward d m q) in
                   let straight : u ∷ (replicate m d ++ (v ∷ [])) ≡ replicate m d = straight_part solids task t first front (u ∷ (replicate m d ++ (v ∷ []))) back d m h ends back_clear in

@@ -1,9 +1,11 @@
 -- Parts of a walk that other clear steps may replace, and what a first walk makes of them.
-use Rattle.std.proofs.Common.{◌≡◌, ℕ, ◌+◌, ◌*◌, ◌<◌, ◌≤◌, None, List, [], ◌∷◌, ◌++◌, length, replicate, sym, ap, subst, ◌∙◌, arith, append_assoc, length-append}
+use Rattle.std.proofs.Common.{◌≡◌, ℕ, ◌+◌, ◌*◌, ◌<◌, ◌≤◌, ◌≤ℤ◌, ◌<ℤ◌, None, Some, List, [], ◌∷◌, ◌++◌, length, replicate, sym, ap, subst, ◌∙◌, arith, append_assoc, length-append}
 use Rattle.std.proofs.lemmas.Int.{ints}
 use Rattle.std.proofs.lemmas.List.{length-replicate}
 use Rattle.std.proofs.lemmas.Nat.{mul-le}
 use Rattle.plane_geom.specs.declared.point.Dir.{Dir}
+use Rattle.plane_geom.specs.declared.point.Point.{Point}
+use Rattle.plane_geom.specs.Along.{across, way_of}
 use Rattle.plane_geom.specs.declared.rect.Solid.{Solid}
 use Rattle.plane_geom.specs.Point.{forward}
 use Rattle.walk_model.specs.declared.task.Task.{Task}
@@ -14,8 +16,9 @@ use Rattle.walk_model.specs.Order.{Triple, IsLegalTriple, IsFirst, triple_cost}
 use Rattle.walk_model.proofs.CornerByCorner.Scan.{after-append, after-replicate, forward-forward}
 use Rattle.walk_laws.proofs.Steps.Clear.{IsClear, clear-append, clear_front, clear_back}
 use Rattle.walk_laws.proofs.Replacing.Least.{first_no_worse}
+use Rattle.walk_laws.proofs.Steps.Fronts.{Leave, leave}
 use Rattle.walk_laws.proofs.Steps.Straight.{straight_bends, straight_only}
-use Rattle.walk_laws.proofs.Steps.Shift.{between, sooner, later, sooner_bends, later_bends, one_side_better, exchange}
+use Rattle.walk_laws.proofs.Steps.Shift.{between, sooner, later, runs_sooner, runs_later, lean_between, lean_sooner, lean_between_begun, lean_later, before_same, behind_same, sooner_bends, later_bends, exchange}
 
 -- the same start, choices and other steps
 abbrev pub with_steps : Triple → List Dir → Triple
@@ -78,42 +81,83 @@ module _ (solids : List Solid) (task : Task) (t : Triple) (first : IsFirst solid
         length-replicate m d,
       ))
 
-  -- a run between two equal steps across it has a clear way on one side of it alone
-  pub shift_part : (front back : List Dir) (u d : Dir) (n : ℕ) → turn u d ≡ 1 → 0 < n → IsPart solids task t front (u ∷ (replicate n d ++ (u ∷ []))) back →
-      IsClear solids None (after t.walk.start front) (replicate n d ++ (u ∷ u ∷ [])) → IsClear solids None (after t.walk.start front) (u ∷ u ∷ replicate n d) → ⊥
-  shift_part front back u d n cross some h c c' =
-      let p = t.walk.start in
-      let q = after p front in
-      let r = forward d n q in
-      let end : after q (u ∷ (replicate n d ++ (u ∷ []))) ≡ forward u 2 r =
-      after-append (forward u 1 q) (replicate n d) (u ∷ []) ∙ ap (forward u 1) (after-replicate (forward u 1 q) n d ∙ exchange d u n 1 q) ∙ forward-forward u 1 1 r in
-      let end_sooner : after q (replicate n d ++ (u ∷ u ∷ [])) ≡ forward u 2 r =
-      after-append q (replicate n d) (u ∷ u ∷ []) ∙ ap (λ x. after x (u ∷ u ∷ [])) (after-replicate q n d) ∙ forward-forward u 1 1 r in
-      let end_later : after q (u ∷ u ∷ replicate n d) ≡ forward u 2 r =
-      after-replicate (forward u 1 (forward u 1 q)) n d ∙ ap (forward d n) (forward-forward u 1 1 q) ∙ exchange d u n 2 q in
-      let is_between : t.walk.steps ≡ between front back u d n = h.steps ∙ ap (λ ds. front ++ (u ∷ ds)) (append_assoc (replicate n d) (u ∷ []) back) in
-      let is_sooner : front ++ ((replicate n d ++ (u ∷ u ∷ [])) ++ back) ≡ sooner front back u d n = ap (λ ds. front ++ ds) (append_assoc (replicate n d) (u ∷ u ∷ []) back) in
-      let one = with_steps t (sooner front back u d n) in
-      let two = with_steps t (later front back u d n) in
-      let legal_one : IsLegalTriple solids task one = subst (λ ds. IsLegalTriple solids task (with_steps t ds)) is_sooner (h.swap (replicate n d ++ (u ∷ u ∷ [])) (end_sooner ∙ sym end) c) in
-      let legal_two : IsLegalTriple solids task two = h.swap (u ∷ u ∷ replicate n d) (end_later ∙ sym end) c' in
-      let over_one = first_no_worse solids task t one first legal_one in
-      let over_two = first_no_worse solids task t two first legal_two in
-      let long : length (between front back u d n) ≡ length front + (n + (2 + length back)) =
-      omega (arith, length-append front (u ∷ (replicate n d ++ (u ∷ back))), length-append (replicate n d) (u ∷ back), length-replicate n d) in
-      let long_one : length (sooner front back u d n) ≡ length front + (n + (2 + length back)) =
-      omega (arith, length-append front (replicate n d ++ (u ∷ u ∷ back)), length-append (replicate n d) (u ∷ u ∷ back), length-replicate n d) in
-      let long_two : length (later front back u d n) ≡ length front + (n + (2 + length back)) =
-      omega (arith, length-append front (u ∷ u ∷ (replicate n d ++ back)), length-append (replicate n d) back, length-replicate n d) in
-      let bends_one = mul-le task.penalty (bends (sooner front back u d n)) task.penalty (bends (between front back u d n)) (omega arith) (sooner_bends front back u d n cross some) in
-      let bends_two = mul-le task.penalty (bends (later front back u d n)) task.penalty (bends (between front back u d n)) (omega arith) (later_bends front back u d n cross some) in
-      let same_bends = ap (λ ds. task.penalty * bends ds) is_between in
-      let cost_one : triple_cost task one ≤ triple_cost task t = omega (arith, long, long_one, bends_one, ap length is_between, same_bends) in
-      let cost_two : triple_cost task two ≤ triple_cost task t = omega (arith, long, long_two, bends_two, ap length is_between, same_bends) in
-      let same_runs : runs t.walk.steps ≡ runs (between front back u d n) = ap runs is_between in
-      let same_lean : lean p t.walk.steps ≡ lean p (between front back u d n) = ap (lean p) is_between in
-      one_side_better front back u d n p cross some
-      (omega (arith, over_one.fewer cost_one, same_runs))
-      (omega (arith, over_two.fewer cost_two, same_runs))
-      (λ f. omega (arith, ints, same_lean, over_one.lower cost_one (omega (arith, f, same_runs))))
-      (λ f. omega (arith, ints, same_lean, over_two.lower cost_two (omega (arith, f, same_runs))))
+  -- a run between two equal steps across it
+  module _ (front back : List Dir) (u d : Dir) (n : ℕ) (cross : turn u d ≡ 1) (some : 0 < n) (h : IsPart solids task t front (u ∷ (replicate n d ++ (u ∷ []))) back) where
+    abbrev origin : Point
+    origin = t.walk.start
+
+    abbrev there_begun : Point
+    there_begun = after origin front
+
+    abbrev there_ended : Point
+    there_ended = forward d n there_begun
+
+    is_there : after there_begun (u ∷ (replicate n d ++ (u ∷ []))) ≡ forward u 2 there_ended
+    is_there = after-append (forward u 1 there_begun) (replicate n d) (u ∷ []) ∙ ap (forward u 1) (after-replicate (forward u 1 there_begun) n d ∙ exchange d u n 1 there_begun) ∙ forward-forward u 1 1 there_ended
+
+    is_between : t.walk.steps ≡ between front back u d n
+    is_between = h.steps ∙ ap (λ ds. front ++ (u ∷ ds)) (append_assoc (replicate n d) (u ∷ []) back)
+
+    long : length (between front back u d n) ≡ length front + (n + (2 + length back))
+    long = omega (arith, length-append front (u ∷ (replicate n d ++ (u ∷ back))), length-append (replicate n d) (u ∷ back), length-replicate n d)
+
+    -- no clear way lies one step sooner where that leans less
+    pub not_sooner : across (way_of d) there_begun <ℤ across (way_of d) (forward u 1 there_begun) → IsClear solids None there_begun (replicate n d ++ (u ∷ u ∷ [])) → ⊥
+    not_sooner less c =
+        let there : after there_begun (replicate n d ++ (u ∷ u ∷ [])) ≡ forward u 2 there_ended =
+        after-append there_begun (replicate n d) (u ∷ u ∷ []) ∙ ap (λ x. after x (u ∷ u ∷ [])) (after-replicate there_begun n d) ∙ forward-forward u 1 1 there_ended in
+        let is_sooner : front ++ ((replicate n d ++ (u ∷ u ∷ [])) ++ back) ≡ sooner front back u d n = ap (λ ds. front ++ ds) (append_assoc (replicate n d) (u ∷ u ∷ []) back) in
+        let one = with_steps t (sooner front back u d n) in
+        let legal : IsLegalTriple solids task one = subst (λ ds. IsLegalTriple solids task (with_steps t ds)) is_sooner (h.swap (replicate n d ++ (u ∷ u ∷ [])) (there ∙ sym is_there) c) in
+        let over = first_no_worse solids task t one first legal in
+        let long_one : length (sooner front back u d n) ≡ length front + (n + (2 + length back)) =
+        omega (arith, length-append front (replicate n d ++ (u ∷ u ∷ back)), length-append (replicate n d) (u ∷ u ∷ back), length-replicate n d) in
+        let bends_one = mul-le task.penalty (bends (sooner front back u d n)) task.penalty (bends (between front back u d n)) (omega arith) (sooner_bends front back u d n cross some) in
+        let same_bends = ap (λ ds. task.penalty * bends ds) is_between in
+        let cost_one : triple_cost task one ≤ triple_cost task t = omega (arith, long, long_one, bends_one, ap length is_between, same_bends) in
+        let same_runs : runs t.walk.steps ≡ runs (between front back u d n) = ap runs is_between in
+        let same_lean : lean origin t.walk.steps ≡ lean origin (between front back u d n) = ap (lean origin) is_between in
+        let l = leave front in
+        let before : l.0 ≡ Some u = before_same front back u d n cross some l.0 l.1 (omega (arith, over.fewer cost_one, same_runs)) in
+        let leaves : Leave front (Some u) = subst (Leave front) before l.1 in
+        let runs_one = runs_sooner front back u d n origin cross some leaves in
+        omega (arith, ints, less, over.lower cost_one (omega (arith, runs_one, same_runs)), same_lean, lean_between front back u d n origin cross some leaves, lean_sooner front back u d n origin cross some leaves)
+
+    -- no clear way lies one step later where that leans less
+    pub not_later : across (way_of d) (forward u 2 there_begun) <ℤ across (way_of d) (forward u 1 there_begun) → IsClear solids None there_begun (u ∷ u ∷ replicate n d) → ⊥
+    not_later less c =
+        let there : after there_begun (u ∷ u ∷ replicate n d) ≡ forward u 2 there_ended =
+        after-replicate (forward u 1 (forward u 1 there_begun)) n d ∙ ap (forward d n) (forward-forward u 1 1 there_begun) ∙ exchange d u n 2 there_begun in
+        let two = with_steps t (later front back u d n) in
+        let legal : IsLegalTriple solids task two = h.swap (u ∷ u ∷ replicate n d) (there ∙ sym is_there) c in
+        let over = first_no_worse solids task t two first legal in
+        let long_two : length (later front back u d n) ≡ length front + (n + (2 + length back)) =
+        omega (arith, length-append front (u ∷ u ∷ (replicate n d ++ back)), length-append (replicate n d) back, length-replicate n d) in
+        let bends_two = mul-le task.penalty (bends (later front back u d n)) task.penalty (bends (between front back u d n)) (omega arith) (later_bends front back u d n cross some) in
+        let same_bends = ap (λ ds. task.penalty * bends ds) is_between in
+        let cost_two : triple_cost task two ≤ triple_cost task t = omega (arith, long, long_two, bends_two, ap length is_between, same_bends) in
+        let same_runs : runs t.walk.steps ≡ runs (between front back u d n) = ap runs is_between in
+        let same_lean : lean origin t.walk.steps ≡ lean origin (between front back u d n) = ap (lean origin) is_between in
+        let on = behind_same front u d n origin cross some back (omega (arith, over.fewer cost_two, same_runs)) in
+        let rest = on.0 in
+        let e : back ≡ u ∷ rest = on.1 in
+        let runs_two : runs (later front back u d n) ≡ runs (between front back u d n) =
+        subst (λ (b : List Dir). runs (later front b u d n) ≡ runs (between front b u d n)) (sym e) (runs_later front u d n origin cross some rest) in
+        let at : after origin (front ++ u ∷ []) ≡ forward u 1 there_begun = after-append origin front (u ∷ []) in
+        let further : forward u 1 (after origin (front ++ u ∷ [])) ≡ forward u 2 there_begun = ap (forward u 1) at ∙ forward-forward u 1 1 there_begun in
+        let low : lean origin t.walk.steps ≤ℤ lean origin (later front back u d n) = over.lower cost_two (omega (arith, runs_two, same_runs)) in
+        let between_is : lean origin (between front back u d n) ≡ lean origin (between front (u ∷ rest) u d n) = ap (λ (b : List Dir). lean origin (between front b u d n)) e in
+        let later_is : lean origin (later front back u d n) ≡ lean origin (later front (u ∷ rest) u d n) = ap (λ (b : List Dir). lean origin (later front b u d n)) e in
+        omega (
+          arith,
+          ints,
+          less,
+          low,
+          same_lean,
+          between_is,
+          later_is,
+          lean_between_begun front u d n origin cross some rest,
+          lean_later front u d n origin cross some rest,
+          ap (across (way_of d)) at,
+          ap (across (way_of d)) further,
+        )

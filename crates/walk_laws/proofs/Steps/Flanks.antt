@@ -1,15 +1,18 @@
--- A solid that meets a step beside a run holds a step of the run inside, or has a side under it.
-use Rattle.std.proofs.Common.{◌≡◌, ◌⊎◌, ℕ, ◌≤◌, pos, ◌+ℤ◌, ◌-ℤ◌, refl, inl, inr, arith}
+-- A solid that meets a step beside a run holds a step of the run inside, or has its side to there under it.
+use Rattle.std.proofs.Common.{◌≡◌, ◌⊎◌, ℕ, ◌≤◌, pos, ◌+ℤ◌, ◌-ℤ◌, refl, sym, subst, inl, inr, arith}
 use Rattle.std.proofs.lemmas.Int.{ints, by_lt_z}
 use Rattle.plane_geom.specs.declared.point.Point.{Point}
 use Rattle.plane_geom.specs.declared.point.Dir.{Dir}
 use Rattle.plane_geom.specs.declared.point.Dir.TheVariants.{East, South, West, North}
+use Rattle.plane_geom.specs.declared.point.Way.{Way}
+use Rattle.plane_geom.specs.declared.floor.Line.{Line}
 use Rattle.plane_geom.specs.declared.rect.Rect.{Rect}
 use Rattle.plane_geom.specs.Point.{forward}
 use Rattle.plane_geom.specs.Rect.{StepMeets, HasWithin}
-use Rattle.plane_geom.specs.Floor.{Holds, SharesSide}
+use Rattle.plane_geom.specs.Floor.{Holds, SharesSide, SideOn}
 use Rattle.walk_model.specs.Cost.{turn}
 use Rattle.walk_laws.specs.Lines.{run_line}
+use Rattle.walk_laws.specs.Sides.{SharesSideTo}
 
 -- the line of a run holds each of its points
 pub run_holds : (p : Point) (d : Dir) (n k : ℕ) → k ≤ n → Holds (run_line p d n) (forward d k p)
@@ -18,37 +21,44 @@ run_holds p South n k h = record { along = p.y +ℤ pos k; from = omega (arith, 
 run_holds p West n k h = record { along = p.x -ℤ pos k; from = omega (arith, ints); to = omega (arith, ints); here = refl }
 run_holds p North n k h = record { along = p.y -ℤ pos k; from = omega (arith, ints); to = omega (arith, ints); here = refl }
 
+-- a side from which the solid lies in some direction is a side
+pub shares_side : (side : Dir) (l : Line) (r : Rect) → SharesSideTo side l r → SharesSide l r
+shares_side East l r h = (r.top, r.bottom, subst (λ (w : Way). SideOn r w l.at r.top r.bottom) (sym h.0) (inl h.1, refl, refl), h.2, h.3)
+shares_side South l r h = (r.left, r.right, subst (λ (w : Way). SideOn r w l.at r.left r.right) (sym h.0) (inl h.1, refl, refl), h.2, h.3)
+shares_side West l r h = (r.top, r.bottom, subst (λ (w : Way). SideOn r w l.at r.top r.bottom) (sym h.0) (inr h.1, refl, refl), h.2, h.3)
+shares_side North l r h = (r.left, r.right, subst (λ (w : Way). SideOn r w l.at r.left r.right) (sym h.0) (inr h.1, refl, refl), h.2, h.3)
+
 -- the unit square beside a step lies in the closed rectangle
 pub record HasSquare (r : Rect) (p : Point) (d u : Dir) : Type 0 where
   pub near : HasWithin r p
   pub far : HasWithin r (forward u 1 (forward d 1 p))
 
--- what holds the square beside a step has the step inside, or a side under it
-pub inside_or_side : (r : Rect) (p : Point) (d u : Dir) → turn u d ≡ 1 → HasSquare r p d u → StepMeets r p d ⊎ SharesSide (run_line p d 1) r
+-- what holds the square beside a step has the step inside, or its side to there under it
+pub inside_or_side : (r : Rect) (p : Point) (d u : Dir) → turn u d ≡ 1 → HasSquare r p d u → StepMeets r p d ⊎ SharesSideTo u (run_line p d 1) r
 inside_or_side r p East South h s = by_lt_z r.top p.y
     (λ l. inl (l, omega (arith, ints, s.far.bottom), s.near.left, s.far.right))
-    (λ l. inr (r.left, r.right, (inl (omega (arith, ints, s.near.top)), refl, refl), omega (arith, ints, s.near.right), omega (arith, ints, s.far.right, s.near.left)))
+    (λ l. inr (refl, omega (arith, ints, s.near.top), omega (arith, ints, s.near.right), omega (arith, ints, s.far.right, s.near.left)))
 inside_or_side r p East North h s = by_lt_z p.y r.bottom
     (λ l. inl (omega (arith, ints, s.far.top), l, s.near.left, s.far.right))
-    (λ l. inr (r.left, r.right, (inr (omega (arith, ints, s.near.bottom)), refl, refl), omega (arith, ints, s.near.right), omega (arith, ints, s.far.right, s.near.left)))
+    (λ l. inr (refl, omega (arith, ints, s.near.bottom), omega (arith, ints, s.near.right), omega (arith, ints, s.far.right, s.near.left)))
 inside_or_side r p West South h s = by_lt_z r.top p.y
     (λ l. inl (l, omega (arith, ints, s.far.bottom), s.far.left, s.near.right))
-    (λ l. inr (r.left, r.right, (inl (omega (arith, ints, s.near.top)), refl, refl), omega (arith, ints, s.near.right), omega (arith, ints, s.far.left, s.near.left)))
+    (λ l. inr (refl, omega (arith, ints, s.near.top), omega (arith, ints, s.near.right), omega (arith, ints, s.far.left, s.near.left)))
 inside_or_side r p West North h s = by_lt_z p.y r.bottom
     (λ l. inl (omega (arith, ints, s.far.top), l, s.far.left, s.near.right))
-    (λ l. inr (r.left, r.right, (inr (omega (arith, ints, s.near.bottom)), refl, refl), omega (arith, ints, s.near.right), omega (arith, ints, s.far.left, s.near.left)))
+    (λ l. inr (refl, omega (arith, ints, s.near.bottom), omega (arith, ints, s.near.right), omega (arith, ints, s.far.left, s.near.left)))
 inside_or_side r p South East h s = by_lt_z r.left p.x
     (λ l. inl (l, omega (arith, ints, s.far.right), s.near.top, s.far.bottom))
-    (λ l. inr (r.top, r.bottom, (inl (omega (arith, ints, s.near.left)), refl, refl), omega (arith, ints, s.near.bottom), omega (arith, ints, s.far.bottom, s.near.top)))
+    (λ l. inr (refl, omega (arith, ints, s.near.left), omega (arith, ints, s.near.bottom), omega (arith, ints, s.far.bottom, s.near.top)))
 inside_or_side r p South West h s = by_lt_z p.x r.right
     (λ l. inl (omega (arith, ints, s.far.left), l, s.near.top, s.far.bottom))
-    (λ l. inr (r.top, r.bottom, (inr (omega (arith, ints, s.near.right)), refl, refl), omega (arith, ints, s.near.bottom), omega (arith, ints, s.far.bottom, s.near.top)))
+    (λ l. inr (refl, omega (arith, ints, s.near.right), omega (arith, ints, s.near.bottom), omega (arith, ints, s.far.bottom, s.near.top)))
 inside_or_side r p North East h s = by_lt_z r.left p.x
     (λ l. inl (l, omega (arith, ints, s.far.right), s.far.top, s.near.bottom))
-    (λ l. inr (r.top, r.bottom, (inl (omega (arith, ints, s.near.left)), refl, refl), omega (arith, ints, s.near.bottom), omega (arith, ints, s.far.top, s.near.top)))
+    (λ l. inr (refl, omega (arith, ints, s.near.left), omega (arith, ints, s.near.bottom), omega (arith, ints, s.far.top, s.near.top)))
 inside_or_side r p North West h s = by_lt_z p.x r.right
     (λ l. inl (omega (arith, ints, s.far.left), l, s.far.top, s.near.bottom))
-    (λ l. inr (r.top, r.bottom, (inr (omega (arith, ints, s.near.right)), refl, refl), omega (arith, ints, s.near.bottom), omega (arith, ints, s.far.top, s.near.top)))
+    (λ l. inr (refl, omega (arith, ints, s.near.right), omega (arith, ints, s.near.bottom), omega (arith, ints, s.far.top, s.near.top)))
 inside_or_side _ _ _ _ h s = absurd (omega (arith, h))
 
 -- a rectangle that meets another edge of the square holds the square

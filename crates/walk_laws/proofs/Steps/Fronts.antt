@@ -1,5 +1,5 @@
 -- What the steps in front leave to those after them: their last direction.
-use Rattle.std.proofs.Common.{◌≡◌, ◌+◌, ◌+ℤ◌, List, [], ◌∷◌, ◌++◌, Option, Some, None, arith}
+use Rattle.std.proofs.Common.{◌≡◌, ◌+◌, ◌+ℤ◌, List, [], ◌∷◌, ◌++◌, Option, Some, None, refl, ap, subst, arith}
 use Rattle.std.proofs.lemmas.Int.{ints}
 use Rattle.plane_geom.specs.declared.point.Point.{Point}
 use Rattle.plane_geom.specs.declared.point.Dir.{Dir}
@@ -27,3 +27,13 @@ leave (d ∷ xs) = (
     lean_on = λ p ds. omega (arith, ints, lean_after-append d (forward d 1 p) xs ds);
   },
 )
+
+last_end : (d : Dir) (xs : List Dir) (u : Dir) → last_of d (xs ++ u ∷ []) ≡ u
+last_end d [] u = refl
+last_end d (e ∷ xs) u = last_end e xs u
+
+-- steps that end with a step leave its direction
+pub leave_end : (front : List Dir) (u : Dir) → Leave (front ++ u ∷ []) (Some u)
+unfolding leave
+leave_end [] u = (leave (u ∷ [])).1
+leave_end (d ∷ xs) u = subst (Leave (d ∷ (xs ++ u ∷ []))) (ap Some (last_end d xs u)) (leave (d ∷ (xs ++ u ∷ []))).1

@@ -1,5 +1,5 @@
 -- A run between two equal steps across it, and the same run one step to either side.
-use Rattle.std.proofs.Common.{◌≡◌, ◌≢◌, ℕ, ◌+◌, ◌<◌, ◌≤◌, ℤ, ◌+ℤ◌, ◌≤ℤ◌, List, [], ◌∷◌, ◌++◌, replicate, Option, Some, None, refl, sym, ap, subst, ◌∙◌, inl, inr, arith}
+use Rattle.std.proofs.Common.{◌≡◌, ◌≢◌, ℕ, ◌+◌, ◌<◌, ◌≤◌, ℤ, ◌+ℤ◌, List, [], ◌∷◌, ◌++◌, replicate, Option, Some, None, refl, sym, ap, ◌∙◌, inl, inr, arith, append_assoc}
 use Rattle.std.proofs.lemmas.Int.{ints}
 use Rattle.plane_geom.specs.declared.point.Point.{Point}
 use Rattle.plane_geom.specs.declared.point.Dir.{Dir}
@@ -13,7 +13,7 @@ use Rattle.walk_model.proofs.CornerByCorner.Bends.{bends_from-stretch, runs_afte
 use Rattle.walk_model.proofs.CornerByCorner.Shapes.{runs_from, new_runs, new_lean, lean_after-stretch}
 use Rattle.walk_model.proofs.CornerByCorner.Scan.{forward-forward}
 use Rattle.walk_laws.proofs.Steps.Turns.{triangle, bends_after_by}
-use Rattle.walk_laws.proofs.Steps.Fronts.{Leave, leave}
+use Rattle.walk_laws.proofs.Steps.Fronts.{Leave, leave, leave_end}
 
 -- steps in two directions may be exchanged
 pub exchange : (d e : Dir) (m n : ℕ) (p : Point) → forward d m (forward e n p) ≡ forward e n (forward d m p)
@@ -33,14 +33,6 @@ across-forward East n p = refl
 across-forward South n p = refl
 across-forward West n p = refl
 across-forward North n p = refl
-
--- of a line and those one step beside it, one leans less
-across_beside : (u d : Dir) (p : Point) → turn u d ≡ 1 → across (way_of d) (forward u 1 p) ≤ℤ across (way_of d) p → across (way_of d) (forward u 1 p) ≤ℤ across (way_of d) (forward u 2 p) → ⊥
-across_beside East East p h i j = omega (arith, h)
-across_beside South South p h i j = omega (arith, h)
-across_beside West West p h i j = omega (arith, h)
-across_beside North North p h i j = omega (arith, h)
-across_beside _ _ p h i j = omega (arith, ints, h)
 
 -- directions with a bend between them differ
 pub bend_differs : (u d : Dir) → 0 < turn u d → u ≢ d
@@ -131,7 +123,7 @@ module _ (front back : List Dir) (u d : Dir) (n : ℕ) (cross : turn u d ≡ 1) 
       )
 
   -- where the run one step sooner has no fewer runs, the step before goes the same way
-  before_same : (last : Option Dir) → Leave front last → runs (between front back u d n) ≤ runs (sooner front back u d n) → last ≡ Some u
+  pub before_same : (last : Option Dir) → Leave front last → runs (between front back u d n) ≤ runs (sooner front back u d n) → last ≡ Some u
   before_same last l h =
       goes_on last u (replicate n d ++ (u ∷ back)) (omega (
         arith,
@@ -145,133 +137,149 @@ module _ (front back : List Dir) (u d : Dir) (n : ℕ) (cross : turn u d ≡ 1) 
         runs_after-stretch u 1 back,
       ))
 
--- where the run one step later has no fewer runs, the step after it goes the same way
-behind_same : (front back : List Dir) (u d : Dir) (n : ℕ) → 0 < turn u d → 0 < turn d u → 0 < n → Leave front (Some u) → runs (between front back u d n) ≤ runs (later front back u d n) → (rest : List Dir) × (back ≡ u ∷ rest)
-behind_same front [] u d n turns turns_back some l h = absurd (omega (
-  arith,
-  h,
-  l.runs_on (u ∷ (replicate n d ++ (u ∷ []))),
-  l.runs_on (u ∷ u ∷ (replicate n d ++ [])),
-  runs_after-stretch u 1 (replicate n d ++ (u ∷ [])),
-  runs_after-stretch u 2 (replicate n d ++ []),
-  bend_runs u d n (u ∷ []) turns some,
-  bend_runs u d n [] turns some,
-  bend_runs d u 1 [] turns_back (omega arith),
-))
-behind_same front (k ∷ rest) u d n turns turns_back some l h =
-    let same : Some u ≡ Some k = goes_on (Some u) k rest (omega (
-      arith,
-      h,
-      l.runs_on (u ∷ (replicate n d ++ (u ∷ k ∷ rest))),
-      l.runs_on (u ∷ u ∷ (replicate n d ++ (k ∷ rest))),
-      runs_after-stretch u 1 (replicate n d ++ (u ∷ k ∷ rest)),
-      runs_after-stretch u 2 (replicate n d ++ (k ∷ rest)),
-      bend_runs u d n (u ∷ k ∷ rest) turns some,
-      bend_runs u d n (k ∷ rest) turns some,
-      bend_runs d u 1 (k ∷ rest) turns_back (omega arith),
-      runs_most (Some d) k 1 rest (omega arith),
-    )) in
-    (rest, let e : k ≡ u = cc in ap (λ (f : Dir). f ∷ rest) e)
-
-module _ (front rest : List Dir) (u d : Dir) (n : ℕ) (p : Point) (cross : turn u d ≡ 1) (some : 0 < n) (l : Leave front (Some u)) where
+-- the run one step sooner has as many runs and leans less by the step
+module _ (front back : List Dir) (u d : Dir) (n : ℕ) (p : Point) (cross : turn u d ≡ 1) (some : 0 < n) (l : Leave front (Some u)) where
   abbrev q : Point
   q = after p front
 
   abbrev end : Point
   end = forward d n q
 
-  -- the leans of the three walks after the steps in front
-  lean_between : lean p (between front (u ∷ rest) u d n) ≡ lean p front +ℤ (across (way_of d) (forward u 1 q) +ℤ (across (way_of u) end +ℤ lean_after u (forward u 3 end) rest))
+  pub runs_sooner : runs (sooner front back u d n) ≡ runs (between front back u d n)
+  runs_sooner =
+      omega (
+        arith,
+        l.runs_on (u ∷ (replicate n d ++ (u ∷ back))),
+        l.runs_on (replicate n d ++ (u ∷ u ∷ back)),
+        runs_after-stretch u 1 (replicate n d ++ (u ∷ back)),
+        bend_runs u d n (u ∷ back) (over u d cross) some,
+        bend_runs u d n (u ∷ u ∷ back) (over u d cross) some,
+        bend_runs d u 1 back (over_back u d cross) (omega arith),
+        bend_runs d u 2 back (over_back u d cross) (omega arith),
+      )
+
+  pub lean_between : lean p (between front back u d n) ≡ lean p front +ℤ (across (way_of d) (forward u 1 q) +ℤ (across (way_of u) end +ℤ lean_after u (forward u 2 end) back))
   lean_between =
       let r = forward d n (forward u 1 q) in
       let there : r ≡ forward u 1 end = exchange d u n 1 q in
-      let last : forward u 1 (forward u 1 r) ≡ forward u 3 end = ap (λ x. forward u 1 (forward u 1 x)) there ∙ ap (forward u 1) (forward-forward u 1 1 end) ∙ forward-forward u 1 2 end in
+      let last : forward u 1 r ≡ forward u 2 end = ap (forward u 1) there ∙ forward-forward u 1 1 end in
       omega (
         arith,
         ints,
-        l.lean_on p (u ∷ (replicate n d ++ (u ∷ u ∷ rest))),
-        lean_after-stretch u 1 q (replicate n d ++ (u ∷ u ∷ rest)),
-        bend_lean u d n (forward u 1 q) (u ∷ u ∷ rest) (over u d cross) some,
-        bend_lean d u 1 r (u ∷ rest) (over_back u d cross) (omega arith),
-        lean_after-stretch u 1 (forward u 1 r) rest,
+        l.lean_on p (u ∷ (replicate n d ++ (u ∷ back))),
+        lean_after-stretch u 1 q (replicate n d ++ (u ∷ back)),
+        bend_lean u d n (forward u 1 q) (u ∷ back) (over u d cross) some,
+        bend_lean d u 1 r back (over_back u d cross) (omega arith),
         ap (across (way_of u)) there,
         across-forward u 1 end,
-        ap (λ x. lean_after u x rest) last,
+        ap (λ x. lean_after u x back) last,
       )
 
-  lean_sooner : lean p (sooner front (u ∷ rest) u d n) ≡ lean p front +ℤ (across (way_of d) q +ℤ (across (way_of u) end +ℤ lean_after u (forward u 3 end) rest))
+  pub lean_sooner : lean p (sooner front back u d n) ≡ lean p front +ℤ (across (way_of d) q +ℤ (across (way_of u) end +ℤ lean_after u (forward u 2 end) back))
   lean_sooner =
       omega (
         arith,
         ints,
-        l.lean_on p (replicate n d ++ (u ∷ u ∷ u ∷ rest)),
-        bend_lean u d n q (u ∷ u ∷ u ∷ rest) (over u d cross) some,
-        bend_lean d u 3 end rest (over_back u d cross) (omega arith),
+        l.lean_on p (replicate n d ++ (u ∷ u ∷ back)),
+        bend_lean u d n q (u ∷ u ∷ back) (over u d cross) some,
+        bend_lean d u 2 end back (over_back u d cross) (omega arith),
       )
 
-  lean_later : lean p (later front (u ∷ rest) u d n) ≡ lean p front +ℤ (across (way_of d) (forward u 2 q) +ℤ (across (way_of u) end +ℤ lean_after u (forward u 3 end) rest))
-  lean_later =
-      let r = forward d n (forward u 2 q) in
-      let there : r ≡ forward u 2 end = exchange d u n 2 q in
-      let last : forward u 1 r ≡ forward u 3 end = ap (forward u 1) there ∙ forward-forward u 1 2 end in
+-- the run one step later
+module _ (front : List Dir) (u d : Dir) (n : ℕ) (p : Point) (cross : turn u d ≡ 1) (some : 0 < n) where
+  abbrev begun : List Dir
+  begun = front ++ u ∷ []
+
+  abbrev r : Point
+  r = after p begun
+
+  between_begun : (back : List Dir) → between front back u d n ≡ begun ++ (replicate n d ++ (u ∷ back))
+  between_begun back = sym (append_assoc front (u ∷ []) (replicate n d ++ (u ∷ back)))
+
+  later_begun : (back : List Dir) → later front back u d n ≡ begun ++ (u ∷ (replicate n d ++ back))
+  later_begun back = sym (append_assoc front (u ∷ []) (u ∷ (replicate n d ++ back)))
+
+  -- where it has no fewer runs, the step after it goes the same way
+  pub behind_same : (back : List Dir) → runs (between front back u d n) ≤ runs (later front back u d n) → (rest : List Dir) × (back ≡ u ∷ rest)
+  behind_same [] h = absurd (
+      let l = leave_end front u in
       omega (
         arith,
-        ints,
-        l.lean_on p (u ∷ u ∷ (replicate n d ++ (u ∷ rest))),
-        lean_after-stretch u 2 q (replicate n d ++ (u ∷ rest)),
-        bend_lean u d n (forward u 2 q) (u ∷ rest) (over u d cross) some,
-        bend_lean d u 1 r rest (over_back u d cross) (omega arith),
-        ap (across (way_of u)) there,
-        across-forward u 2 end,
-        ap (λ x. lean_after u x rest) last,
-      )
+        h,
+        ap runs (between_begun []),
+        ap runs (later_begun []),
+        l.runs_on (replicate n d ++ (u ∷ [])),
+        l.runs_on (u ∷ (replicate n d ++ [])),
+        runs_after-stretch u 1 (replicate n d ++ []),
+        bend_runs u d n (u ∷ []) (over u d cross) some,
+        bend_runs u d n [] (over u d cross) some,
+        bend_runs d u 1 [] (over_back u d cross) (omega arith),
+      ))
+  behind_same (k ∷ rest) h = elim (one_direction u k) as (λ _. (rest' : List Dir) × (k ∷ rest ≡ u ∷ rest')) [
+    | inl same ↦ (rest, ap (λ (f : Dir). f ∷ rest) (sym same))
+    | inr other ↦ absurd (
+        let l = leave_end front u in
+        omega (
+          arith,
+          h,
+          ap runs (between_begun (k ∷ rest)),
+          ap runs (later_begun (k ∷ rest)),
+          l.runs_on (replicate n d ++ (u ∷ k ∷ rest)),
+          l.runs_on (u ∷ (replicate n d ++ (k ∷ rest))),
+          runs_after-stretch u 1 (replicate n d ++ (k ∷ rest)),
+          bend_runs u d n (u ∷ k ∷ rest) (over u d cross) some,
+          bend_runs u d n (k ∷ rest) (over u d cross) some,
+          bend_runs d u 1 (k ∷ rest) (over_back u d cross) (omega arith),
+          bend_runs u k 1 rest other (omega arith),
+          runs_most (Some d) k 1 rest (omega arith),
+        ))
+  ]
 
-  -- and how many runs they have
-  runs_sooner : runs (sooner front (u ∷ rest) u d n) ≡ runs (between front (u ∷ rest) u d n)
-  runs_sooner =
-      omega (
-        arith,
-        l.runs_on (u ∷ (replicate n d ++ (u ∷ u ∷ rest))),
-        l.runs_on (replicate n d ++ (u ∷ u ∷ u ∷ rest)),
-        runs_after-stretch u 1 (replicate n d ++ (u ∷ u ∷ rest)),
-        bend_runs u d n (u ∷ u ∷ rest) (over u d cross) some,
-        bend_runs u d n (u ∷ u ∷ u ∷ rest) (over u d cross) some,
-        bend_runs d u 2 rest (over_back u d cross) (omega arith),
-        bend_runs d u 3 rest (over_back u d cross) (omega arith),
-      )
+  module _ (rest : List Dir) where
+    -- then it has as many runs, and leans less by the step
+    pub runs_later : runs (later front (u ∷ rest) u d n) ≡ runs (between front (u ∷ rest) u d n)
+    runs_later =
+        let l = leave_end front u in
+        omega (
+          arith,
+          ap runs (between_begun (u ∷ rest)),
+          ap runs (later_begun (u ∷ rest)),
+          l.runs_on (replicate n d ++ (u ∷ u ∷ rest)),
+          l.runs_on (u ∷ (replicate n d ++ (u ∷ rest))),
+          runs_after-stretch u 1 (replicate n d ++ (u ∷ rest)),
+          bend_runs u d n (u ∷ u ∷ rest) (over u d cross) some,
+          bend_runs u d n (u ∷ rest) (over u d cross) some,
+          bend_runs d u 2 rest (over_back u d cross) (omega arith),
+          bend_runs d u 1 rest (over_back u d cross) (omega arith),
+        )
 
-  runs_later : runs (later front (u ∷ rest) u d n) ≡ runs (between front (u ∷ rest) u d n)
-  runs_later =
-      omega (
-        arith,
-        l.runs_on (u ∷ (replicate n d ++ (u ∷ u ∷ rest))),
-        l.runs_on (u ∷ u ∷ (replicate n d ++ (u ∷ rest))),
-        runs_after-stretch u 1 (replicate n d ++ (u ∷ u ∷ rest)),
-        runs_after-stretch u 2 (replicate n d ++ (u ∷ rest)),
-        bend_runs u d n (u ∷ u ∷ rest) (over u d cross) some,
-        bend_runs u d n (u ∷ rest) (over u d cross) some,
-        bend_runs d u 2 rest (over_back u d cross) (omega arith),
-        bend_runs d u 1 rest (over_back u d cross) (omega arith),
-      )
+    pub lean_between_begun : lean p (between front (u ∷ rest) u d n) ≡ lean p begun +ℤ (across (way_of d) r +ℤ (across (way_of u) (forward d n r) +ℤ lean_after u (forward u 2 (forward d n r)) rest))
+    lean_between_begun =
+        let l = leave_end front u in
+        omega (
+          arith,
+          ints,
+          ap (lean p) (between_begun (u ∷ rest)),
+          l.lean_on p (replicate n d ++ (u ∷ u ∷ rest)),
+          bend_lean u d n r (u ∷ u ∷ rest) (over u d cross) some,
+          bend_lean d u 2 (forward d n r) rest (over_back u d cross) (omega arith),
+        )
 
--- a walk is worse than one of the two with the run one step to a side
-pub one_side_better : (front back : List Dir) (u d : Dir) (n : ℕ) (p : Point) → turn u d ≡ 1 → 0 < n →
-    runs (between front back u d n) ≤ runs (sooner front back u d n) → runs (between front back u d n) ≤ runs (later front back u d n) →
-    (runs (sooner front back u d n) ≤ runs (between front back u d n) → lean p (between front back u d n) ≤ℤ lean p (sooner front back u d n)) →
-    (runs (later front back u d n) ≤ runs (between front back u d n) → lean p (between front back u d n) ≤ℤ lean p (later front back u d n)) → ⊥
-one_side_better front back u d n p cross some h i f g =
-    let l = leave front in
-    let before : l.0 ≡ Some u = before_same front back u d n cross some l.0 l.1 h in
-    let leaves : Leave front (Some u) = subst (Leave front) before l.1 in
-    let behind = behind_same front back u d n (over u d cross) (over_back u d cross) some leaves i in
-    let rest = behind.0 in
-    let e : back ≡ u ∷ rest = behind.1 in
-    let low : lean p (between front (u ∷ rest) u d n) ≤ℤ lean p (sooner front (u ∷ rest) u d n) =
-    subst (λ (b : List Dir). runs (sooner front b u d n) ≤ runs (between front b u d n) → lean p (between front b u d n) ≤ℤ lean p (sooner front b u d n)) e f
-    (omega (arith, runs_sooner front rest u d n p cross some leaves)) in
-    let high : lean p (between front (u ∷ rest) u d n) ≤ℤ lean p (later front (u ∷ rest) u d n) =
-    subst (λ (b : List Dir). runs (later front b u d n) ≤ runs (between front b u d n) → lean p (between front b u d n) ≤ℤ lean p (later front b u d n)) e g
-    (omega (arith, runs_later front rest u d n p cross some leaves)) in
-    across_beside u d (after p front) cross
-    (omega (arith, ints, low, lean_between front rest u d n p cross some leaves, lean_sooner front rest u d n p cross some leaves))
-    (omega (arith, ints, high, lean_between front rest u d n p cross some leaves, lean_later front rest u d n p cross some leaves))
+    pub lean_later : lean p (later front (u ∷ rest) u d n) ≡ lean p begun +ℤ (across (way_of d) (forward u 1 r) +ℤ (across (way_of u) (forward d n r) +ℤ lean_after u (forward u 2 (forward d n r)) rest))
+    lean_later =
+        let l = leave_end front u in
+        let end = forward d n (forward u 1 r) in
+        let there : end ≡ forward u 1 (forward d n r) = exchange d u n 1 r in
+        let last : forward u 1 end ≡ forward u 2 (forward d n r) = ap (forward u 1) there ∙ forward-forward u 1 1 (forward d n r) in
+        omega (
+          arith,
+          ints,
+          ap (lean p) (later_begun (u ∷ rest)),
+          l.lean_on p (u ∷ (replicate n d ++ (u ∷ rest))),
+          lean_after-stretch u 1 r (replicate n d ++ (u ∷ rest)),
+          bend_lean u d n (forward u 1 r) (u ∷ rest) (over u d cross) some,
+          bend_lean d u 1 end rest (over_back u d cross) (omega arith),
+          ap (across (way_of u)) there,
+          across-forward u 1 (forward d n r),
+          ap (λ x. lean_after u x rest) last,
+        )
