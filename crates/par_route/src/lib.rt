@@ -1,4 +1,4 @@
-//! Searches for the first walks of many tasks, side by side.
+//! Searches for the first walks of many tasks, side by side or one after the other.
 #![tactic(auto)]
 
 mod gate;
@@ -8,5 +8,5 @@ mod routes;
 mod watch;
 
 pub use gate::{Gate, OpenGate};
-pub use routes::{one_list, route_all};
+pub use routes::{one_list, route_all, route_each};
 pub use watch::{CountGate, HoldGate};

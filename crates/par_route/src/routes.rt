@@ -1,10 +1,10 @@
-//! The answers of many tasks, by searches side by side.
+//! The answers of many tasks, by searches side by side or one after the other.
 ghost use Rattle.std.specs.Prelude.{◌≡◌, ◌≤◌, All, IfOk, OnErr, OnOk, length};
 ghost use Rattle.line_arena.specs.Count.{counted_by};
 ghost use Rattle.par_route.specs.Pieces.{IsSearched};
 ghost use Rattle.par_route.specs.Routes.{AreAnswers, HaveOneList, MayBeSearched};
 
-use crate::gate::Gate;
+use crate::gate::{Gate, OpenGate};
 use crate::pieces::{Piece, Searched, cut, join};
 use line_arena::LineArena;
 use plane_geom::Solid;
@@ -45,6 +45,35 @@ pub fn route_all<R: Threads + Sync, G: Gate>(
         { piece.search(alloc, arena, solids, gate) },
     )?;
     join(alloc, searched, tally)
+}
+
+/// The right answers of the tasks, in order, by searches one after the other, without threads.
+///
+/// The tally rises by the number of tasks. The only error is out of memory, which leaves the tally
+/// as it was.
+pub fn route_each(
+    alloc: Global,
+    arena: &LineArena,
+    solids: &[Solid],
+    tasks: &[Task],
+    tally: &mut Tally,
+) -> Result<Vec<Option<Route>>, AllocError>
+    requires tasks { All (MayBeSearched arena.now solids.now) tasks.now }
+    ensures answers { IfOk result (λ answers. AreAnswers solids.now tasks.now answers.items) }
+    ensures tally { OnOk result (tally.new ≡ counted_by (length tasks.now) tally.old) }
+    ensures err_tally { OnErr result (tally.new ≡ tally.old) }
+{
+    let piece = Piece {
+        number: 1,
+        tasks,
+        tally: tally.split(),
+    };
+    let Searched {
+        answers,
+        tally: searches,
+    } = piece.search(alloc, arena, solids, &OpenGate)?;
+    tally.join(searches);
+    Ok(answers)
 }
 
 /// The law that tasks have exactly one list of right answers, so that the result does not depend on
