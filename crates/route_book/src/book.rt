@@ -1,11 +1,14 @@
 //! The current routes of a scene, and how they change with the scene.
-ghost use Rattle.std.specs.Prelude.{◌≡◌, ◌≤◌, IfOk, OnOk, length, option_copied};
+ghost use Rattle.std.specs.Prelude.{◌≡◌, ◌≤◌, All, IfOk, OnOk, length, map, option_copied};
+ghost use Rattle.std.specs.List.{AllZip};
 ghost use Rattle.line_arena.specs.Count.{counted_by};
 ghost use Rattle.route_book.specs.Exchange.{CountsStale, turned};
+ghost use Rattle.route_book.specs.Search.{AreRising, IsAnswerWith, IsConnector};
 ghost use Rattle.scene_model.specs.Answers.{AreAnswers};
 ghost use Rattle.scene_model.specs.Routing.{floor_of};
 ghost use Rattle.scene_model.specs.Scene.{connectors};
 ghost use Rattle.scene_model.specs.Stale.{AreStale, answer_of};
+ghost use Rattle.scene_model.specs.Valid.{IsValid};
 
 use crate::answers::AnswerList;
 use crate::comparison::Comparison;
@@ -38,6 +41,14 @@ pub struct Changes {
     here: AnswerList,
     there: AnswerList,
     spare: AnswerList,
+}
+
+/// The numbers of a new scene's connectors, and of those of them that have to be searched again,
+/// both in order.
+#[derive(Drop)]
+struct Sought {
+    connectors: Vec<u32>,
+    stale: Vec<u32>,
 }
 
 impl Model for Book {
@@ -87,9 +98,33 @@ impl Book {
             alloc,
             scene,
             graph,
-            workers,
         };
-        let answers = searches.answers(rt, &numbers, gate, tally)?;
+        let answers = searches.answers(rt, &numbers, workers, gate, tally)?;
+        Ok(Book { alloc, answers })
+    }
+
+    /// The right answers of the scene, whose graph is `graph`, without threads.
+    ///
+    /// The tally rises by the number of connectors. The only error is out of memory, in which case
+    /// the tally may have risen as well.
+    pub fn build_alone(
+        alloc: Global,
+        scene: &Scene,
+        graph: &Graph,
+        tally: &mut Tally,
+    ) -> Result<Book, AllocError>
+        requires graph { graph.now.floor ≡ floor_of scene.now }
+        ensures right { IfOk result (AreAnswers scene.now) }
+        ensures tally { OnOk result (tally.new ≡ counted_by (length (connectors scene.now)) tally.old) }
+        ensures never_falls { tally.old ≤ tally.new }
+    {
+        let numbers = connector_numbers(alloc, scene)?;
+        let searches = Searches {
+            alloc,
+            scene,
+            graph,
+        };
+        let answers = searches.answers_alone(&numbers, tally)?;
         Ok(Book { alloc, answers })
     }
 
@@ -129,17 +164,80 @@ impl Book {
         ensures tally { OnOk result (CountsStale old.now self.old new.now tally.old tally.new) }
         ensures never_falls { tally.old ≤ tally.new }
     {
-        old.valid();
-        let connectors = connector_numbers(self.alloc, new)?;
-        let numbers = self.stale(old, new)?;
+        let sought = self.sought(old, new)?;
         let searches = Searches {
             alloc: self.alloc,
             scene: new,
             graph,
-            workers,
         };
-        let found = searches.answers(rt, &numbers, gate, tally)?;
-        let there = self.answers.merged(self.alloc, &connectors, &found)?;
+        let found = searches.answers(rt, &sought.stale, workers, gate, tally)?;
+        self.changes(old, new, &sought, &found)
+    }
+
+    /// The exchange of answers for the step from the old scene, for which the book is right, to the
+    /// new one, whose graph is `graph`. Only the stale connectors are searched, without threads.
+    ///
+    /// The book stays as it is, and `swap` will take no memory. The tally rises by the number of
+    /// stale connectors. The only error is out of memory, in which case the tally may have risen as
+    /// well.
+    pub fn follow_alone(
+        &mut self,
+        old: &Scene,
+        new: &Scene,
+        graph: &Graph,
+        tally: &mut Tally,
+    ) -> Result<Changes, AllocError>
+        requires right { AreAnswers old.now self.old }
+        requires graph { graph.now.floor ≡ floor_of new.now }
+        ensures same { self.new ≡ self.old }
+        ensures here { IfOk result (λ c. c.here ≡ self.old) }
+        ensures there { IfOk result (λ c. AreAnswers new.now c.there) }
+        ensures tally { OnOk result (CountsStale old.now self.old new.now tally.old tally.new) }
+        ensures never_falls { tally.old ≤ tally.new }
+    {
+        let sought = self.sought(old, new)?;
+        let searches = Searches {
+            alloc: self.alloc,
+            scene: new,
+            graph,
+        };
+        let found = searches.answers_alone(&sought.stale, tally)?;
+        self.changes(old, new, &sought, &found)
+    }
+
+    /// The connectors of the new scene, and those of them that have to be searched again, if the
+    /// book is right for the old scene.
+    fn sought(&self, old: &Scene, new: &Scene) -> Result<Sought, AllocError>
+        requires right { AreAnswers old.now self.now }
+        ensures connectors { IfOk result (λ s. s.connectors.items ≡ map (λ e. e.number) (connectors new.now)) }
+        ensures stale { IfOk result (λ s. AreStale old.now self.now new.now s.stale.items) }
+        ensures order { IfOk result (λ s. AreRising s.stale.items) }
+        ensures searched { IfOk result (λ s. All (IsConnector new.now) s.stale.items) }
+        ensures valid { IsValid new.now }
+    {
+        let connectors = connector_numbers(self.alloc, new)?;
+        let stale = self.stale(old, new)?;
+        Ok(Sought { connectors, stale })
+    }
+
+    /// The exchange of answers, where `found` has the right answers of the stale connectors.
+    fn changes(
+        &self,
+        old: &Scene,
+        new: &Scene,
+        sought: &Sought,
+        found: &AnswerList,
+    ) -> Result<Changes, AllocError>
+        requires right { AreAnswers old.now self.now }
+        requires connectors { sought.now.connectors.items ≡ map (λ e. e.number) (connectors new.now) }
+        requires stale { AreStale old.now self.now new.now sought.now.stale.items }
+        requires found { AllZip (IsAnswerWith new.now) sought.now.stale.items found.now }
+        ensures here { IfOk result (λ c. c.here ≡ self.now) }
+        ensures there { IfOk result (λ c. AreAnswers new.now c.there) }
+    {
+        old.valid();
+        new.valid();
+        let there = self.answers.merged(self.alloc, &sought.connectors, found)?;
         Ok(Changes {
             here: self.answers.copy(self.alloc)?,
             spare: there.copy(self.alloc)?,

@@ -15,16 +15,16 @@ use Rattle.walk_model.specs.Legal.{IsTask}
 use Rattle.plane_geom.specs.Floor.{IsFloor}
 use Rattle.par_route.specs.Routes.{MayBeSearched}
 use Rattle.scene_model.specs.declared.edge.Edge.{Edge}
-use Rattle.scene_model.specs.Scene.{Scene, edge_with}
+use Rattle.scene_model.specs.Scene.{Scene, connectors, edge_with}
 use Rattle.scene_model.specs.Valid.{IsValid}
 use Rattle.scene_model.specs.Routing.{floor_of, solids, task_of}
-use Rattle.scene_model.specs.Answers.{IsAnswerOf}
+use Rattle.scene_model.specs.Answers.{AreAnswers, IsAnswerOf}
 use Rattle.scene_model.proofs.Editing.Entries.{key_found}
 use Rattle.scene_model.proofs.Editing.Edges.{number_of}
 use Rattle.scene_model.proofs.ForRouting.Floors.{floors_fit, floors_hold_tasks}
 use Rattle.scene_store.proofs.Tasks as tasks
 use Rattle.route_book.specs.Search.{IsConnector, IsTaskWith, IsAnswerWith}
-use Rattle.route_book.proofs.Answering.Connectors.{IsConnecting}
+use Rattle.route_book.proofs.Answering.Connectors.{IsConnecting, connecting}
 
 -- what there is, and what is known of it
 pub some_and : {X : Type 0} (o : Option X) (P : X → Type 0) → IsSomeAnd o P → (x : X) × (o ≡ Some x) × P x
@@ -101,8 +101,13 @@ answered s (n ∷ ns) (t ∷ ts) (a ∷ answers) z r own =
     (one_answered s n t a z.0 r.0 first, answered s ns ts answers z.1 r.1 rest)
 
 -- and those of all connectors are the right answers of the scene
-pub all_answered : (s : Scene) (es : List Edge) (answers : List Answer) → Each (IsConnecting s) es → AllZip (IsAnswerWith s) (map number_of es) answers → AllZip (IsAnswerOf s) es answers
+all_answered : (s : Scene) (es : List Edge) (answers : List Answer) → Each (IsConnecting s) es → AllZip (IsAnswerWith s) (map number_of es) answers → AllZip (IsAnswerOf s) es answers
 all_answered s [] [] c z = tt
 all_answered s [] (a ∷ answers) c z = absurd z
 all_answered s (e ∷ es) [] c z = absurd z
 all_answered s (e ∷ es) (a ∷ answers) c z = (at_some (edge_with s e.number) (λ d. IsAnswerOf s d a) e c.0.known z.0, all_answered s es answers c.1 z.1)
+
+-- so are the answers that are found under the numbers of all connectors
+pub all_right : (s : Scene) (numbers those : List ℕ) (answers : List Answer) → IsValid s → those ≡ numbers → numbers ≡ map number_of (connectors s) → AllZip (IsAnswerWith s) those answers → AreAnswers s answers
+all_right s numbers those answers v same all found =
+    all_answered s (connectors s) answers (connecting s v) (subst (λ (ns : List ℕ). AllZip (IsAnswerWith s) ns answers) (same ∙ all) found)
