@@ -124,8 +124,8 @@ impl Parts {
         })
     }
 
-    /// The number of pins that were added.
-    pub(crate) fn pin_count(&self) -> usize
+    /// The number of pins that were added, in lists that are valid.
+    pub fn pin_count(&self) -> usize
         requires { IsValid self.now }
         ensures { result ≡ pin_count self.now }
     {
@@ -136,8 +136,8 @@ impl Parts {
         count
     }
 
-    /// The number of checkpoints.
-    pub(crate) fn via_count(&self) -> usize
+    /// The number of checkpoints, in lists that are valid.
+    pub fn via_count(&self) -> usize
         requires { IsValid self.now }
         ensures { result ≡ via_count self.now }
     {

@@ -1,3 +1,4 @@
--- What the scene's own calls need: no refusal is out of memory, and what is passed to routing meets its conditions.
+-- What the scene's own calls and its callers' loops need: items that are read, refusals that are not out of memory, and the conditions of routing.
+pub mod Items
 pub mod Memory
 pub mod Tasks

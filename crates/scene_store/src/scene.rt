@@ -1,12 +1,12 @@
 //! The scene: look-ups, single edits, loading, and the inverses of edits.
 ghost use Rattle.std.specs.Prelude.{◌≡◌, ◌≢◌, None, IsSomeAnd, IfSome, IfOk, OnOk, OnErr, option_copied, slice_get};
-ghost use Rattle.scene_model.specs.Edits.{IsDirected, IsEdited, refusal};
+ghost use Rattle.scene_model.specs.Edits.{IsDirected, IsEdited, changed, refusal};
 ghost use Rattle.scene_model.specs.Inverses.{IsRestorable, inverse_of, restored};
 ghost use Rattle.scene_model.specs.Loads.{IsEdgeLoaded, IsLoadableEdge, IsLoadableNode, IsNodeLoaded};
 ghost use Rattle.plane_geom.specs.Floor.{IsFloor};
 ghost use Rattle.walk_model.specs.Floors.{IsTaskOn};
 ghost use Rattle.scene_model.specs.Routing.{floor_of, solids, task_of};
-ghost use Rattle.scene_model.specs.Scene.{Scene as SceneValue, edge_with, empty_scene, node_with};
+ghost use Rattle.scene_model.specs.Scene.{Scene as SceneValue, edge_with, empty_scene, node_with, pin_count, via_count};
 ghost use Rattle.scene_model.specs.Valid.{HasDirection, IsValid};
 ghost use Rattle.scene_model.specs.declared.edit.Edit.TheVariants as edits;
 
@@ -64,6 +64,36 @@ impl Scene {
         ensures { option_copied result ≡ edge_with self.now number }
     {
         self.parts.edge(number)
+    }
+
+    /// The nodes, in order.
+    pub fn nodes(&self) -> &[Node]
+        ensures value { result.now ≡ self.now.nodes }
+        ensures valid { IsValid self.now }
+    {
+        self.parts.nodes()
+    }
+
+    /// The edges, in order.
+    pub fn edges(&self) -> &[Edge]
+        ensures value { result.now ≡ self.now.edges }
+        ensures valid { IsValid self.now }
+    {
+        self.parts.edges()
+    }
+
+    /// The number of pins that were added to the nodes.
+    pub fn pin_count(&self) -> usize
+        ensures { result ≡ pin_count self.now }
+    {
+        self.parts.pin_count()
+    }
+
+    /// The number of checkpoints of the connectors.
+    pub fn via_count(&self) -> usize
+        ensures { result ≡ via_count self.now }
+    {
+        self.parts.via_count()
     }
 
     /// The node at the place, from 0.
@@ -132,15 +162,26 @@ impl Scene {
         self.parts.refusal(edit)
     }
 
+    /// Applies an edit that is not refused. The only error is out of memory, which leaves everything
+    /// as it was.
+    pub fn change(&mut self, edit: &Edit) -> Result<(), AllocError>
+        requires directed { IsDirected edit.now }
+        requires free { refusal edit.now self.old ≡ None }
+        ensures ok { OnOk result (self.new ≡ changed edit.now self.old) }
+        ensures err { OnErr result (self.new ≡ self.old) }
+    {
+        self.parts.change(edit)
+    }
+
     /// Applies an edit. A refusal or out of memory leaves everything as it was.
     pub fn edit(&mut self, edit: &Edit) -> Result<(), SceneFault>
         requires { IsDirected edit.now }
         ensures { IsEdited edit.now self.old self.new result }
     {
-        if let Some(fault) = self.parts.refusal(edit) {
+        if let Some(fault) = self.refusal(edit) {
             return Err(fault);
         }
-        match self.parts.change(edit) {
+        match self.change(edit) {
             Ok(()) => Ok(()),
             Err(_) => Err(SceneFault::Memory),
         }
