@@ -66,7 +66,7 @@ impl Txn {
         let inverse = self.working.inverse(edit).map_err(no_memory)?;
         self.back.reserve(1).map_err(no_memory)?;
         self.forth.reserve(1).map_err(no_memory)?;
-        self.working.edit(edit)?;
+        self.working.change(edit).map_err(no_memory)?;
         // There is room, so neither push fails.
         let _ = self.back.push(inverse);
         let _ = self.forth.push(*edit);
