@@ -1,0 +1,13 @@
+-- Certificates are audited.
+use Rattle.std.specs.Prelude.{ℕ, ◌⊎◌, List}
+use Rattle.scene_model.specs.Scene.{Scene, connectors}
+use Rattle.proof_model.specs.declared.proof.Proof.{Proof}
+use Rattle.proof_model.specs.Scenes.{FailsFirst, ProveScene}
+
+-- the proofs prove the scene, or a rule fails first
+abbrev pub IsAudited : Scene → List Proof → Type 0
+IsAudited s proofs = ProveScene s proofs ⊎ ((edge : ℕ) × (rule : ℕ) × FailsFirst s (connectors s) proofs edge rule)
+
+-- the law: so it is for all proofs
+abbrev pub ScenesAreAudited : Type 0
+ScenesAreAudited = (s : Scene) (proofs : List Proof) → IsAudited s proofs

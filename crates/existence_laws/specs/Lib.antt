@@ -1,0 +1,4 @@
+-- What exists.
+pub mod Answers
+pub mod Readings
+pub mod Audits

@@ -1,0 +1,40 @@
+//! The laws, each the contract of a function with an empty body.
+ghost use Rattle.existence_laws.specs.Answers.{HaveAnswers, HaveStaleLists, HaveVerdicts, TasksHaveAnswers};
+ghost use Rattle.existence_laws.specs.Audits.{ScenesAreAudited};
+ghost use Rattle.existence_laws.specs.Readings.{HaveProofReadings, HaveReadings};
+
+/// Each task on a floor within the limits has an answer: the route of a first walk, or that no walk
+/// is legal.
+pub fn some_answer()
+    ensures { TasksHaveAnswers }
+{}
+
+/// Each valid scene has right answers.
+pub fn some_answers()
+    ensures { HaveAnswers }
+{}
+
+/// For right answers of one scene, another one has a list of stale connectors.
+pub fn some_stale_list()
+    ensures { HaveStaleLists }
+{}
+
+/// Each line has a verdict: it is legal and has a cost, or it breaks a rule first.
+pub fn some_verdict()
+    ensures { HaveVerdicts }
+{}
+
+/// All bytes are read as a tree, or have a fault as a document.
+pub fn some_reading()
+    ensures { HaveReadings }
+{}
+
+/// All bytes are the text of proofs, or have a first bad line.
+pub fn some_proof_reading()
+    ensures { HaveProofReadings }
+{}
+
+/// All proofs prove a scene, or a rule fails first.
+pub fn some_audit()
+    ensures { ScenesAreAudited }
+{}
