@@ -9,13 +9,11 @@ ghost use Rattle.preview.specs.Edited.{ComesTo};
 ghost use Rattle.preview.specs.Previews.{AreProposable, IsPreview, first_refused};
 
 use edit_txn::Txn;
-use par_route::OpenGate;
 use route_book::Book;
 use route_search::Tally;
 use scene_model::{Edit, SceneFault};
 use scene_store::Scene;
 use std::alloc::{AllocError, Global};
-use std::thread::Threads;
 use visibility_graph::Graph;
 
 /// The answer to a proposed transaction.
@@ -68,13 +66,7 @@ fn after_edits(alloc: Global, scene: &Scene, edits: &[Edit]) -> Result<Edited, A
 }
 
 /// The right answers of the new scene, from those of the old one, with the number of searches.
-fn followed<R: Threads + Sync>(
-    rt: &R,
-    alloc: Global,
-    old: &Scene,
-    book: &Book,
-    new: Scene,
-) -> Result<Previewed, AllocError>
+fn followed(alloc: Global, old: &Scene, book: &Book, new: Scene) -> Result<Previewed, AllocError>
     requires { AreAnswers old.now book.now }
     ensures { (edits : List Edit) → first_refused 1 edits old.now ≡ None → new ≡ redone edits old.now →
         IfOk result (IsPreview old.now book.now edits) }
@@ -84,7 +76,7 @@ fn followed<R: Threads + Sync>(
     let graph = Graph::build(alloc, &new.floor()?)?;
     let mut book = book.copy()?;
     let mut tally = Tally::new();
-    let mut changes = book.follow(rt, old, &new, &graph, 1, &OpenGate, &mut tally)?;
+    let mut changes = book.follow_alone(old, &new, &graph, &mut tally)?;
     book.swap(&mut changes);
     Ok(Previewed::Committed {
         scene: new,
@@ -94,8 +86,7 @@ fn followed<R: Threads + Sync>(
 }
 
 /// The answer to the edits on the scene, for which the book is right.
-pub(crate) fn answer<R: Threads + Sync>(
-    rt: &R,
+pub(crate) fn answer(
     alloc: Global,
     scene: &Scene,
     book: &Book,
@@ -106,7 +97,7 @@ pub(crate) fn answer<R: Threads + Sync>(
     ensures { IfOk result (IsPreview scene.now book.now edits.now) }
 {
     match after_edits(alloc, scene, edits)? {
-        Edited::Done(new) => followed(rt, alloc, scene, book, new),
+        Edited::Done(new) => followed(alloc, scene, book, new),
         Edited::Refused { place, fault } => Ok(Previewed::Refused { place, fault }),
     }
 }

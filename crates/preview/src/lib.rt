@@ -10,4 +10,4 @@ mod proposals;
 
 pub use answer::Previewed;
 pub use laws::{one_answer, previews_are_commits, refusals_hold_no_memory};
-pub use proposals::{MOST_PROPOSALS, Proposal, preview};
+pub use proposals::{MOST_PROPOSALS, Proposal, preview, preview_alone};

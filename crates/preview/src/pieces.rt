@@ -13,7 +13,6 @@ use route_book::Book;
 use scene_model::{Edit, Edits};
 use scene_store::Scene;
 use std::alloc::{AllocError, Global};
-use std::thread::Threads;
 
 /// Some proposals in a row, with the number of the piece from 1.
 #[derive(Drop)]
@@ -69,9 +68,8 @@ fn edits_of(edits: &Edits) -> &[Edit]
 
 impl Piece<'_> {
     /// Answers each proposal of the piece, after it has passed the gate.
-    pub(crate) fn answers<R: Threads + Sync, G: Gate>(
+    pub(crate) fn answers<G: Gate>(
         self,
-        rt: &R,
         alloc: Global,
         scene: &Scene,
         book: &Book,
@@ -86,7 +84,7 @@ impl Piece<'_> {
         let mut answers = Vec::new(alloc);
         for proposal in proposals {
             let edits = edits_of(&proposal.edits);
-            answers.push(answer(rt, alloc, scene, book, edits)?)?;
+            answers.push(answer(alloc, scene, book, edits)?)?;
         }
         Ok(Answered { answers })
     }

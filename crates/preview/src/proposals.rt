@@ -1,4 +1,4 @@
-//! The answers to many proposed transactions, side by side.
+//! The answers to many proposed transactions, side by side or one after the other.
 ghost use Rattle.std.specs.Prelude.{◌≤◌, All, IfOk, length};
 ghost use Rattle.scene_model.specs.Answers.{AreAnswers};
 ghost use Rattle.preview.specs.Pieces.{IsAnswered};
@@ -6,7 +6,7 @@ ghost use Rattle.preview.specs.Previews.{ArePreviews, IsProposable};
 
 use crate::answer::Previewed;
 use crate::pieces::{Answered, Piece, cut, join};
-use par_route::Gate;
+use par_route::{Gate, OpenGate};
 use route_book::Book;
 use scene_model::Edits;
 use scene_store::Scene;
@@ -52,7 +52,30 @@ pub fn preview<R: Threads + Sync, G: Gate>(
             requires right { AreAnswers scene.now book.now }
             requires edits { All IsProposable piece.proposals.now }
             ensures { IfOk result (IsAnswered scene.entry.now book.entry.now piece.entry) }
-        { piece.answers(rt, alloc, scene, book, gate) },
+        { piece.answers(alloc, scene, book, gate) },
     )?;
     join(alloc, answered)
+}
+
+/// The answers to the proposals, in order, all asked of the scene, for which the book is right, one after the other,
+/// without threads.
+///
+/// Scene and book stay as they are. The only error is out of memory.
+pub fn preview_alone(
+    alloc: Global,
+    scene: &Scene,
+    book: &Book,
+    proposals: &[Proposal],
+) -> Result<Vec<Previewed>, AllocError>
+    requires right { AreAnswers scene.now book.now }
+    requires few_proposals { length proposals.now ≤ 64 }
+    requires edits { All IsProposable proposals.now }
+    ensures { IfOk result (λ answers. ArePreviews scene.now book.now proposals.now answers.items) }
+{
+    let piece = Piece {
+        number: 1,
+        proposals,
+    };
+    let Answered { answers } = piece.answers(alloc, scene, book, &OpenGate)?;
+    Ok(answers)
 }

@@ -8,7 +8,7 @@ use Rattle.preview.proofs.Counts.{counted}
 use Rattle.preview.proofs.answer.followed.Goals as goal
 
 pub returns : goal.returns
-returns g c = λ edits none same.
+returns c = λ edits none same.
     let old = c.args.old.now in
     let new = c.args.new in
     let book : c.in_ok-book.book ≡ c.args.book.now = c.in_ok-book.ensures in
