@@ -3,7 +3,6 @@ pub mod Places
 pub mod PairLists
 pub mod Walks
 pub mod LinesPut
-pub mod Looking
 pub mod KeptParts
 pub mod Numerals
 pub mod Fitting

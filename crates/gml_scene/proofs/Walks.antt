@@ -1,7 +1,7 @@
 -- What is written while a list is gone through: one element more.
-use Rattle.std.proofs.Common.{◌≡◌, ℕ, zero, suc, ◌+◌, ◌-◌, ◌<◌, ◌≤◌, Bool, true, false, Some, None, Result, Ok, Err, List, [], ◌∷◌, ◌++◌, length, get_or, take, drop, refl, sym, ap, ◌∙◌, arith, add-one, length-drop}
+use Rattle.std.proofs.Common.{◌≡◌, ℕ, zero, suc, ◌+◌, ◌-◌, ◌<◌, ◌≤◌, Bool, true, false, Some, Result, Ok, Err, List, [], ◌∷◌, ◌++◌, length, get_or, take, drop, refl, sym, ap, subst, ◌∙◌, arith, add-one, length-drop}
 use Rattle.std.specs.Prelude.{OnOk, cond, filter, slice_get}
-use Rattle.std.proofs.lemmas.List.{take_more, length-take}
+use Rattle.std.proofs.lemmas.List.{drop_all, take_more, length-take}
 use Rattle.gml_text.specs.Tree.{Content, Pairs, no_pairs, ◌then◌}
 use Rattle.gml_text.specs.View.{content, entry, pairs}
 use Rattle.gml_text.specs.declared.tree.Pair.{Pair}
@@ -11,7 +11,7 @@ use Rattle.walk_model.specs.declared.route.WrittenRoute.{WrittenRoute}
 use Rattle.scene_model.specs.Scene.{Scene}
 use Rattle.gml_scene.specs.Changes.{one, all_of, change_inside, list_place, change_list}
 use Rattle.gml_scene.specs.Tree.{kept, kept_from}
-use Rattle.gml_scene.proofs.Places.{left_here, left_past}
+use Rattle.gml_scene.proofs.Places.{left_here}
 use Rattle.gml_scene.proofs.PairLists.{entry_value, pairs-append, around_place}
 
 all_of-push : {X : Type 0} (f : X → Pairs) (xs : List X) (x : X) → all_of f (xs ++ x ∷ []) ≡ all_of f xs then f x
@@ -106,9 +106,11 @@ passed_more f test xs i x start out new so is one =
     ∙ ap (λ ps. ps then rest) (sym one)
 
 -- at the end nothing is left
-pub passed_all : {X : Type 0} (f : X → Pairs) (test : X → Bool) (xs : List X) (i : ℕ) (start out : Pairs)
-    → start ≡ out then all_of f (filter test (drop i xs)) → slice_get xs i ≡ None → out ≡ start
-passed_all f test xs i start out so none = sym (so ∙ ap (λ ys. out then all_of f (filter test ys)) (left_past xs i none) ∙ then-none out)
+pub passed_all : {X : Type 0} (f : X → Pairs) (test : X → Bool) (items xs : List X) (i : ℕ) (start out : Pairs)
+    → start ≡ out then all_of f (filter test (drop i xs)) → items ≡ xs → length items ≤ i → out ≡ start
+passed_all f test items xs i start out so is past =
+    let none = subst (λ ys. drop i ys ≡ []) is (drop_all i items past) in
+    sym (so ∙ ap (λ ys. out then all_of f (filter test ys)) none ∙ then-none out)
 
 -- all are taken
 pub all_taken : {X : Type 0} (xs : List X) (i : ℕ) → length xs ≤ i → take i xs ≡ xs

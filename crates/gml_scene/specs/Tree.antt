@@ -1,5 +1,6 @@
 -- The tree of a scene and its routes: the diagram's tree, changed only where the scene differs from it.
-use Rattle.std.specs.Prelude.{ℕ, suc, ◌==◌, ◌&&◌, Bool, false, List, codes, bytes_eq, Option, Some, None, option_map, is_some, is_none, find, filter, if◌then◌else◌}
+use Rattle.std.specs.Prelude.{ℕ, suc, ◌==◌, ◌&&◌, Bool, false, List, codes, bytes_eq, find, filter, if◌then◌else◌}
+use Rattle.std.specs.Prelude.{Option, Some, None, option_map, is_some, is_none}
 use Rattle.std.specs.Ordering.{int_eq}
 use Rattle.plane_geom.specs.declared.point.Point.{Point}
 use Rattle.gml_text.specs.Tree.{Content, number, text, list, Pairs, no_pairs, pair, ◌then◌}

@@ -6,7 +6,8 @@ ghost use Rattle.gml_text.specs.View.{content, pairs};
 ghost use Rattle.scene_model.specs.Letters.{letters};
 ghost use Rattle.scene_model.specs.Valid.{IsNode};
 ghost use Rattle.gml_scene.specs.Changes.{all_of, one};
-ghost use Rattle.gml_scene.specs.Forms.{box_pairs, class_content, class_pairs, cost_pairs, edge_pair, id_content, length_content, line_content, line_pairs, node_pair, pin_pair, pin_pairs, point_pairs, settings_pairs, via_pair};
+ghost use Rattle.gml_scene.specs.Forms.{box_pairs, class_content, class_pairs, cost_pairs, edge_pair, id_content, length_content, line_content};
+ghost use Rattle.gml_scene.specs.Forms.{line_pairs, node_pair, pin_pair, pin_pairs, point_pairs, settings_pairs, via_pair};
 
 use crate::changes::push;
 use crate::copies::bytes_of;

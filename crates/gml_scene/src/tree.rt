@@ -8,7 +8,8 @@ ghost use Rattle.scene_model.specs.Valid.{IsNode};
 ghost use Rattle.diagram_read.specs.Scene.{scene_of};
 ghost use Rattle.gml_scene.specs.Changes.{change_inside, one};
 ghost use Rattle.gml_scene.specs.Origins.{AreEdgesOf, AreNodesOf, AreRoutesOf};
-ghost use Rattle.gml_scene.specs.Tree.{edge_from, graph_again, is_at, kept, kept_edge, kept_from, kept_node, line_for, new_edges, new_nodes, node_from, tree_of};
+ghost use Rattle.gml_scene.specs.Tree.{edge_from, graph_again, is_at, kept, kept_edge, kept_from, kept_node};
+ghost use Rattle.gml_scene.specs.Tree.{line_for, new_edges, new_nodes, node_from, tree_of};
 
 use crate::changes::{has_key, has_list, list_place, push};
 use crate::copies::{copy_pairs, copy_value, push_copies, push_copy};
@@ -85,30 +86,14 @@ fn node_from(scene: &Scene, place: usize) -> Option<&Node>
     ensures found { option_copied result ≡ node_from scene.now place }
     ensures node { IfSome result (λ n. IsNode n.now) }
 {
-    scene.valid();
-    let mut index = 0;
-    while let Some(node) = scene.node_at(index) {
-        if is_at(place, node.origin) {
-            return Some(node);
-        }
-        index += 1;
-    }
-    None
+    scene.nodes().iter().find(|node| is_at(place, node.origin))
 }
 
 /// The edge whose origin is the place of the graph list.
 fn edge_from(scene: &Scene, place: usize) -> Option<&Edge>
     ensures { option_copied result ≡ edge_from scene.now place }
 {
-    scene.valid();
-    let mut index = 0;
-    while let Some(edge) = scene.edge_at(index) {
-        if is_at(place, edge.origin) {
-            return Some(edge);
-        }
-        index += 1;
-    }
-    None
+    scene.edges().iter().find(|edge| is_at(place, edge.origin))
 }
 
 /// Whether the origin is this place of the graph list.
@@ -176,7 +161,8 @@ impl Change<'_> {
 
     /// Appends what remains of the graph list.
     fn push_kept(&self, out: &mut Vec<Pair>, graph: &[Pair]) -> Result<(), AllocError>
-        ensures { OnOk result (pairs out.new.items ≡ pairs out.old.items then kept_from self.now.was.now self.now.scene.now self.now.routes.now 0 (pairs graph.now)) }
+        ensures { OnOk result (pairs out.new.items ≡ pairs out.old.items
+            then kept_from self.now.was.now self.now.scene.now self.now.routes.now 0 (pairs graph.now)) }
     {
         for (place, pair) in graph.iter().enumerate() {
             self.push_pair(out, place, pair)?;
@@ -235,11 +221,8 @@ impl Change<'_> {
     fn push_new_nodes(&self, out: &mut Vec<Pair>) -> Result<(), AllocError>
         ensures { OnOk result (pairs out.new.items ≡ pairs out.old.items then new_nodes self.now.scene.now.nodes) }
     {
-        self.scene.valid();
-        let mut index = 0;
-        while let Some(node) = self.scene.node_at(index) {
+        for node in self.scene.nodes() {
             push_new_node(self.alloc, out, node)?;
-            index += 1;
         }
         Ok(())
     }
@@ -258,11 +241,8 @@ impl Change<'_> {
     fn push_new_edges(&self, out: &mut Vec<Pair>) -> Result<(), AllocError>
         ensures { OnOk result (pairs out.new.items ≡ pairs out.old.items then new_edges self.now.routes.now self.now.scene.now.edges) }
     {
-        self.scene.valid();
-        let mut index = 0;
-        while let Some(edge) = self.scene.edge_at(index) {
+        for edge in self.scene.edges() {
             self.push_new_edge(out, edge)?;
-            index += 1;
         }
         Ok(())
     }

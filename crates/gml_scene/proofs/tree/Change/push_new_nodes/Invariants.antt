@@ -1,5 +1,5 @@
 -- The new nodes so far are written, and those that are left follow them.
-use Rattle.std.proofs.Common.{◌≡◌, ◌-◌, length, drop}
+use Rattle.std.proofs.Common.{◌≡◌, drop}
 use Rattle.gml_text.specs.Tree.{◌then◌}
 use Rattle.gml_text.specs.View.{pairs}
 use Rattle.gml_scene.specs.Tree.{new_nodes}
@@ -7,7 +7,4 @@ use Rattle.gml_scene.proofs.tree.Change.push_new_nodes.Given as goal
 
 abbrev pub invariant-loop-node : goal.invariant-loop-node
 invariant-loop-node l =
-    pairs l.fn.out.items then new_nodes l.self.scene.now.nodes ≡ pairs l.out.items then new_nodes (drop l.index l.self.scene.now.nodes)
-
-abbrev pub decreases-loop-node : goal.decreases-loop-node
-decreases-loop-node l = length l.self.scene.now.nodes - l.index
+    pairs l.fn.out.items then new_nodes l.self.scene.now.nodes ≡ pairs l.out.items then new_nodes (drop l.node-index l.self.scene.now.nodes)
