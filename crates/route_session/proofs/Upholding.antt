@@ -1,8 +1,8 @@
 -- What a session upholds through its calls.
-use Rattle.std.proofs.Common.{◌≡◌, ℕ, ◌≤◌, Bool, true, false, not, List, [], ◌∷◌, length, take, drop, slice_get, Option, None, Some, Ok, Err, Result, refl, sym, ap, subst, arith}
+use Rattle.std.proofs.Common.{◌≡◌, ℕ, ◌≤◌, Bool, true, false, not, List, [], ◌∷◌, length, take, drop, slice_get, Option, None, Some, Ok, Err, Result, refl, sym, ap, subst, ◌∙◌, arith}
 use Rattle.std.proofs.lemmas.List.Filters.{length-filter_both}
-use Rattle.std.specs.Prelude.{IsOk, OnErr, is_err, is_ok, is_some, option_map}
-use Rattle.plane_geom.specs.declared.floor.Floor.{Floor}
+use Rattle.std.specs.Prelude.{IsOk, OnErr, OnOk, is_err, is_ok, is_some, option_map}
+use Rattle.std.specs.Bool.{OnFalse, OnTrue}
 use Rattle.plane_geom.specs.Floor.{IsFloor}
 use Rattle.walk_model.specs.declared.route.Answer.{Answer}
 use Rattle.visibility_graph.specs.Drawing.{Drawing}
@@ -132,40 +132,46 @@ module _ (scene : Scene) (graph : Drawing) (book : List Answer) (log : Log Excha
         world,
       )
 
-  -- the session after a commit of the transaction
-  pub committed : (t : Transaction) (changes : Exchange) (next : Scene) (drawn : Drawing) (answers : List Answer) (after : Log Exchange)
-      → BeganOn scene t → next ≡ t.working → drawn.floor ≡ floor_of next → IsFloor drawn.floor → changes.here ≡ book → AreAnswers next changes.there
-      → answers ≡ changes.there → after.past ≡ take 100 (record { back = t.back; forth = t.forth; changes = turned changes } ∷ log.past) → after.future ≡ []
-      → IsUpheld next drawn answers after None × (step commands.Commit (world_of log scene (Some t.working)) ≡ Ok (world_of after next None))
-  committed t changes next drawn answers after began is floor fits here there right past future =
-      let put : Step Exchange = record { back = t.back; forth = t.forth; changes = turned changes } in
-      let joined : IsStep scene t.forth t.back next changes.here changes.there = record {
-        valid = up.valid;
-        leads = subst (λ x. BeganOn scene (record t { working = x })) (sym is) began;
-        right_before = subst (AreAnswers scene) (sym here) up.right;
-        right_after = there;
-      } in
-      let went = puts_behind here_of there_of log scene next put up.history joined in
-      let same : pushed put log ≡ after = λ i. record { past = sym past i; future = sym future i } in (
-        record {
-          valid = step_stays_valid joined;
-          floor = floor;
-          fits = fits;
-          right = subst (AreAnswers next) (sym right) there;
-          history = subst (λ l. IsHistory here_of there_of l next) same went.0;
-          begun = tt;
-        },
-        subst (λ x. step commands.Commit (world_of log scene (Some x)) ≡ Ok (world_of after next None)) is
-            (subst (λ l. step commands.Commit (world_of log scene (Some next)) ≡ Ok (world_of l next None)) same went.1),
-      )
-
   -- the session with a transaction on its scene
   pub with_transaction : (t : Transaction) → BeganOn scene t → IsUpheld scene graph book log (Some t)
   with_transaction t began = record { valid = up.valid; floor = up.floor; fits = up.fits; right = up.right; history = up.history; begun = began }
 
--- what a repair writes between the floors of scenes
-pub scenes_written : (f g : Floor) (s t : Scene) (before after : ℕ) → f ≡ floor_of s → g ≡ floor_of t → CountsWrites f g before after → CountsWrites (floor_of s) (floor_of t) before after
-scenes_written f g s t before after is_f is_g h = (h.0, subst (λ x. IsWriteCount x (floor_of t) h.0) is_f (subst (λ x. IsWriteCount f x h.0) is_g h.1), h.2)
+-- the session after a commit of the transaction
+pub committed : (scene : Scene) (book : List Answer) (log : Log Exchange) (t : Transaction) (changes : Exchange) (next : Scene) (drawn : Drawing) (answers : List Answer) (after : Log Exchange)
+    → IsValid scene → AreAnswers scene book → IsHistory here_of there_of log scene → BeganOn scene t → next ≡ t.working → drawn.floor ≡ floor_of t.working → IsFloor drawn.floor
+    → changes.here ≡ book → AreAnswers t.working changes.there → answers ≡ changes.there
+    → after.past ≡ take 100 (record { back = t.back; forth = t.forth; changes = turned changes } ∷ log.past) → after.future ≡ []
+    → IsUpheld next drawn answers after None × (step commands.Commit (world_of log scene (Some t.working)) ≡ Ok (world_of after next None))
+committed scene book log t changes next drawn answers after valid right history began is floor fits here there put_there past future =
+    let put : Step Exchange = record { back = t.back; forth = t.forth; changes = turned changes } in
+    let there_next : AreAnswers next changes.there = subst (λ s. AreAnswers s changes.there) (sym is) there in
+    let joined : IsStep scene t.forth t.back next changes.here changes.there = record {
+      valid = valid;
+      leads = subst (λ x. BeganOn scene (record t { working = x })) (sym is) began;
+      right_before = subst (AreAnswers scene) (sym here) right;
+      right_after = there_next;
+    } in
+    let went = puts_behind here_of there_of log scene next put history joined in
+    let same : pushed put log ≡ after = λ i. record { past = sym past i; future = sym future i } in (
+      record {
+        valid = step_stays_valid joined;
+        floor = floor ∙ ap floor_of (sym is);
+        fits = fits;
+        right = subst (AreAnswers next) (sym put_there) there_next;
+        history = subst (λ l. IsHistory here_of there_of l next) same went.0;
+        begun = tt;
+      },
+      subst (λ x. step commands.Commit (world_of log scene (Some x)) ≡ Ok (world_of after next None)) is
+          (subst (λ l. step commands.Commit (world_of log scene (Some next)) ≡ Ok (world_of l next None)) same went.1),
+    )
+
+-- what a commit writes, from the floor of the scene to that of the next one
+pub commit_writes : (scene next : Scene) (graph repaired drawn : Drawing) → graph.floor ≡ floor_of scene → drawn ≡ repaired → drawn.floor ≡ floor_of next
+    → CountsWrites graph.floor repaired.floor graph.arena.written repaired.arena.written → CountsWrites (floor_of scene) (floor_of next) graph.arena.written drawn.arena.written
+commit_writes scene next graph repaired drawn here same there h =
+    let count : CountsWrites graph.floor drawn.floor graph.arena.written drawn.arena.written =
+    subst (λ (d : Drawing). CountsWrites graph.floor d.floor graph.arena.written d.arena.written) (sym same) h in
+    (count.0, subst (λ x. IsWriteCount x (floor_of next) count.0) here (subst (λ x. IsWriteCount graph.floor x count.0) there count.1), count.2)
 
 twice_not : (b : Bool) → b ≡ not (not b)
 twice_not true = refl
@@ -185,9 +191,14 @@ pub on_error : {T E P : Type 0} (r : Result T E) → P → OnErr r P
 on_error (Ok x) p = tt
 on_error (Err e) p = p
 
-pub on_no_error : {T E : Type 0} (r : Result T E) (P : Type 0) → is_err r ≡ false → OnErr r P
-on_no_error (Ok x) P none = tt
-on_no_error (Err e) P none = cc
+-- what holds of a result by the test whether it is an error
+pub on_ok_by : {T E Q R : Type 0} (r : Result T E) (failed : Bool) → failed ≡ is_err r → OnFalse failed Q → (Q → R) → OnOk r R
+on_ok_by {Q = Q} (Ok x) failed is q f = f (subst (λ b. OnFalse b Q) is q)
+on_ok_by (Err e) failed is q f = tt
+
+pub on_err_by : {T E Q R : Type 0} (r : Result T E) (failed : Bool) → failed ≡ is_err r → OnTrue failed Q → (Q → R) → OnErr r R
+on_err_by (Ok x) failed is q f = tt
+on_err_by {Q = Q} (Err e) failed is q f = f (subst (λ b. OnTrue b Q) is q)
 
 -- what is done without a value
 pub done_by : {E : Type 0} (r : Result Unit E) → is_ok r ≡ true → r ≡ Ok tt

@@ -1,5 +1,6 @@
 //! The present scene with its graph and its book.
-ghost use Rattle.std.specs.Prelude.{◌≡◌, ◌≤◌, ℕ, true, IfOk, OnErr, OnOk};
+ghost use Rattle.std.specs.Prelude.{◌≡◌, ◌<◌, ◌≤◌, ◌^◌, ℕ, true, IfOk, OnErr, OnOk};
+ghost use Rattle.std.specs.Bool.{OnFalse, OnTrue};
 ghost use Rattle.plane_geom.specs.Floor.{IsFloor};
 ghost use Rattle.graph_repair.specs.Change.{CountsWrites, LeadsFrom};
 ghost use Rattle.route_book.specs.Exchange.{CountsStale, turned};
@@ -74,9 +75,8 @@ impl Present {
         ensures err_written { OnErr result ((n : ℕ) × (self.new.graph.arena.written ≡ counted_by n self.old.graph.arena.written)) }
         ensures err_tally { OnErr result ((n : ℕ) × (self.new.tally ≡ counted_by n self.old.tally)) }
     {
-        self.tally.bounded();
-        self.graph.arena().laws();
-        let mut repair = self.repair(other)?;
+        self.bounded();
+        let repair = self.repair(other)?;
         let mut searches = self.tally.split();
         let found = self.book.follow(
             rt,
@@ -87,11 +87,65 @@ impl Present {
             gate,
             &mut searches,
         );
+        self.settle(repair, searches, found.is_err());
+        found
+    }
+
+    /// Repairs the graph to the floor of the other scene, and finds the exchange of answers for the
+    /// book, without threads. When out of memory, the graph is again that of the present scene's
+    /// floor.
+    pub(crate) fn follow_alone(&mut self, other: &Scene) -> Result<Changes, AllocError>
+        requires fits { IsFloor self.old.graph.floor }
+        requires right { AreAnswers self.old.scene self.old.book }
+        ensures scene { self.new.scene ≡ self.old.scene }
+        ensures book { self.new.book ≡ self.old.book }
+        ensures here { IfOk result (λ c. c.here ≡ self.old.book) }
+        ensures there { IfOk result (λ c. AreAnswers other.now c.there) }
+        ensures fits { IsFloor self.new.graph.floor }
+        ensures floor { OnOk result (self.new.graph.floor ≡ floor_of other.now) }
+        ensures written { OnOk result (CountsWrites self.old.graph.floor self.new.graph.floor self.old.graph.arena.written self.new.graph.arena.written) }
+        ensures tally { OnOk result (CountsStale self.old.scene self.old.book other.now self.old.tally self.new.tally) }
+        ensures err_floor { OnErr result (self.new.graph.floor ≡ self.old.graph.floor) }
+        ensures err_written { OnErr result ((n : ℕ) × (self.new.graph.arena.written ≡ counted_by n self.old.graph.arena.written)) }
+        ensures err_tally { OnErr result ((n : ℕ) × (self.new.tally ≡ counted_by n self.old.tally)) }
+    {
+        self.bounded();
+        let repair = self.repair(other)?;
+        let mut searches = self.tally.split();
+        let found = self
+            .book
+            .follow_alone(&self.scene, other, &self.graph, &mut searches);
+        self.settle(repair, searches, found.is_err());
+        found
+    }
+
+    /// The law that both counts are within their limits. Does nothing.
+    fn bounded(&self)
+        ensures tally { self.now.tally < 2 ^ 64 }
+        ensures written { self.now.graph.arena.written < 2 ^ 64 }
+    {
+        self.tally.bounded();
+        self.graph.arena().laws();
+    }
+
+    /// Counts the searches, and reverts the repair if they failed.
+    fn settle(&mut self, mut repair: Repair, searches: Tally, failed: bool)
+        requires leads { LeadsFrom self.old.graph repair }
+        requires applied { repair.applied ≡ true }
+        requires fits { IsFloor self.old.graph.floor }
+        requires back { IsFloor repair.floor }
+        ensures scene { self.new.scene ≡ self.old.scene }
+        ensures book { self.new.book ≡ self.old.book }
+        ensures tally { self.new.tally ≡ counted_by searches self.old.tally }
+        ensures fits { IsFloor self.new.graph.floor }
+        ensures stays { OnFalse failed (self.new.graph ≡ self.old.graph) }
+        ensures floor { OnTrue failed (self.new.graph.floor ≡ repair.floor) }
+        ensures written { OnTrue failed ((n : ℕ) × (self.new.graph.arena.written ≡ counted_by n self.old.graph.arena.written)) }
+    {
         self.tally.join(searches);
-        if found.is_err() {
+        if failed {
             revert(&mut self.graph, &mut repair);
         }
-        found
     }
 
     /// Replaces the present scene by the other one, and puts its answers into the book.

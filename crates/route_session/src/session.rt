@@ -1,8 +1,10 @@
 //! The session: what an editor embeds.
-ghost use Rattle.std.specs.Prelude.{◌≡◌, ◌≢◌, ◌+◌, ◌≤◌, ℕ, All, Err, Ok, IfErr, IfOk, IfSome, IsErrOf, IsSome, OnErr, OnOk, is_some, length, map, slice_get};
+ghost use Rattle.std.specs.Prelude.{◌≡◌, ◌≢◌, ◌+◌, ◌≤◌, ℕ, All, Err, Ok, IfErr, IfOk, IfSome, IsErrOf, IsSome, None, OnErr, OnOk, Some, is_some, length, map, option_copied, slice_get};
 ghost use Rattle.std.specs.FinMap.{len};
+ghost use Rattle.plane_geom.specs.Floor.{IsFloor};
 ghost use Rattle.line_arena.specs.Arena.{Arena};
 ghost use Rattle.line_arena.specs.Stands.{StandsFor};
+ghost use Rattle.edit_txn.specs.Txn.{BeganOn};
 ghost use Rattle.graph_repair.specs.Change.{CountsWrites};
 ghost use Rattle.nudge_laws.specs.Apart.{KeepsApart};
 ghost use Rattle.nudge_phases.specs.Nudged.{AreLegalNudgedLines, IsNudgedScene};
@@ -11,11 +13,13 @@ ghost use Rattle.preview.specs.Previews.{ArePreviews, IsProposable};
 ghost use Rattle.route_book.specs.Exchange.{CountsStale};
 ghost use Rattle.line_arena.specs.Count.{counted_by};
 ghost use Rattle.session_laws.specs.Calls.{IsFaultOf};
-ghost use Rattle.route_session.specs.Upheld.{turned_step};
+ghost use Rattle.session_laws.specs.History.{IsHistory, world_of};
+ghost use Rattle.route_session.specs.Upheld.{IsUpheld, turned_step};
 ghost use Rattle.scene_model.specs.Answers.{AreAnswers};
 ghost use Rattle.scene_model.specs.Edits.{IsDirected};
 ghost use Rattle.scene_model.specs.Routing.{floor_of};
 ghost use Rattle.scene_model.specs.Scene.{connectors};
+ghost use Rattle.scene_model.specs.Valid.{IsValid};
 ghost use Rattle.scene_model.specs.World.{given_up, opened, refused, step};
 ghost use Rattle.scene_model.specs.declared.edit.Command.TheVariants as commands;
 ghost use Rattle.scene_model.specs.declared.fault.SceneFault.TheVariants as scene_faults;
@@ -27,7 +31,7 @@ use crate::scenes::{edits, inverses, scene_after, scene_before};
 use edit_txn::{Txn, TxnParts};
 use nudge_phases::{Nudged, nudge};
 use par_route::Gate;
-use preview::{Previewed, Proposal, preview};
+use preview::{Previewed, Proposal, preview, preview_alone};
 use route_book::{Book, Changes};
 use route_search::Tally;
 use scene_store::{Edit, Scene, SceneFault, SessionFault};
@@ -92,18 +96,56 @@ impl Session {
         ensures written { IfOk result (λ s. (a : Arena) × StandsFor (floor_of scene) a × (s.written ≡ len a.lines + len a.crossings)) }
     {
         scene.valid();
-        let floor = scene.floor()?;
-        let graph = Graph::build(alloc, &floor)?;
+        let graph = drawn(alloc, &scene)?;
         let mut tally = Tally::new();
         let book = Book::build(rt, alloc, &scene, &graph, workers, gate, &mut tally)?;
-        let log = UndoLog::new(alloc)?;
-        let present = Present {
+        Session::on(Present {
             alloc,
             scene,
             graph,
             book,
             tally,
-        };
+        })
+    }
+
+    /// A session on the scene, with no past and no future, without threads. `searched` begins with
+    /// the number of connectors, `written` with the number of the graph's lines and crossings.
+    ///
+    /// The only error is out of memory.
+    pub fn open_alone(alloc: Global, scene: Scene) -> Result<Session, AllocError>
+        ensures world { IfOk result (λ s. s.world ≡ opened scene) }
+        ensures right { IfOk result (λ s. AreAnswers scene s.book) }
+        ensures searched { IfOk result (λ s. s.searched ≡ length (connectors scene)) }
+        ensures written { IfOk result (λ s. (a : Arena) × StandsFor (floor_of scene) a × (s.written ≡ len a.lines + len a.crossings)) }
+    {
+        scene.valid();
+        let graph = drawn(alloc, &scene)?;
+        let mut tally = Tally::new();
+        let book = Book::build_alone(alloc, &scene, &graph, &mut tally)?;
+        Session::on(Present {
+            alloc,
+            scene,
+            graph,
+            book,
+            tally,
+        })
+    }
+
+    /// A session on the present scene, whose graph and book are new, with no past and no future.
+    fn on(present: Present) -> Result<Session, AllocError>
+        requires valid { IsValid present.scene }
+        requires floor { present.graph.floor ≡ floor_of present.scene }
+        requires fits { IsFloor present.graph.floor }
+        requires right { AreAnswers present.scene present.book }
+        requires searched { present.tally ≡ length (connectors present.scene) }
+        requires stands { StandsFor (floor_of present.scene) present.graph.arena }
+        requires written { present.graph.arena.written ≡ len present.graph.arena.lines + len present.graph.arena.crossings }
+        ensures world { IfOk result (λ s. s.world ≡ opened present.scene) }
+        ensures right { IfOk result (λ s. AreAnswers present.scene s.book) }
+        ensures searched { IfOk result (λ s. s.searched ≡ length (connectors present.scene)) }
+        ensures written { IfOk result (λ s. (a : Arena) × StandsFor (floor_of present.scene) a × (s.written ≡ len a.lines + len a.crossings)) }
+    {
+        let log = UndoLog::new(present.alloc)?;
         Ok(Session {
             present,
             log,
@@ -182,16 +224,38 @@ impl Session {
         let Some(txn) = self.txn.take() else {
             return Err(SessionFault::NoTransaction);
         };
-        let TxnParts { scene, back, forth } = txn.into_parts();
-        let Ok(mut changes) = self.present.follow(rt, &scene, workers, gate) else {
+        let Ok(changes) = self.present.follow(rt, txn.working(), workers, gate) else {
             return Err(SessionFault::Memory);
         };
-        self.present.exchange(scene, &mut changes);
-        self.log.push(Step {
-            back,
-            forth,
-            changes,
-        });
+        exchange_on(&mut self.log, &mut self.present, txn, changes);
+        Ok(())
+    }
+
+    /// Closes the transaction: its working scene becomes the present one, with right routes. Only
+    /// the stale connectors are searched, without threads.
+    ///
+    /// The error is `NoTransaction` exactly if none is open, otherwise only out of memory. It takes
+    /// all memory before the scene, the book and the history change.
+    pub fn commit_alone(&mut self) -> Result<(), SessionFault>
+        ensures ok { OnOk result (step commands.Commit self.old.world ≡ Ok self.new.world) }
+        ensures fault { IfErr result (IsFaultOf commands.Commit self.old.world) }
+        ensures err { OnErr result (self.new.world ≡ given_up self.old.world) }
+        ensures right { AreAnswers self.new.world.present self.new.book }
+        ensures book { OnErr result (self.new.book ≡ self.old.book) }
+        ensures searched { OnOk result (CountsStale self.old.world.present self.old.book self.new.world.present self.old.searched self.new.searched) }
+        ensures written { OnOk result (CountsWrites (floor_of self.old.world.present) (floor_of self.new.world.present) self.old.written self.new.written) }
+        ensures refused_searched { IsErrOf result faults.NoTransaction → self.new.searched ≡ self.old.searched }
+        ensures refused_written { IsErrOf result faults.NoTransaction → self.new.written ≡ self.old.written }
+        ensures memory_searched { IsErrOf result faults.Memory → (n : ℕ) × (self.new.searched ≡ counted_by n self.old.searched) }
+        ensures memory_written { IsErrOf result faults.Memory → (n : ℕ) × (self.new.written ≡ counted_by n self.old.written) }
+    {
+        let Some(txn) = self.txn.take() else {
+            return Err(SessionFault::NoTransaction);
+        };
+        let Ok(changes) = self.present.follow_alone(txn.working()) else {
+            return Err(SessionFault::Memory);
+        };
+        exchange_on(&mut self.log, &mut self.present, txn, changes);
         Ok(())
     }
 
@@ -290,6 +354,14 @@ impl Session {
         self.txn.is_some()
     }
 
+    /// The working scene of the open transaction; `None` exactly if none is open.
+    pub fn working(&self) -> Option<&Scene>
+        ensures { option_copied result ≡ self.now.world.working }
+    {
+        let txn = self.txn.as_ref()?;
+        Some(txn.working())
+    }
+
     /// The present scene.
     pub fn scene(&self) -> &Scene
         ensures scene { result.now ≡ self.now.world.present }
@@ -377,6 +449,19 @@ impl Session {
         )
     }
 
+    /// The answers to the proposals, in order, all asked of the present scene, as `preview` returns them, without
+    /// threads.
+    ///
+    /// The session stays as it is, and an open transaction makes no difference. The only error is out of memory.
+    pub fn preview_alone(&self, proposals: &[Proposal]) -> Result<Vec<Previewed>, AllocError>
+        requires few_proposals { length proposals.now ≤ 64 }
+        requires edits { All IsProposable proposals.now }
+        ensures { IfOk result (λ answers. ArePreviews self.now.world.present self.now.book proposals.now answers.items) }
+    {
+        let present = &self.present;
+        preview_alone(present.alloc, &present.scene, &present.book, proposals)
+    }
+
     /// The session's tally, whose count is `searched`. Drops the rest, and takes no memory.
     pub fn into_tally(self) -> Tally
         ensures { result ≡ self.searched }
@@ -385,6 +470,45 @@ impl Session {
         let Present { tally, .. } = present;
         tally
     }
+}
+
+/// The graph of the scene's floor.
+fn drawn(alloc: Global, scene: &Scene) -> Result<Graph, AllocError>
+    ensures floor { IfOk result (λ g. g.floor ≡ floor_of scene.now) }
+    ensures fits { IfOk result (λ g. IsFloor g.floor) }
+    ensures stands { IfOk result (λ g. StandsFor (floor_of scene.now) g.arena) }
+    ensures written { IfOk result (λ g. g.arena.written ≡ len g.arena.lines + len g.arena.crossings) }
+{
+    let floor = scene.floor()?;
+    let graph = Graph::build(alloc, &floor)?;
+    graph.arena().laws();
+    Ok(graph)
+}
+
+/// Moves the transaction into the past, as the latest step; its working scene becomes the present
+/// one, and the answers that were found for it go into the book.
+fn exchange_on(log: &mut UndoLog<Changes>, present: &mut Present, txn: Txn, mut changes: Changes)
+    requires valid { IsValid present.old.scene }
+    requires history { IsHistory (λ c. c.here) (λ c. c.there) log.old present.old.scene }
+    requires begun { BeganOn present.old.scene txn }
+    requires floor { present.old.graph.floor ≡ floor_of txn.working }
+    requires fits { IsFloor present.old.graph.floor }
+    requires right { AreAnswers present.old.scene present.old.book }
+    requires here { changes.here ≡ present.old.book }
+    requires there { AreAnswers txn.working changes.there }
+    ensures upheld { IsUpheld present.new.scene present.new.graph present.new.book log.new None }
+    ensures ok { step commands.Commit (world_of log.old present.old.scene (Some txn.working)) ≡ Ok (world_of log.new present.new.scene None) }
+    ensures scene { present.new.scene ≡ txn.working }
+    ensures graph { present.new.graph ≡ present.old.graph }
+    ensures tally { present.new.tally ≡ present.old.tally }
+{
+    let TxnParts { scene, back, forth } = txn.into_parts();
+    present.exchange(scene, &mut changes);
+    log.push(Step {
+        back,
+        forth,
+        changes,
+    });
 }
 
 /// Moves the latest past step into the future; its answers go into the book, and the scene before
