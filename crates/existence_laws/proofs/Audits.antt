@@ -27,15 +27,10 @@ use Rattle.proof_model.specs.Scenes.{FailsFirst, IsProofOf, by_edge, by_rule}
 use Rattle.proof_model.proofs.LeastLabels.{place_in}
 use Rattle.proof_model.proofs.OneList.{of_place}
 use Rattle.existence_laws.specs.Audits.{ScenesAreAudited}
-use Rattle.existence_laws.proofs.Decided.{Decided, holds, fails, both, decided_as, denied, nat_le, same_bool, same_nat, some_below, some_in}
+use Rattle.existence_laws.proofs.Decided.{Decided, holds, fails, both, decided_as, denied, nat_le, same_bool, same_nat, some_below, some_in, settled}
 use Rattle.existence_laws.proofs.Floors.{all_decided, coordinate_decided, crossing_decided}
 use Rattle.existence_laws.proofs.Places.{Ends, Enters, Moves, all_dirs, end_cost, ended, ending_by, ends_decided, entered, enters_decided, entry_by, move_by, move_cost, moved, moves_decided, some_dir, stands}
 use Rattle.existence_laws.proofs.Verdicts.{some_verdict}
-
--- what holds unless it is refuted
-settled : {P : Type 0} → Decided P → ((P → ⊥) → ⊥) → P
-settled (holds p) not = p
-settled (fails n) not = absurd (not n)
 
 -- of each label
 label_all : (P : ℕ → Type 0) → ((n : ℕ) → Decided (P n)) → (o : Option ℕ) → Decided ((label : ℕ) → o ≡ Some label → P label)
@@ -46,12 +41,12 @@ label_some : (P : ℕ → Type 0) → ((n : ℕ) → Decided (P n)) → (o : Opt
 label_some P each None = fails (λ h. none-some _ h.1)
 label_some P each (Some n) = decided_as (λ p. (n, refl, p)) (λ h. subst P (same_Some _ _ (sym h.1)) h.2) (each n)
 
-some_decided : (o : Option ℕ) → Decided (IsSome o)
+pub some_decided : (o : Option ℕ) → Decided (IsSome o)
 some_decided None = fails (λ h. let wrong : false ≡ true = h in cc)
 some_decided (Some n) = holds refl
 
 -- a label is that of a row
-labelled : (rows : List LabelRow) (x : Place) (label : ℕ) → label_of rows x ≡ Some label → (r : LabelRow) × Contains rows r × (place_in r x.heading ≡ x)
+pub labelled : (rows : List LabelRow) (x : Place) (label : ℕ) → label_of rows x ≡ Some label → (r : LabelRow) × Contains rows r × (place_in r x.heading ≡ x)
 labelled [] x label e = absurd (none-some _ e)
 labelled (r ∷ rs) x label e = by_row (is_row_of r x) refl e (labelled rs x label)
   where

@@ -27,6 +27,11 @@ pub denied : {P : Type 0} → Decided P → Decided (P → ⊥)
 denied (holds p) = fails (λ n. n p)
 denied (fails n) = holds n
 
+-- what holds unless it is refuted
+pub settled : {P : Type 0} → Decided P → ((P → ⊥) → ⊥) → P
+settled (holds p) not = p
+settled (fails n) not = absurd (not n)
+
 -- equal numbers
 pub nat_le : (m n : ℕ) → Decided (m ≤ n)
 nat_le m n = elim (cases_lt n m) as (λ _. Decided (m ≤ n)) [ inl l ↦ fails (λ h. omega arith) | inr l ↦ holds l ]
@@ -105,7 +110,7 @@ pub record HasLeast (P : ℕ → Type 0) (n : ℕ) : Type 0 where
   pub has : P least
   pub none_below : (k : ℕ) → k < least → P k → ⊥
 
-least_below : (P : ℕ → Type 0) → ((k : ℕ) → Decided (P k)) → (n : ℕ) → ((m : ℕ) × (m < n) × HasLeast P m) ⊎ ((k : ℕ) → k < n → P k → ⊥)
+pub least_below : (P : ℕ → Type 0) → ((k : ℕ) → Decided (P k)) → (n : ℕ) → ((m : ℕ) × (m < n) × HasLeast P m) ⊎ ((k : ℕ) → k < n → P k → ⊥)
 least_below P each zero = inr (λ k l p. omega (arith, l))
 least_below P each (suc n) = by_last (least_below P each n) (each n)
   where

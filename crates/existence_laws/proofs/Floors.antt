@@ -230,6 +230,9 @@ module _ (floor : Floor) where
       let to = h.to in
       subst PointIsOnSheet (sym h.here) (on_sheet_by l.way l.at h.along on.at (record { low = omega (arith, ints, lo.low, from); high = omega (arith, ints, hi.high, to) }))
 
+  pub crossing_on_sheet : (p : Point) → IsCrossing floor p → PointIsOnSheet p
+  crossing_on_sheet p c = held_on_sheet c.vertical p (kept_on_sheet c.vertical c.vertical_kept) c.on_vertical
+
   pub few_ahead : (d : Dir) (p : Point) (n : ℕ) (q : Point) → LiesAhead floor d p n q → n ≤ 8000000000
   few_ahead d p n q a =
       let on = kept_on_sheet a.line a.kept in

@@ -10,3 +10,6 @@ pub mod Readings
 pub mod Floors
 pub mod Places
 pub mod Audits
+pub mod Counting
+pub mod Reaching
+pub mod Labelling

@@ -79,7 +79,7 @@ stands stage at d = record { stage = stage; at = at; heading = d }
 
 module _ (floor : Floor) (task : Task) where
   -- a walk enters by the start choice, and is then in this stage
-  pub Enters : Choice → ℕ → Type 0
+  unfoldable pub Enters : Choice → ℕ → Type 0
   Enters c stage = (IsCrossing floor c.port × HasFreeStub floor.solids c) × ComesTo task.via 0 c.port stage
 
   pub enters_decided : (c : Choice) (stage : ℕ) → Decided (Enters c stage)
@@ -102,7 +102,7 @@ module _ (floor : Floor) (task : Task) where
       subst (P x) (sym e.costs) (subst (λ y. P y (stub_length e.start + e.start.cost)) place at)
 
   -- a walk goes n steps on in the direction, and is then in this stage
-  pub Moves : Place → Dir → ℕ → ℕ → Type 0
+  unfoldable pub Moves : Place → Dir → ℕ → ℕ → Type 0
   Moves x d n stage = IsNextCrossing floor d x.at n (forward d n x.at) × ComesTo task.via x.stage (forward d n x.at) stage
 
   pub moves_decided : (x : Place) (d : Dir) (n stage : ℕ) → Decided (Moves x d n stage)

@@ -32,16 +32,16 @@ first_slanted : (p : Point) (qs : List Point) → (AreStraight p qs → ⊥) →
 first_slanted p [] not = absurd (not tt)
 first_slanted p (q ∷ qs) not = slanted_here p q qs (λ straight. first_slanted q qs (λ rest. not (straight, rest))) (segment_decided p q)
 
+take_all : (ps : List Point) → take (length ps) ps ≡ ps
+take_all [] = refl
+take_all (p ∷ ps) = ap (λ rest. p ∷ rest) (take_all ps)
+
 -- the step of a list of steps is on one segment
 on_segment : (points : List Point) (k : ℕ) → k < length (steps_of points) → (segment : ℕ) × IsOnSegment points k segment
 on_segment points k within =
     by_least (least_of (λ m. k < length (steps_of (take m points))) (λ m. nat_le (suc k) (length (steps_of (take m points)))) (length points)
     (subst (λ ps. k < length (steps_of ps)) (sym (take_all points)) within))
   where
-    take_all : (ps : List Point) → take (length ps) ps ≡ ps
-    take_all [] = refl
-    take_all (p ∷ ps) = ap (λ rest. p ∷ rest) (take_all ps)
-
     by_number : (m : ℕ) → k < length (steps_of (take m points)) → ((n : ℕ) → n < m → k < length (steps_of (take n points)) → ⊥) → (segment : ℕ) × IsOnSegment points k segment
     by_number zero has none = absurd (omega (arith, has))
     by_number (suc m) has none = (
@@ -182,10 +182,6 @@ module _ (solids : List Solid) (task : Task) (p : Point) (qs : List Point) (stra
           by_passes : Decided (Passes w (stub_length s) (length w.steps - stub_length e) (take k task.via)) → Passes w (stub_length s) (length w.steps - stub_length e) (take k task.via)
           by_passes (holds passes) = passes
           by_passes (fails fewer) = absurd (none k (omega arith) fewer)
-
-      take_all : (ps : List Point) → take (length ps) ps ≡ ps
-      take_all [] = refl
-      take_all (q ∷ ps) = ap (λ rest. q ∷ rest) (take_all ps)
 
       missed : Verdict
       unfolding Misses NotLegal

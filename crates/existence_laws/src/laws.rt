@@ -1,6 +1,6 @@
 //! The laws, each the contract of a function with an empty body.
 ghost use Rattle.existence_laws.specs.Answers.{HaveAnswers, HaveStaleLists, HaveVerdicts, TasksHaveAnswers};
-ghost use Rattle.existence_laws.specs.Audits.{ScenesAreAudited};
+ghost use Rattle.existence_laws.specs.Audits.{HaveLeastProofs, ScenesAreAudited};
 ghost use Rattle.existence_laws.specs.Readings.{HaveProofReadings, HaveReadings};
 
 /// Each task on a floor within the limits has an answer: the route of a first walk, or that no walk
@@ -37,4 +37,9 @@ pub fn some_proof_reading()
 /// All proofs prove a scene, or a rule fails first.
 pub fn some_audit()
     ensures { ScenesAreAudited }
+{}
+
+/// Each connector of a valid scene has a least proof.
+pub fn some_least_proofs()
+    ensures { HaveLeastProofs }
 {}
