@@ -15,7 +15,6 @@ use Rattle.std.proofs.Common.{
   cond,
   not,
   Option,
-  None,
   Some,
   Result,
   Ok,
@@ -70,11 +69,6 @@ pub record IsAt {X : Type 0} (xs : List X) (k : ℕ) (x : X) : Type 0 where
 
 pub at_place : {X : Type 0} (xs : List X) (k : ℕ) (x : X) → slice_get xs k ≡ Some x → IsAt xs k x
 at_place xs k x is = record { within = slice_get_within xs k x is; here = get_or_from_slice_get xs k x x is }
-
-pub past_end : {X : Type 0} (xs : List X) (k : ℕ) → slice_get xs k ≡ None → length xs ≤ k
-past_end [] k is = omega arith
-past_end (x ∷ xs) zero is = absurd (none-some x (sym is))
-past_end (x ∷ xs) (suc k) is = let later = past_end xs k is in omega (arith, later)
 
 found_later : (b : Bool) (d e : Edge) (o : Option Edge) → (d.number == e.number) ≡ b → d.number < e.number → o ≡ Some e → cond b (Some d) o ≡ Some e
 found_later true d e o test below is = absurd (grind (arith, nat_tests, test, below))

@@ -46,15 +46,12 @@ fn proofs_of(
     ensures { IfOk result
         (λ proofs. AllZip (IsLeastProof scene.now) (connectors scene.now) proofs.items) }
 {
-    scene.valid();
     let mut proofs = Vec::new(alloc);
-    let mut place = 0;
-    while let Some(edge) = scene.edge_at(place) {
+    for edge in scene.edges() {
         if edge.from != edge.to {
             let proof = proof_of(scene, edge, prover)?;
             proofs.push(proof)?;
         }
-        place += 1;
     }
     Ok(proofs)
 }

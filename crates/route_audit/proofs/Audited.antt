@@ -151,9 +151,9 @@ failed s proofs e es i o Memory (Err f) at d is same = subst (λ g. IsAudited s 
 
 -- ---- the loop over the edges
 
-pub item_at : {X : Type 0} (xs : List X) (i : ℕ) (r : Option (Bor X)) → IsItemAt xs i r → option_copied r ≡ slice_get xs i
-item_at xs i None l = sym (slice_get_past xs i l.3)
-item_at xs i (Some x) l = sym (slice_get_read xs (length xs) i x.now refl l.3.0 l.1)
+pub proof_at : {X : Type 0} (xs : List X) (i : ℕ) (r : Option (Bor X)) → IsItemAt xs i r → option_copied r ≡ slice_get xs i
+proof_at xs i None l = sym (slice_get_past xs i l.3)
+proof_at xs i (Some x) l = sym (slice_get_read xs (length xs) i x.now refl l.3.0 l.1)
 
 pub goes_on : (s : Scene) (proofs : List Proof) (e : Edge) (es : List Edge) (i : ℕ) (o : Option Proof) → o ≡ slice_get proofs i →
     Decides s (e ∷ es) (drop i proofs) proofs → IsSomeAnd o (IsProofOf s e) → Decides s es (drop (i + 1) proofs) proofs × (i + 1 ≤ length proofs)
@@ -163,21 +163,21 @@ goes_on s proofs e es i (Some p) at d is = (
   (let within = slice_get_within proofs i p (sym at) in omega (arith, within)),
 )
 
-no_more : (s : Scene) (place : ℕ) → slice_get s.edges place ≡ None → connectors_from s place ≡ []
-no_more s place none = ap (filter (λ e. not (is_loop e))) (past_end s.edges place none)
+no_more : (s : Scene) (edges : List Edge) (place : ℕ) → edges ≡ s.edges → length edges ≤ place → connectors_from s place ≡ []
+no_more s edges place is past = ap (filter (λ e. not (is_loop e))) (subst (λ es. drop place es ≡ []) is (drop_all place edges past))
 
-pub too_many : (s : Scene) (proofs : List Proof) (place i : ℕ) → slice_get s.edges place ≡ None →
+pub too_many : (s : Scene) (proofs : List Proof) (edges : List Edge) (place i : ℕ) → edges ≡ s.edges → length edges ≤ place →
     Decides s (connectors_from s place) (drop i proofs) proofs → i < length proofs → FailsFirst s (connectors s) proofs 0 1
-too_many s proofs place i none d more =
-    d.fails 0 1 (subst (λ es. FailsFirst s es (drop i proofs) 0 1) (sym (no_more s place none)) (some (drop i proofs) (omega
+too_many s proofs edges place i is past d more =
+    d.fails 0 1 (subst (λ es. FailsFirst s es (drop i proofs) 0 1) (sym (no_more s edges place is past)) (some (drop i proofs) (omega
     (arith, length-drop i proofs, more))))
   where
     some : (ps : List Proof) → 0 < length ps → FailsFirst s [] ps 0 1
     some [] more = absurd (omega (arith, more))
     some (p ∷ ps) more = (refl, refl)
 
-pub all_proved : (s : Scene) (proofs : List Proof) (place i : ℕ) → slice_get s.edges place ≡ None →
+pub all_proved : (s : Scene) (proofs : List Proof) (edges : List Edge) (place i : ℕ) → edges ≡ s.edges → length edges ≤ place →
     Decides s (connectors_from s place) (drop i proofs) proofs → length proofs ≤ i → ProveScene s proofs
-all_proved s proofs place i none d all =
-    d.proved (subst (λ es. AllZip (IsProofOf s) es (drop i proofs)) (sym (no_more s place none)) (subst (AllZip (IsProofOf s) []) (sym
+all_proved s proofs edges place i is past d all =
+    d.proved (subst (λ es. AllZip (IsProofOf s) es (drop i proofs)) (sym (no_more s edges place is past)) (subst (AllZip (IsProofOf s) []) (sym
     (drop_all i proofs all)) tt))

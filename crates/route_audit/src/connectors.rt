@@ -78,17 +78,14 @@ fn audit_all(
     ensures claims { OnOk result (AllZip (HoldsClaim scene.now) (connectors scene.now) proofs.now) }
 {
     proved_scenes_hold();
-    scene.valid();
     let arena = graph.arena();
     arena.laws();
-    let mut place = 0;
     let mut audited = 0;
-    while let Some(edge) = scene.edge_at(place) {
+    for edge in scene.edges() {
         if edge.from != edge.to {
             audit_at(alloc, index, scene, graph, edge, proofs.get(audited))?;
             audited += 1;
         }
-        place += 1;
     }
     if audited < proofs.len() {
         return Err(AuditFault::No { edge: 0, rule: 1 });

@@ -2,28 +2,28 @@
 use Rattle.std.proofs.Common.{◌≡◌, ◌≢◌, ◌+◌, ◌≤◌, List, length, take, filter, sym, ap, subst, ◌∙◌, arith, w64, of_z}
 use Rattle.std.specs.List.{AllZip}
 use Rattle.std.proofs.lemmas.Int.{ints}
-use Rattle.std.proofs.lemmas.List.{take_all}
 use Rattle.scene_model.specs.declared.edge.Edge.{Edge}
+use Rattle.scene_store.proofs.Items.{all_items, item_at}
 use Rattle.proof_model.specs.LeastLabels.{IsLeastProof}
 use Rattle.proof_search.specs.declared.prover.Prover.{Prover}
-use Rattle.proof_search.proofs.Connectors.{IsProvedUpto, at_place, connects, edge_found, past_end, zipped_more, zipped_past}
+use Rattle.proof_search.proofs.Connectors.{IsProvedUpto, at_place, connects, edge_found, zipped_more, zipped_past}
 use Rattle.proof_search.proofs.scene.proofs_of.Goals as goal
 use Rattle.proof_search.proofs.scene.proofs_of.Goals.{then-edge+in_ok-proof+in_ok-push, else-edge}
 
 pub proof_of-requires-clause-is : goal.proof_of-requires-clause-is
-proof_of-requires-clause-is c = edge_found c.args.scene.now c.loop-edge.place c.in-Some.edge.now c.valid.ensures (sym c.in-Some.ensures)
-
-pub loop-edge-smaller : goal.loop-edge-smaller
-loop-edge-smaller c =
-    let at = at_place c.args.scene.now.edges c.loop-edge.place c.in-Some.edge.now (sym c.in-Some.ensures) in
-    omega (arith, at.within)
+proof_of-requires-clause-is c =
+    let s = c.args.scene.now in
+    let read = c.edges-edge-items in
+    edge_found s c.loop-edge.edge-index c.edge-item.result read.ensures.valid
+    (item_at read.result.now s.edges c.loop-edge.edge-index c.edge-item.result read.ensures.value c.loop-edge-test.true c.edge-item.is)
 
 pub loop-edge-preserved : goal.loop-edge-preserved
 loop-edge-preserved c =
     let s = c.args.scene.now in
-    let k = c.loop-edge.place in
-    let e : Edge = c.in-Some.edge.now in
-    let at = at_place s.edges k e (sym c.in-Some.ensures) in
+    let k = c.loop-edge.edge-index in
+    let e : Edge = c.edge-item.result in
+    let read = c.edges-edge-items in
+    let at = at_place s.edges k e (item_at read.result.now s.edges k e read.ensures.value c.loop-edge-test.true c.edge-item.is) in
     let before = c.loop-edge.invariant in
     let within : k + 1 ≤ length s.edges = omega (arith, at.within) in
     elim c.if-edge.branch as (λ _. IsProvedUpto c.args.scene.now c.args.prover.now c.if-edge.prover c.if-edge.proofs.items (k + 1)) [
@@ -54,5 +54,6 @@ loop-edge-preserved c =
 pub returns : goal.returns
 returns c =
     let s = c.args.scene.now in
-    let whole = take_all c.loop-edge.place s.edges (past_end s.edges c.loop-edge.place (sym c.in_default.ensures)) in
+    let read = c.edges-edge-items in
+    let whole = all_items read.result.now s.edges c.loop-edge.edge-index read.ensures.value c.loop-edge-test.false in
     subst (λ (es : List Edge). AllZip (IsLeastProof s) (filter connects es) c.loop-edge.proofs.items) whole c.loop-edge.invariant.proved

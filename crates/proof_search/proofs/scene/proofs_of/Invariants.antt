@@ -1,10 +1,6 @@
 -- The connectors so far have one proof each.
-use Rattle.std.proofs.Common.{◌-◌, length}
 use Rattle.proof_search.proofs.Connectors.{IsProvedUpto}
 use Rattle.proof_search.proofs.scene.proofs_of.Given as goal
 
 abbrev pub invariant-loop-edge : goal.invariant-loop-edge
-invariant-loop-edge l = IsProvedUpto l.scene l.initial.prover l.prover l.proofs.items l.place
-
-abbrev pub decreases-loop-edge : goal.decreases-loop-edge
-decreases-loop-edge l = length l.scene.edges - l.place
+invariant-loop-edge l = IsProvedUpto l.scene l.initial.prover l.prover l.proofs.items l.edge-index
