@@ -1,3 +1,2 @@
--- Lemmas on places of lists, and on certificates.
-pub mod Places
+-- Lemmas on certificates.
 pub mod OneAnswer
