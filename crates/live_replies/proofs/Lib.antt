@@ -1,5 +1,8 @@
 -- The lemmas of replies.
 pub mod ChangeTexts
 pub mod Clients
+pub mod Diagrams
 pub mod Kept
+pub mod OpenEdits
+pub mod Previews
 pub mod Turns

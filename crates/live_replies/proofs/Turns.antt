@@ -1,5 +1,5 @@
 -- Turns that follow one another.
-use Rattle.std.proofs.Common.{◌≡◌, ◌≢◌, ℕ, List, [], ◌∷◌, ◌++◌, Option, None, Some, Result, Ok, Err, refl, sym, subst}
+use Rattle.std.proofs.Common.{◌≡◌, ℕ, Bool, true, false, List, [], ◌∷◌, ◌++◌, Option, None, Some, Result, Ok, Err, refl, sym, subst}
 use Rattle.live_replies.specs.declared.serving.End.{End}
 use Rattle.live_replies.specs.declared.serving.End.TheVariants.{Input, Quit}
 use Rattle.live_replies.specs.declared.serving.ServeFault.{ServeFault}
@@ -10,19 +10,19 @@ use Rattle.host_edge.specs.declared.line_source.LineRead.{LineRead}
 use Rattle.host_edge.specs.Lines.{IsLineRead}
 use Rattle.host_edge.specs.Sink.{AppendsPart}
 use Rattle.live_replies.specs.Answers.{AnswersRead}
-use Rattle.live_replies.specs.Serves.{AreTurns, EndsTurn, IsTurn, Moment, Serves, ServesTo, Turn, most_line}
+use Rattle.live_replies.specs.Serves.{AreTurns, EndsTurn, IsTurn, Moment, Serves, ServesTo, Turn, asks_for_end, end_after, most_line}
 
 -- nothing was read yet
 pub none_yet : (a : Moment) → Serves a a
 none_yet a = record { turns = []; are_turns = refl }
 
 -- one turn
-pub one_turn : (a b : Moment) (t : Turn) → IsTurn a t → t.after ≡ b → Serves a b
-one_turn a b t is ends = record { turns = t ∷ []; are_turns = (is, ends) }
+pub one_turn : (a b : Moment) (t : Turn) → IsTurn a t → asks_for_end t.read t.line ≡ false → t.after ≡ b → Serves a b
+one_turn a b t is goes ends = record { turns = t ∷ []; are_turns = (is, goes, ends) }
 
 turns_on : (a b c : Moment) (ts us : List Turn) → AreTurns a ts b → AreTurns b us c → AreTurns a (ts ++ us) c
 turns_on a b c [] us h k = subst (λ m. AreTurns m us c) (sym h) k
-turns_on a b c (t ∷ ts) us h k = (h.0, turns_on t.after b c ts us h.1 k)
+turns_on a b c (t ∷ ts) us h k = (h.0, h.1, turns_on t.after b c ts us h.2 k)
 
 -- some turns, and then more
 pub more_turns : (a b c : Moment) → Serves a b → Serves b c → Serves a c
@@ -37,23 +37,30 @@ pub last_turn : (r last : Result (Option End) ServeFault) (a b c : Moment) → r
 last_turn r last a b c is h k = record { middle = b; served = h; ended = subst (λ q. EndsTurn q b c) is k }
 
 -- what a reply that was written, whole or in part, makes of a turn
-pub turn_ends : (r : Result (Option End) ServeFault) (a b : Moment) (read : LineRead) (line said : List ℕ) → IfSome a.rest (λ bytes. IsLineRead most_line bytes read line b.rest)
-    → AnswersRead read line a.live b.live said → OnOk r (b.held ≡ append_known a.held said) → IfOk r (λ end. end ≢ Some Input) → IfErr r (λ fault. fault ≡ Write)
-    → OnErr r (AppendsPart a.held b.held said) → EndsTurn r a b
-turn_ends (Ok None) a b read line said heard answered whole other fault part =
-    one_turn a b (record { read = read; line = line; said = said; after = b }) (record { heard = heard; answered = answered; written = whole }) refl
-turn_ends (Ok (Some Quit)) a b read line said heard answered whole other fault part =
-    one_turn a b (record { read = read; line = line; said = said; after = b }) (record { heard = heard; answered = answered; written = whole }) refl
-turn_ends (Ok (Some Input)) a b read line said heard answered whole other fault part = absurd (other refl)
-turn_ends (Err Write) a b read line said heard answered whole other fault part = record {
+pub turn_ends : (r : Result (Option End) ServeFault) (a b : Moment) (read : LineRead) (line said : List ℕ) (asks : Bool) → IfSome a.rest (λ bytes. IsLineRead most_line bytes read line b.rest)
+    → AnswersRead read line a.live b.live said → asks ≡ asks_for_end read line → OnOk r (b.held ≡ append_known a.held said) → IfOk r (λ end. end ≡ end_after asks)
+    → IfErr r (λ fault. fault ≡ Write) → OnErr r (AppendsPart a.held b.held said) → EndsTurn r a b
+turn_ends (Ok None) a b read line said false heard answered asked whole end fault part =
+    one_turn a b (record { read = read; line = line; said = said; after = b }) (record { heard = heard; answered = answered; written = whole }) (sym asked) refl
+turn_ends (Ok None) a b read line said true heard answered asked whole end fault part = cc
+turn_ends (Ok (Some Quit)) a b read line said true heard answered asked whole end fault part = record {
+  turn = record { read = read; line = line; said = said; after = b };
+  is_turn = record { heard = heard; answered = answered; written = whole };
+  asks = sym asked;
+  leads = refl;
+}
+turn_ends (Ok (Some Quit)) a b read line said false heard answered asked whole end fault part = cc
+turn_ends (Ok (Some Input)) a b read line said true heard answered asked whole end fault part = cc
+turn_ends (Ok (Some Input)) a b read line said false heard answered asked whole end fault part = cc
+turn_ends (Err Write) a b read line said asks heard answered asked whole end fault part = record {
   turn = record { read = read; line = line; said = said; after = b };
   heard = heard;
   rest = refl;
   answered = answered;
   part = part;
 }
-turn_ends (Err Read) a b read line said heard answered whole other fault part = cc
-turn_ends (Err Memory) a b read line said heard answered whole other fault part = cc
+turn_ends (Err Read) a b read line said asks heard answered asked whole end fault part = cc
+turn_ends (Err Memory) a b read line said asks heard answered asked whole end fault part = cc
 
 -- no memory was left for a line
 pub no_room : (r : Result End ServeFault) (a : Moment) → r ≡ Err Memory → IfErr r (λ fault. ServesTo (Err fault) a a)

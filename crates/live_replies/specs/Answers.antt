@@ -1,14 +1,15 @@
 -- The reply to a request.
-use Rattle.std.specs.Prelude.{◌≡◌, ◌⊎◌, ℕ, List, ◌++◌, Result, Ok, Err}
+use Rattle.std.specs.Prelude.{◌≡◌, ◌⊎◌, ℕ, List, ◌++◌, Option, None, Some, Result, Ok, Err}
 use Rattle.host_edge.specs.declared.line_source.LineRead.{LineRead}
 use Rattle.host_edge.specs.declared.line_source.LineRead.TheVariants.{Whole, TooLong, End}
-use Rattle.gml_text.specs.Tree.{Pairs}
+use Rattle.gml_text.specs.View.{tree}
+use Rattle.diagram_read.specs.Scene.{scene_of}
 use Rattle.scene_model.specs.Scene.{Scene}
 use Rattle.walk_model.specs.declared.route.WrittenRoute.{WrittenRoute}
 use Rattle.scene_model.specs.declared.edit.Command.{Command}
 use Rattle.scene_model.specs.declared.edit.Command.TheVariants.{Begin, Edit, Commit, Abort, Undo, Redo, Bad}
 use Rattle.scene_model.specs.declared.fault.SessionFault.{SessionFault}
-use Rattle.scene_model.specs.declared.fault.SessionFault.TheVariants.{Memory}
+use Rattle.scene_model.specs.declared.fault.SessionFault.TheVariants.{Memory, NoTransaction}
 use Rattle.scene_model.specs.World.{given_up}
 use Rattle.report_text.specs.declared.refusal.Refusal.TheVariants as refusals
 use Rattle.session_laws.specs.State.{State}
@@ -16,7 +17,7 @@ use Rattle.session_laws.specs.Calls.{IsCall}
 use Rattle.form_route.specs.Diagram.{IsDiagram}
 use Rattle.form_route.specs.Routes.{AreLines}
 use Rattle.live_replies.specs.declared.request.Request.{Request}
-use Rattle.live_replies.specs.declared.request.Request.TheVariants.{Nothing, Do, Lines, Gml, Next, Quit}
+use Rattle.live_replies.specs.declared.request.Request.TheVariants.{Nothing, Do, Preview, Lines, Gml, Next, Quit}
 use Rattle.live_replies.specs.Changes.{changes, changes_text}
 use Rattle.live_replies.specs.Live.{LiveState}
 use Rattle.live_replies.specs.Requests.{request_of}
@@ -57,11 +58,14 @@ pub record AnswersCall (c : Command) (old new : LiveState) (said : List ℕ) : T
   pub result : Result Unit SessionFault
   pub call : IsCall c result old.session new.session
   pub tells : TellsResult c result old.told new said
+  pub diagram : new.diagram ≡ old.diagram
 
 -- no transaction is open, and all else is as before
-abbrev pub GivesUp : LiveState → LiveState → Type 0
-GivesUp old new =
-    (new.session.world ≡ given_up old.session.world) × (new.session.book ≡ old.session.book) × (new.told ≡ old.told)
+pub record GivesUp (old new : LiveState) : Type 0 where
+  pub world : new.session.world ≡ given_up old.session.world
+  pub book : new.session.book ≡ old.session.book
+  pub told : new.told ≡ old.told
+  pub diagram : new.diagram ≡ old.diagram
 
 -- the reply to a command
 abbrev pub AnswersCommand : Command → LiveState → LiveState → List ℕ → Type 0
@@ -72,20 +76,38 @@ AnswersCommand c old new said = AnswersCall c old new said
 abbrev pub AnswersNoMemory : LiveState → LiveState → List ℕ → Type 0
 AnswersNoMemory old new said = (new ≡ old) × (said ≡ no_memory_line)
 
+-- the lines of the session after a commit of its open transaction
+pub record WouldGive (old : State) (lines : List WrittenRoute) : Type 0 where
+  pub after : State
+  pub commit : IsCall Commit (Ok tt) old after
+  pub are_lines : AreSessionLines after lines
+
+-- the changes that a commit would tell; the transaction stays open
+pub record TellsPreview (old new : LiveState) (said : List ℕ) : Type 0 where
+  pub lines : List WrittenRoute
+  pub would_give : WouldGive old.session lines
+  pub is_said : said ≡ changes_text (changes old.told lines) ++ ok_line
+  pub stays : new ≡ old
+
+-- the reply to `preview`, by the working scene: it is refused where no transaction is open
+abbrev pub AnswersPreview : Option Scene → LiveState → LiveState → List ℕ → Type 0
+AnswersPreview None old new said = (new ≡ old) × (said ≡ refused_line (refusals.Command NoTransaction))
+AnswersPreview (Some working) old new said = TellsPreview old new said
+
 -- all lines of the session, which are told now
 abbrev pub TellsLines : LiveState → LiveState → List ℕ → Type 0
 TellsLines old new said =
     AreSessionLines old.session new.told × (new ≡ record old { told = new.told }) × (said ≡ drawn_texts new.told ++ ok_line)
 
--- a diagram with the present scene and its lines put in; of which diagram, no clause says
-pub record IsDiagramOf (s : State) (text : List ℕ) : Type 0 where
-  pub tree : Pairs
+-- the diagram that was opened, with the present scene and its lines put in
+pub record IsDiagramOf (l : LiveState) (text : List ℕ) : Type 0 where
   pub was : Scene
-  pub diagram : IsDiagram tree was s.world.present s.book text
+  pub source : scene_of (tree l.diagram) ≡ Ok was
+  pub diagram : IsDiagram (tree l.diagram) was l.session.world.present l.session.book text
 
 -- the diagram
 abbrev pub TellsDiagram : LiveState → LiveState → List ℕ → Type 0
-TellsDiagram old new said = (new ≡ old) × ((text : List ℕ) × IsDiagramOf old.session text × (said ≡ gml_text text ++ ok_line))
+TellsDiagram old new said = (new ≡ old) × ((text : List ℕ) × IsDiagramOf old text × (said ≡ gml_text text ++ ok_line))
 
 -- the number of the next connector that is added
 abbrev pub TellsNext : LiveState → LiveState → List ℕ → Type 0
@@ -95,6 +117,7 @@ TellsNext old new said = (new ≡ old) × (said ≡ next_text old.session.world.
 abbrev pub Answers : Request → LiveState → LiveState → List ℕ → Type 0
 Answers Nothing old new said = (new ≡ old) × (said ≡ ok_line)
 Answers (Do command) old new said = AnswersCommand command old new said
+Answers Preview old new said = AnswersPreview old.session.world.working old new said ⊎ AnswersNoMemory old new said
 Answers Lines old new said = TellsLines old new said ⊎ AnswersNoMemory old new said
 Answers Gml old new said = TellsDiagram old new said ⊎ AnswersNoMemory old new said
 Answers Next old new said = TellsNext old new said ⊎ AnswersNoMemory old new said

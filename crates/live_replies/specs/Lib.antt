@@ -5,5 +5,7 @@ pub mod Requests
 pub mod Said
 pub mod Live
 pub mod Answers
+pub mod Edited
+pub mod Previews
 pub mod Client
 pub mod Serves

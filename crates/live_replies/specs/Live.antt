@@ -1,6 +1,7 @@
 -- A session beside an editor.
 use Rattle.std.specs.Prelude.{◌≡◌, List, Ok}
 use Rattle.gml_text.specs.Tree.{Pairs}
+use Rattle.gml_text.specs.declared.tree.Doc.{Doc}
 use Rattle.gml_text.specs.Printed.{IsPrintable}
 use Rattle.diagram_read.specs.Scene.{scene_of}
 use Rattle.walk_model.specs.declared.route.WrittenRoute.{WrittenRoute}
@@ -9,8 +10,9 @@ use Rattle.scene_model.specs.World.{World, Everywhere}
 use Rattle.gml_scene.specs.Origins.{AreEdgesOf, AreNodesOf}
 use Rattle.session_laws.specs.State.{State}
 
--- the session, and the lines that the client was told last
+-- the diagram that was opened, the session, and the lines that the client was told last
 pub record LiveState : Type 0 where
+  pub diagram : Doc
   pub session : State
   pub told : List WrittenRoute
 

@@ -1,7 +1,8 @@
 -- A session that is served: lines are read, and each is replied to before the next.
-use Rattle.std.specs.Prelude.{◌≡◌, ℕ, List, [], ◌∷◌, Option, None, Some, IfSome, Result, Ok, Err}
+use Rattle.std.specs.Prelude.{◌≡◌, ℕ, Bool, true, false, List, [], ◌∷◌, Option, None, Some, IfSome, Result, Ok, Err}
 use Rattle.std.specs.Io.KnownBytes.{append_known}
 use Rattle.host_edge.specs.declared.line_source.LineRead.{LineRead}
+use Rattle.host_edge.specs.declared.line_source.LineRead.TheVariants.{Whole, TooLong, End as NoLine}
 use Rattle.host_edge.specs.Lines.{IsLineRead}
 use Rattle.host_edge.specs.Sink.{AppendsPart}
 use Rattle.live_replies.specs.declared.serving.End.{End}
@@ -10,6 +11,7 @@ use Rattle.live_replies.specs.declared.serving.ServeFault.{ServeFault}
 use Rattle.live_replies.specs.declared.serving.ServeFault.TheVariants.{Read, Write, Memory}
 use Rattle.live_replies.specs.Answers.{AnswersRead}
 use Rattle.live_replies.specs.Live.{LiveState}
+use Rattle.live_replies.specs.Requests.{is_quit}
 
 -- the greatest number of bytes of a line
 abbrev pub most_line : ℕ
@@ -38,15 +40,33 @@ pub record IsTurn (a : Moment) (t : Turn) : Type 0 where
   pub answered : AnswersRead t.read t.line a.live t.after.live t.said
   pub written : t.after.held ≡ append_known a.held t.said
 
--- the turns lead from the one moment to the other, each from where the one before it ends
+-- what was read asks for the end
+abbrev pub asks_for_end : LineRead → List ℕ → Bool
+asks_for_end Whole line = is_quit line
+asks_for_end TooLong line = false
+asks_for_end NoLine line = false
+
+-- how a session ends after a turn that asks for it, or does not
+abbrev pub end_after : Bool → Option End
+end_after true = Some Quit
+end_after false = None
+
+-- the turns lead from the one moment to the other, each from where the one before it ends, and none asks for the end
 abbrev pub AreTurns : Moment → List Turn → Moment → Type 0
 AreTurns a [] b = a ≡ b
-AreTurns a (t ∷ turns) b = IsTurn a t × AreTurns t.after turns b
+AreTurns a (t ∷ turns) b = IsTurn a t × (asks_for_end t.read t.line ≡ false) × AreTurns t.after turns b
 
 -- some turns lead there
 pub record Serves (a b : Moment) : Type 0 where
   pub turns : List Turn
   pub are_turns : AreTurns a turns b
+
+-- one turn leads there, which asks for the end
+pub record IsLastTurn (a b : Moment) : Type 0 where
+  pub turn : Turn
+  pub is_turn : IsTurn a turn
+  pub asks : asks_for_end turn.read turn.line ≡ true
+  pub leads : turn.after ≡ b
 
 -- a line was read and its reply was found, and a part of the reply was written
 pub record WritesPart (a b : Moment) : Type 0 where
@@ -65,7 +85,7 @@ pub record StaysAt (a b : Moment) : Type 0 where
 abbrev pub EndsTurn : Result (Option End) ServeFault → Moment → Moment → Type 0
 EndsTurn (Ok None) a b = Serves a b
 EndsTurn (Ok (Some Input)) a b = StaysAt a b × IfSome a.rest (λ bytes. bytes ≡ [])
-EndsTurn (Ok (Some Quit)) a b = Serves a b
+EndsTurn (Ok (Some Quit)) a b = IsLastTurn a b
 EndsTurn (Err Read) a b = StaysAt a b
 EndsTurn (Err Write) a b = WritesPart a b
 EndsTurn (Err Memory) a b = a ≡ b
@@ -75,3 +95,7 @@ pub record ServesTo (last : Result (Option End) ServeFault) (a b : Moment) : Typ
   pub middle : Moment
   pub served : Serves a middle
   pub ended : EndsTurn last middle b
+
+-- the law: a session keeps the diagram that it was opened with
+abbrev pub DiagramsStay : Type 0
+DiagramsStay = (last : Result (Option End) ServeFault) (a b : Moment) → ServesTo last a b → b.live.diagram ≡ a.live.diagram

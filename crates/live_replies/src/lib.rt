@@ -1,8 +1,8 @@
 //! The engine of a session beside an editor: the reply to each line that the editor writes, and the loop that serves.
 #![tactic(auto)]
 
-mod call;
 mod change;
+mod editing;
 mod laws;
 mod line;
 mod live;
@@ -11,7 +11,7 @@ mod request;
 mod serving;
 mod text;
 
-pub use laws::changes_keep_clients;
+pub use laws::{changes_keep_clients, diagrams_stay, previews_are_commits};
 pub use live::Live;
 pub use reply::Said;
 pub use request::Request;

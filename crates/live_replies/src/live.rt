@@ -1,5 +1,5 @@
 //! A session beside an editor: its diagram, its scenes, and the lines that the client was told.
-ghost use Rattle.std.specs.Prelude.{◌≡◌, ◌≢◌, ◌⊎◌, ◌≤◌, ◌++◌, ℕ, List, [], IfErr, IfOk, OnErr, OnOk, Ok};
+ghost use Rattle.std.specs.Prelude.{◌≡◌, ◌≢◌, ◌⊎◌, ◌≤◌, ◌++◌, ℕ, List, [], IfErr, IfOk, IsSome, OnErr, OnOk, Ok};
 ghost use Rattle.gml_text.specs.Printed.{IsPrintable};
 ghost use Rattle.gml_text.specs.View.{tree};
 ghost use Rattle.diagram_read.specs.Scene.{scene_of};
@@ -7,17 +7,18 @@ ghost use Rattle.scene_model.specs.World.{IsDirectedCommand, given_up, opened};
 ghost use Rattle.scene_model.specs.declared.edit.Command.TheVariants as commands;
 ghost use Rattle.session_laws.specs.Calls.{IsCall};
 ghost use Rattle.report_text.specs.declared.refusal.Refusal.TheVariants as refusals;
-ghost use Rattle.live_replies.specs.Answers.{Answers, AnswersCommand, AnswersNoMemory, AnswersRead, AreSessionLines, GivesUp, TellsChanges, TellsDiagram, TellsDone, TellsLines, TellsNext, TellsResult};
+ghost use Rattle.live_replies.specs.Answers.{Answers, AnswersCommand, AnswersNoMemory, AnswersRead, AreSessionLines, GivesUp, TellsChanges, TellsDiagram, TellsDone, TellsLines, TellsNext, TellsPreview, TellsResult};
 ghost use Rattle.live_replies.specs.Changes.{changes, changes_text};
 ghost use Rattle.live_replies.specs.Live.{LiveState};
-ghost use Rattle.live_replies.specs.Requests.{IsDirectedRequest, request_of};
+ghost use Rattle.live_replies.specs.Requests.{IsDirectedRequest, is_quit, request_of};
 ghost use Rattle.live_replies.specs.Said.{said_bytes};
 ghost use Rattle.live_replies.specs.Texts.{drawn_texts, gml_text, next_text, no_memory_line, ok_line, refused_line};
+ghost use Rattle.live_replies.specs.declared.request.Request.TheVariants as requests;
 ghost use Rattle.host_edge.specs.declared.line_source.LineRead.TheVariants as reads;
 
-use crate::call::call;
+use crate::editing::Editing;
 use crate::reply::{Said, refused};
-use crate::request::{Request, request_of};
+use crate::request::{Request, is_quit, request_of};
 use crate::text::{changes_text, gml_text, lines_text, next_text};
 use form_route::printed_diagram;
 use gml_text::Doc;
@@ -34,23 +35,28 @@ use walk_model::WrittenRoute;
 
 /// A session beside an editor.
 ///
-/// Contracts see it as its session, and the lines that the client was told last. Each scene of the session comes from the
-/// diagram that it was opened with.
+/// Contracts see it as the diagram that it was opened with, its session, and the lines that the client was told last. Each
+/// scene of the session comes from the diagram.
 #[derive(Drop)]
 pub struct Live {
     alloc: Global,
     doc: Doc,
-    session: Session,
+    session: Editing,
     told: Vec<WrittenRoute>,
 }
 
 impl Model for Live {
     ghost use Rattle.gml_text.specs.View.{tree};
+    ghost use Rattle.gml_text.specs.contracts.tree.Doc as document;
+    ghost use Rattle.std.specs.Coded.{codes};
     ghost use Rattle.live_replies.specs.Live.{LiveState, IsFromDiagram};
 
     ghost Value = { LiveState };
 
+    ghost coded = { Prim.hlevel (codes, document.the_row.coded) };
+
     ghost view = { λ l. record {
+      diagram = l.doc;
       session = l.session;
       told = l.told.items;
     } };
@@ -74,6 +80,7 @@ impl Live {
         requires few_workers { workers ≤ 4 }
         requires source { scene_of (tree doc) ≡ Ok scene }
         requires printable { IsPrintable (tree doc) }
+        ensures diagram { IfOk result (λ l. l.diagram ≡ doc) }
         ensures world { IfOk result (λ l. l.session.world ≡ opened scene) }
         ensures told { IfOk result (λ l. l.told ≡ []) }
     {
@@ -83,7 +90,7 @@ impl Live {
         Ok(Live {
             alloc,
             doc,
-            session,
+            session: Editing::new(alloc, session),
             told: Vec::new(alloc),
         })
     }
@@ -102,8 +109,9 @@ impl Live {
         requires form { command.now ≢ commands.Bad }
         ensures call { IsCall command.now result self.old.session self.new.session }
         ensures told { self.new.told ≡ self.old.told }
+        ensures diagram { self.new.diagram ≡ self.old.diagram }
     {
-        call(rt, &mut self.session, command, workers, gate)
+        self.session.call(rt, command, workers, gate)
     }
 
     /// Drops the transaction if one is open.
@@ -117,8 +125,9 @@ impl Live {
     fn session_lines(&self) -> Result<Vec<WrittenRoute>, AllocError>
         ensures { IfOk result (λ lines. AreSessionLines self.now.session lines.items) }
     {
-        self.session.right();
-        let Nudged { routes, .. } = self.session.nudged()?;
+        let session = self.session.session();
+        session.right();
+        let Nudged { routes, .. } = session.nudged()?;
         Ok(routes)
     }
 
@@ -136,6 +145,7 @@ impl Live {
     fn tell_changes(&mut self) -> Said
         ensures tells { TellsChanges self.old.told self.new (said_bytes result) }
         ensures session { self.new.session ≡ self.old.session }
+        ensures diagram { self.new.diagram ≡ self.old.diagram }
     {
         match self.changes() {
             Ok((lines, text)) => {
@@ -151,6 +161,7 @@ impl Live {
         requires { command.now ≢ commands.Bad }
         ensures tells { TellsDone command.now self.old.told self.new (said_bytes result) }
         ensures session { self.new.session ≡ self.old.session }
+        ensures diagram { self.new.diagram ≡ self.old.diagram }
     {
         match command {
             Command::Commit | Command::Undo | Command::Redo => self.tell_changes(),
@@ -187,6 +198,35 @@ impl Live {
         refused(self.alloc, &Refusal::Syntax)
     }
 
+    /// The text that tells what a commit of the open transaction would change.
+    fn preview<R: Threads + Sync, G: Gate>(
+        &self,
+        rt: &R,
+        workers: u32,
+        gate: &G,
+    ) -> Result<Vec<u8>, AllocError>
+        requires some { 1 ≤ workers }
+        requires few_workers { workers ≤ 4 }
+        requires transaction { IsSome self.now.session.world.working }
+        ensures { IfOk result (λ text. TellsPreview self.now self.now text.items) }
+    {
+        let lines = self.session.preview(rt, self.alloc, workers, gate)?;
+        changes_text(self.alloc, &self.told, &lines)
+    }
+
+    /// Tells what a commit would change, if a transaction is open.
+    fn tell_preview<R: Threads + Sync, G: Gate>(&self, rt: &R, workers: u32, gate: &G) -> Said
+        requires some { 1 ≤ workers }
+        requires few_workers { workers ≤ 4 }
+        ensures { Answers requests.Preview self.now self.now (said_bytes result) }
+    {
+        if self.session.session().is_open() {
+            Said::of(self.preview(rt, workers, gate))
+        } else {
+            refused(self.alloc, &Refusal::Command(SessionFault::NoTransaction))
+        }
+    }
+
     /// All lines of the present scene, and the text that tells them.
     fn all_lines(&self) -> Result<(Vec<WrittenRoute>, Vec<u8>), AllocError>
         ensures lines { IfOk result (λ r. AreSessionLines self.now.session r.0.items) }
@@ -214,7 +254,7 @@ impl Live {
     fn diagram(&self) -> Result<Vec<u8>, AllocError>
         ensures { IfOk result (λ text. TellsDiagram self.now self.now text.items) }
     {
-        let diagram = printed_diagram(self.alloc, &self.doc, &self.session)?;
+        let diagram = printed_diagram(self.alloc, &self.doc, self.session.session())?;
         gml_text(self.alloc, &diagram)
     }
 
@@ -222,7 +262,7 @@ impl Live {
     fn next(&self) -> Result<Vec<u8>, AllocError>
         ensures { IfOk result (λ text. TellsNext self.now self.now text.items) }
     {
-        next_text(self.alloc, self.session.scene().next_edge())
+        next_text(self.alloc, self.session.session().scene().next_edge())
     }
 
     /// Does what a request asks for, and tells what came of it.
@@ -244,13 +284,14 @@ impl Live {
             Request::Nothing | Request::Quit => Said::Done,
             Request::Do(Command::Bad) => self.refuse_line(),
             Request::Do(command) => self.do_command(rt, &command, workers, gate),
+            Request::Preview => self.tell_preview(rt, workers, gate),
             Request::Lines => self.tell_lines(),
             Request::Gml => Said::of(self.diagram()),
             Request::Next => Said::of(self.next()),
         }
     }
 
-    /// The reply to a line, and whether it is the last one.
+    /// The reply to a line, and whether the line asks for the end.
     ///
     /// After a refused command no transaction is open, and the scenes and lines are as before.
     pub fn reply<R: Threads + Sync, G: Gate>(
@@ -262,16 +303,15 @@ impl Live {
     ) -> (Said, bool)
         requires some { 1 ≤ workers }
         requires few_workers { workers ≤ 4 }
-        ensures { AnswersRead reads.Whole line.now self.old self.new (said_bytes result.0) }
+        ensures reply { AnswersRead reads.Whole line.now self.old self.new (said_bytes result.0) }
+        ensures end { result.1 ≡ is_quit line.now }
     {
+        let is_last = is_quit(line);
         match request_of(self.alloc, line) {
-            Ok(request) => (
-                self.answer(rt, request, workers, gate),
-                request == Request::Quit,
-            ),
+            Ok(request) => (self.answer(rt, request, workers, gate), is_last),
             Err(AllocError) => {
                 self.give_up();
-                (Said::NoMemory, false)
+                (Said::NoMemory, is_last)
             }
         }
     }

@@ -1,7 +1,7 @@
 //! What a line of input asks for.
-ghost use Rattle.std.specs.Prelude.{◌≡◌, IfOk, map};
+ghost use Rattle.std.specs.Prelude.{◌≡◌, IfOk};
 ghost use Rattle.std.specs.Str.Lines.{strip_carriage_return};
-ghost use Rattle.live_replies.specs.Requests.{IsDirectedRequest, command_request, first_of, request_of};
+ghost use Rattle.live_replies.specs.Requests.{IsDirectedRequest, command_request, first_of, is_quit, is_word, request_of};
 ghost use Rattle.script_replay.specs.Replies.{AreDirected};
 ghost use Rattle.edit_script.specs.Script.{HaveDirections};
 
@@ -16,6 +16,8 @@ pub enum Request {
     Nothing,
     /// A command of a script. `Bad` is a line that has no form.
     Do(Command),
+    /// What a commit would change.
+    Preview,
     /// The corners of all lines.
     Lines,
     /// The diagram.
@@ -58,19 +60,34 @@ fn command_request(alloc: Global, line: &[u8]) -> Result<Request, AllocError>
     Ok(first_of(&list))
 }
 
+/// Whether the line is this word, where one carriage return at its end is dropped.
+fn is_word(word: &[u8], line: &[u8]) -> bool
+    ensures { result ≡ is_word word.now line.now }
+{
+    without_return(line) == word
+}
+
+/// Whether the line asks for the end.
+pub(crate) fn is_quit(line: &[u8]) -> bool
+    ensures { result ≡ is_quit line.now }
+{
+    is_word(b"quit", line)
+}
+
 /// What a line asks for. The only error is out of memory.
 pub(crate) fn request_of(alloc: Global, line: &[u8]) -> Result<Request, AllocError>
     ensures request { IfOk result (λ request. request ≡ request_of line.now) }
     ensures directed { IfOk result IsDirectedRequest }
 {
-    let word = without_return(line);
-    if word == b"lines".as_slice() {
+    if is_word(b"preview", line) {
+        Ok(Request::Preview)
+    } else if is_word(b"lines", line) {
         Ok(Request::Lines)
-    } else if word == b"gml".as_slice() {
+    } else if is_word(b"gml", line) {
         Ok(Request::Gml)
-    } else if word == b"next".as_slice() {
+    } else if is_word(b"next", line) {
         Ok(Request::Next)
-    } else if word == b"quit".as_slice() {
+    } else if is_quit(line) {
         Ok(Request::Quit)
     } else {
         command_request(alloc, line)

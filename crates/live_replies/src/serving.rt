@@ -1,10 +1,10 @@
 //! The loop that serves: it reads a line, and writes the reply to it before it reads the next.
-ghost use Rattle.std.specs.Prelude.{◌≡◌, ◌≢◌, ◌≤◌, None, Err, IfErr, IfOk, IsOk, OnErr, OnOk, Ok, Some, vec_capacity};
+ghost use Rattle.std.specs.Prelude.{◌≡◌, ◌≤◌, Err, IfErr, IfOk, IsOk, OnErr, OnOk, Ok, Some, vec_capacity};
 ghost use Rattle.std.specs.Io.KnownBytes.{append_known};
 ghost use Rattle.host_edge.specs.Sink.{AppendsPart};
 ghost use Rattle.live_replies.specs.declared.serving.ServeFault.TheVariants as faults;
 ghost use Rattle.live_replies.specs.Said.{said_bytes};
-ghost use Rattle.live_replies.specs.Serves.{EndsTurn, ServesTo};
+ghost use Rattle.live_replies.specs.Serves.{EndsTurn, ServesTo, end_after};
 
 use crate::live::Live;
 use crate::reply::Said;
@@ -67,7 +67,7 @@ impl From<AllocError> for ServeFault {
 /// Writes the whole of what is said, and answers whether it ends the session.
 fn say<O: Sink>(out: &mut O, said: (Said, bool)) -> Result<Option<End>, ServeFault>
     ensures whole { OnOk result (O.held out.new ≡ append_known (O.held out.old) (said_bytes said.0)) }
-    ensures end { IfOk result (λ end. end ≢ Some End.Input) }
+    ensures end { IfOk result (λ end. end ≡ end_after said.1) }
     ensures err { IfErr result (λ fault. fault ≡ ServeFault.Write) }
     ensures part { OnErr result (AppendsPart (O.held out.old) (O.held out.new) (said_bytes said.0)) }
 {

@@ -1,6 +1,6 @@
 -- One turn after another.
-use Rattle.std.proofs.Common.{◌∙◌, rules, ap, Ok}
-use Rattle.live_replies.proofs.Turns.{turn_on, no_room, ended_by}
+use Rattle.std.proofs.Common.{◌∙◌, rules, ap, Ok, Some}
+use Rattle.live_replies.proofs.Turns.{turn_on, last_turn, no_room, ended_by}
 use Rattle.live_replies.proofs.serving.serve.Goals as goal
 
 pub loop-preserved : goal.loop-preserved
@@ -8,6 +8,9 @@ loop-preserved g c = record {
   room = search rules;
   served = turn_on c.turn.result _ _ _ (c.in_ok-end.was ∙ ap Ok c.in_default.is) c.loop.invariant.served c.turn.ensures.ends;
 }
+
+pub returns-in-Some-clause-ok : goal.returns-in-Some-clause-ok
+returns-in-Some-clause-ok g c = last_turn c.turn.result (Ok (Some c.in-Some.end)) _ _ _ (c.in_ok-end.was ∙ ap Ok c.in-Some.is) c.loop.invariant.served c.turn.ensures.ends
 
 pub returns-in_err-line-clause-err : goal.returns-in_err-line-clause-err
 returns-in_err-line-clause-err g c = no_room c.from_residual.result _ (search rules)

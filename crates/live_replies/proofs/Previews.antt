@@ -1,0 +1,37 @@
+-- A commit tells what the preview before it told.
+use Rattle.std.proofs.Common.{◌≡◌, List, ◌++◌, Ok, inl, inr, sym, ap, ◌∙◌, subst}
+use Rattle.walk_model.specs.declared.route.Answer.{Answer}
+use Rattle.walk_model.specs.declared.route.WrittenRoute.{WrittenRoute}
+use Rattle.scene_model.specs.declared.edit.Command.TheVariants.{Commit}
+use Rattle.scene_model.specs.Answers.{HaveOneList}
+use Rattle.scene_model.specs.Scene.{Scene}
+use Rattle.scene_model.specs.Valid.{IsValid}
+use Rattle.scene_model.specs.World.{World}
+use Rattle.session_laws.specs.Calls.{IsCall}
+use Rattle.nudge_phases.specs.Nudged.{HaveOneNudged}
+use Rattle.form_route.specs.Routes.{AreLines}
+use Rattle.live_replies.specs.Changes.{changes, changes_text}
+use Rattle.live_replies.specs.Live.{LiveState}
+use Rattle.live_replies.specs.Previews.{PreviewsAreCommits}
+use Rattle.live_replies.specs.Texts.{ok_line}
+use Rattle.live_replies.proofs.OpenEdits.{led_to}
+
+module _ (one_answers : HaveOneList) (one_nudged : HaveOneNudged) where
+  -- a valid scene has one list of lines
+  same_lines : (s : Scene) (answers others : List Answer) (these those : List WrittenRoute) → IsValid s → AreLines s answers these → AreLines s others those → these ≡ those
+  same_lines s answers others these those valid a b =
+      let moved = subst (λ (found : List Answer). AreLines s found those) (sym (one_answers s answers others a.right b.right)) b in
+      one_nudged s answers a.x_solutions a.y_solutions moved.x_solutions moved.y_solutions these those valid a.right a.nudged moved.nudged
+
+  pub commits_tell : PreviewsAreCommits
+  commits_tell old middle new previewed said valid p call (inr untold) = inr untold.1
+  commits_tell old middle new previewed said valid p call (inl told) =
+      let after = p.would_give.after in
+      let done = subst (λ (l : LiveState). IsCall Commit (Ok tt) l.session new.session) p.stays call in
+      let world : after.world ≡ new.session.world = led_to (sym p.would_give.commit.ok ∙ done.ok) in
+      let are = subst (λ (w : World). AreLines w.present after.book p.lines) world p.would_give.are_lines in
+      let lines : p.lines ≡ new.told = same_lines new.session.world.present after.book new.session.book p.lines new.told valid are told.0 in
+      inl (told.1
+      ∙ ap (λ (l : LiveState). changes_text (changes l.told new.told) ++ ok_line) p.stays
+      ∙ ap (λ (ls : List WrittenRoute). changes_text (changes old.told ls) ++ ok_line) (sym lines)
+      ∙ sym p.is_said)

@@ -1,0 +1,14 @@
+-- A preview, and the commit right after it.
+use Rattle.std.specs.Prelude.{◌≡◌, ◌⊎◌, ℕ, List, Ok}
+use Rattle.scene_model.specs.Valid.{IsValid}
+use Rattle.scene_model.specs.declared.edit.Command.TheVariants.{Commit}
+use Rattle.session_laws.specs.Calls.{IsCall}
+use Rattle.live_replies.specs.Answers.{TellsChanges, TellsPreview}
+use Rattle.live_replies.specs.Live.{LiveState}
+use Rattle.live_replies.specs.Texts.{untold_line}
+
+-- the law: a commit that is done tells what the preview right before it told, or that no memory is left to tell it
+abbrev pub PreviewsAreCommits : Type 0
+PreviewsAreCommits =
+    (old middle new : LiveState) (previewed said : List ℕ) → IsValid new.session.world.present → TellsPreview old middle previewed →
+    IsCall Commit (Ok tt) middle.session new.session → TellsChanges middle.told new said → (said ≡ previewed) ⊎ (said ≡ untold_line)
