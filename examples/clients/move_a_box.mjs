@@ -1,8 +1,8 @@
-// Moves a box between two others, has an edit refused, and undoes the move: node move_a_box.mjs PROGRAM
+// Previews a move of a box between two others, makes it, has an edit refused, and undoes it: node move_a_box.mjs PROGRAM
 import { Refused, Session } from './reroute.mjs';
 
 const session = await Session.open(process.argv[2] ?? 'reroute_live');
-const shown = edge => JSON.stringify(session.lines.get(edge));
+const shown = (edge, lines = session.lines) => JSON.stringify(lines.get(edge));
 const edge = await session.transaction(async () => {
   await session.addBox(1, 0, 0, 20, 20);
   await session.addBox(2, 100, 0, 20, 20);
@@ -10,6 +10,8 @@ const edge = await session.transaction(async () => {
   return session.connect(1, 2);
 });
 console.log('out of the way:', shown(edge));
+console.log('would be:', shown(edge, await session.trial(() => session.move(3, 50, 0))));
+console.log('still:', shown(edge));
 await session.transaction(() => session.move(3, 50, 0));
 console.log('between the others:', shown(edge), 'changed', JSON.stringify(session.changed));
 try {

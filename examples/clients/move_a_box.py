@@ -1,4 +1,4 @@
-"""Moves a box between two others, has an edit refused, and undoes the move: move_a_box.py PROGRAM"""
+"""Previews a move of a box between two others, makes it, has an edit refused, and undoes it: move_a_box.py PROGRAM"""
 import sys
 
 from reroute import Refused, Session
@@ -10,6 +10,10 @@ with Session(sys.argv[1] if len(sys.argv) > 1 else 'reroute_live') as session:
         session.add_box(3, 50, 80, 20, 40)
         edge = session.connect(1, 2)
     print('out of the way:', session.lines[edge])
+    with session.trial():
+        session.move(3, 50, 0)
+        print('would be:', session.preview()[edge])
+    print('still:', session.lines[edge])
     with session.transaction():
         session.move(3, 50, 0)
     print('between the others:', session.lines[edge], 'changed', session.changed)

@@ -31,6 +31,19 @@ export class Ended extends Error {}
 
 const unit = value => value.toFixed(3);
 
+/** Applies what is told to have changed to these lines, and answers the numbers of the connectors. */
+function apply(told, lines) {
+  return told.map(line => line.split(' ')).map(words => {
+    const edge = Number(words[0] === 'no' ? words[2] : words[1]);
+    if (words[0] === 'no') lines.delete(edge);
+    else {
+      const numbers = words.slice(2).map(Number);
+      lines.set(edge, numbers.flatMap((x, at) => (at % 2 ? [] : [[x, numbers[at + 1]]])));
+    }
+    return edge;
+  });
+}
+
 /** A scene with its lines, beside a running `reroute_live`. */
 export class Session {
   /** Starts the program, on a diagram in GML where its name is given, else on an empty one. */
@@ -49,11 +62,15 @@ export class Session {
     this.waiting = []; // the replies that are still to come, the first one first
     this.rest = Buffer.alloc(0);
     this.missing = 0; // how many bytes of a diagram are still to come
+    this.fault = null; // why there are no more replies, once the program has ended
     this.process = spawn(program, words, { stdio: ['pipe', 'pipe', 'inherit'] });
     this.ended = new Promise(resolve => this.process.on('close', resolve).on('error', resolve));
     this.process.stdout.on('data', bytes => this.#hearBytes(bytes));
     this.process.stdin.on('error', () => {});
-    this.ended.then(status => this.waiting.splice(0).forEach(reply => reply.fail(new Ended(`status ${status}`))));
+    this.ended.then(status => {
+      this.fault = new Ended(`status ${status}`);
+      this.waiting.splice(0).forEach(reply => reply.fail(this.fault));
+    });
   }
 
   #hearBytes(bytes) {
@@ -78,6 +95,7 @@ export class Session {
 
   /** Sends one line, and answers the lines of the reply before its last one. Fails with `Refused`. */
   async say(command) {
+    if (this.fault) throw this.fault;
     const lines = [];
     const isUntold = await new Promise((done, fail) => {
       this.waiting.push({ lines, done, fail });
@@ -94,16 +112,7 @@ export class Session {
   }
 
   #hear(told) {
-    this.changed = [];
-    for (const words of told.map(line => line.split(' '))) {
-      const edge = Number(words[0] === 'no' ? words[2] : words[1]);
-      if (words[0] === 'no') this.lines.delete(edge);
-      else {
-        const numbers = words.slice(2).map(Number);
-        this.lines.set(edge, numbers.flatMap((x, at) => (at % 2 ? [] : [[x, numbers[at + 1]]])));
-      }
-      this.changed.push(edge);
-    }
+    this.changed = apply(told, this.lines);
   }
 
   /** Asks for all lines. */
@@ -128,9 +137,36 @@ export class Session {
       return answer;
     } catch (error) {
       this.next = before;
-      if (!(error instanceof Refused || error instanceof Ended)) await this.say('abort');
+      await this.#giveUp();
       throw error;
     }
+  }
+
+  /** Makes edits that are taken back, and answers the lines that they would give, by their numbers. */
+  async trial(edits) {
+    await this.say('begin');
+    const before = this.next;
+    try {
+      await edits(this);
+      return await this.preview();
+    } finally {
+      this.next = before;
+      await this.#giveUp();
+    }
+  }
+
+  /** Drops the transaction if one is open. */
+  async #giveUp() {
+    await this.say('abort').catch(error => {
+      if (!(error instanceof Refused || error instanceof Ended)) throw error;
+    });
+  }
+
+  /** The lines that a commit of the open transaction would give, by their numbers. Nothing changes. */
+  async preview() {
+    const lines = new Map(this.lines);
+    apply(await this.say('preview'), lines);
+    return lines;
   }
 
   async undo() { this.#hear(await this.say('undo')); await this.#count(); }

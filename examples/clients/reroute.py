@@ -95,16 +95,7 @@ class Session:
 
     def _hear(self, told):
         """Applies what is told to have changed."""
-        self.changed = []
-        for words in (line.split() for line in told):
-            if words[0] == 'no':
-                edge = int(words[2])
-                self.lines.pop(edge, None)
-            else:
-                edge = int(words[1])
-                numbers = [float(word) for word in words[2:]]
-                self.lines[edge] = list(zip(numbers[::2], numbers[1::2]))
-            self.changed.append(edge)
+        self.changed = _apply(told, self.lines)
 
     def refresh(self):
         """Asks for all lines."""
@@ -122,18 +113,33 @@ class Session:
         before = self._next
         try:
             yield self
-        except Refused:
-            self._next = before
-            raise
+            self._hear(self.say('commit'))
         except BaseException:
             self._next = before
-            self.say('abort')
+            self._give_up()
             raise
+
+    @contextlib.contextmanager
+    def trial(self):
+        """Edits that are taken back at the end. Ask for their `preview` among them."""
+        self.say('begin')
+        before = self._next
         try:
-            self._hear(self.say('commit'))
-        except Refused:
+            yield self
+        finally:
             self._next = before
-            raise
+            self._give_up()
+
+    def _give_up(self):
+        """Drops the transaction if one is open."""
+        with contextlib.suppress(Refused, Ended):
+            self.say('abort')
+
+    def preview(self):
+        """The lines that a commit of the open transaction would give, by their numbers. Nothing changes."""
+        lines = dict(self.lines)
+        _apply(self.say('preview'), lines)
+        return lines
 
     def undo(self):
         self._hear(self.say('undo'))
@@ -189,6 +195,21 @@ class Session:
     def set(self, setting, value):
         """Sets `penalty`, `buffer` or `nudge`."""
         self.say(f'set {setting} {_unit(value)}')
+
+
+def _apply(told, lines):
+    """Applies what is told to have changed to these lines, and answers the numbers of the connectors."""
+    changed = []
+    for words in (line.split() for line in told):
+        if words[0] == 'no':
+            edge = int(words[2])
+            lines.pop(edge, None)
+        else:
+            edge = int(words[1])
+            numbers = [float(word) for word in words[2:]]
+            lines[edge] = list(zip(numbers[::2], numbers[1::2]))
+        changed.append(edge)
+    return changed
 
 
 def _unit(value):

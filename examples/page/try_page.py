@@ -1,7 +1,8 @@
 #!/usr/bin/env python3
 """Tries the page in headless Chromium: try_page.py PROGRAM [--picture FILE.png]
 
-Drags a box, looks at the lines in the page, compares them with the diagram of the program, undoes, and looks again.
+Drags a box, and looks at the lines that follow while the diagram of the program stays as it is. Releases the box, looks
+at the lines in the page, compares them with the diagram, undoes, and looks again.
 Then it moves a box by the keyboard, adds and removes one, and lays a box on the end of a connector, which leaves it
 without a route. Status 0 where all is as it should be, 1 where something is not, 2 where there is no Chromium.
 """
@@ -81,6 +82,10 @@ def lines_of(browser):
     return {edge: corners for edge, corners in browser.value('[...reroute.lines]')}
 
 
+def shown_by(browser):
+    return {edge: corners for edge, corners in browser.value('[...reroute.shown().lines]')}
+
+
 def lines_in(gml):
     """The lines of a diagram, by the numbers of its edges."""
     edges = re.findall(r'  edge \[(.*?)\n  \]', gml, re.S)
@@ -88,7 +93,8 @@ def lines_in(gml):
     return {number: corners for number, corners in enumerate(points, 1) if corners}
 
 
-def drag(browser, box, dx, dy):
+def drag(browser, box, dx, dy, look=None):
+    """Drags a box, and looks before it is released."""
     x, y = browser.value(f'''(() => {{ const r = document.querySelector('[data-box="{box}"]').getBoundingClientRect();
         return [r.x + r.width / 2, r.y + r.height / 2]; }})()''')
     browser.mouse('mousePressed', x, y)
@@ -96,6 +102,8 @@ def drag(browser, box, dx, dy):
         browser.mouse('mouseMoved', x + dx * part / 10, y + dy * part / 10)
         browser.value('reroute.isIdle()')
     browser.value('reroute.isIdle()')
+    if look:
+        look()
     browser.mouse('mouseReleased', x + dx, y + dy)
     browser.value('reroute.isIdle()')
 
@@ -112,9 +120,17 @@ def tried(browser, picture):
     browser.value('''new Promise(done => { const look = () => document.body?.dataset.ready ? done() : setTimeout(look, 20); look(); })''')
     before = lines_of(browser)
     expect('each connector has a line', len(before) == 16)
-    drag(browser, 6, 140, 60)
+    during = {}
+
+    def look():
+        during.update(shown_by(browser))
+        expect('while a box is dragged, lines follow', during != before)
+        expect("and the program's diagram stays", lines_in(browser.value('reroute.gml()')) == before)
+
+    drag(browser, 6, 140, 60, look)
     after = lines_of(browser)
     expect('a drag changes lines', after != before)
+    expect('to those that were shown before the box was released', after == during)
     expect('changed lines are marked', browser.value("document.querySelectorAll('.line.changed').length > 0"))
     if picture:
         browser.picture(picture)
