@@ -381,9 +381,9 @@ fn graph_of(alloc: Global, scene: &Scene) -> Result<Graph, AllocError>
     Graph::build(alloc, &floor)
 }
 
-/// The scene's book.
+/// The scene's book, by two workers, or without threads.
 fn opened<R: Threads + Sync>(
-    rt: &R,
+    rt: Option<&R>,
     alloc: Global,
     scene: &Scene,
     tally: &mut Tally,
@@ -391,12 +391,15 @@ fn opened<R: Threads + Sync>(
     ensures { IfOk result (AreAnswers scene.now) }
 {
     let graph = graph_of(alloc, scene)?;
-    Book::build(rt, alloc, scene, &graph, 2, &OpenGate, tally)
+    match rt {
+        Some(rt) => Book::build(rt, alloc, scene, &graph, 2, &OpenGate, tally),
+        None => Book::build_alone(alloc, scene, &graph, tally),
+    }
 }
 
-/// The exchange of answers between the scenes.
+/// The exchange of answers between the scenes, by two workers, or without threads.
 fn followed<R: Threads + Sync>(
-    rt: &R,
+    rt: Option<&R>,
     alloc: Global,
     book: &mut Book,
     old: &Scene,
@@ -408,7 +411,10 @@ fn followed<R: Threads + Sync>(
     ensures here { IfOk result (λ c. c.here ≡ book.old) }
 {
     let graph = graph_of(alloc, new)?;
-    book.follow(rt, old, new, &graph, 2, &OpenGate, tally)
+    match rt {
+        Some(rt) => book.follow(rt, old, new, &graph, 2, &OpenGate, tally),
+        None => book.follow_alone(old, new, &graph, tally),
+    }
 }
 
 /// The cost of the route of edge 1.
@@ -453,7 +459,7 @@ struct Outcome {
 
 /// The result for the book of the old scene.
 fn told_of<R: Threads + Sync>(
-    rt: &R,
+    rt: Option<&R>,
     alloc: Global,
     book: &mut Book,
     old: &Scene,
@@ -475,7 +481,7 @@ fn told_of<R: Threads + Sync>(
 
 /// The result for a book between the scenes.
 fn told<R: Threads + Sync>(
-    rt: &R,
+    rt: Option<&R>,
     alloc: Global,
     old: &Scene,
     new: &Scene,
@@ -487,7 +493,7 @@ fn told<R: Threads + Sync>(
 
 /// Loads both scenes, and returns the result of the row.
 fn filled<R: Threads + Sync>(
-    rt: &R,
+    rt: Option<&R>,
     alloc: Global,
     old: &mut Scene,
     new: &mut Scene,
@@ -499,7 +505,11 @@ fn filled<R: Threads + Sync>(
 }
 
 /// The result of a row.
-fn row_told<R: Threads + Sync>(rt: &R, alloc: Global, row: Row) -> Result<Outcome, SceneFault> {
+fn row_told<R: Threads + Sync>(
+    rt: Option<&R>,
+    alloc: Global,
+    row: Row,
+) -> Result<Outcome, SceneFault> {
     let mut old = Scene::new(alloc);
     let mut new = Scene::new(alloc);
     filled(rt, alloc, &mut old, &mut new, row)
@@ -515,6 +525,8 @@ fn searches_what_may_change(rt: HostRuntime) {
             searches,
             costs: [before, after, before],
         };
-        assert_eq!(rt; row_told(&rt, rt.alloc(), row), Ok(wanted));
+        assert_eq!(rt; row_told(Some(&rt), rt.alloc(), row), Ok(wanted));
+        let alone = row_told::<HostRuntime>(None, rt.alloc(), row);
+        assert_eq!(rt; alone, Ok(wanted));
     }
 }

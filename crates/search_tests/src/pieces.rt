@@ -7,7 +7,7 @@ ghost use Rattle.search_tests.specs.Idle.{idle_task};
 
 use crate::choices::idle;
 use line_arena::LineArena;
-use par_route::{CountGate, Gate, HoldGate, OpenGate, route_all};
+use par_route::{CountGate, Gate, HoldGate, OpenGate, route_all, route_each};
 use route_search::Tally;
 use std::alloc::{AllocError, Global};
 use std::test::Fail;
@@ -66,6 +66,18 @@ fn answered<R: Threads + Sync, G: Gate>(
     answered_on(rt, alloc, graph.arena(), &tasks, workers, gate, tally)
 }
 
+/// The number of idle tasks that are answered without threads, and of those with a route.
+fn answered_alone(
+    alloc: Global,
+    count: u32,
+    tally: &mut Tally,
+) -> Result<(usize, usize), AllocError> {
+    let tasks = idle_tasks(alloc, count)?;
+    let graph = Graph::empty(alloc);
+    let answers = route_each(alloc, graph.arena(), &[], &tasks, tally)?;
+    Ok(counts(answers))
+}
+
 #[test]
 fn cuts_tasks_into_pieces(rt: HostRuntime) -> Result<(), Fail> {
     let alloc = rt.alloc();
@@ -105,5 +117,14 @@ fn passes_an_open_gate(rt: HostRuntime) -> Result<(), Fail> {
     let answers = answered(&rt, rt.alloc(), 4, 3, &OpenGate, &mut tally)?;
     assert_eq!(rt; answers, (4, 0));
     assert_eq!(rt; tally.count(), 4);
+    Ok(())
+}
+
+#[test]
+fn searches_without_threads(rt: HostRuntime) -> Result<(), Fail> {
+    let mut tally = Tally::new();
+    let answers = answered_alone(rt.alloc(), 5, &mut tally)?;
+    assert_eq!(rt; answers, (5, 0));
+    assert_eq!(rt; tally.count(), 5);
     Ok(())
 }

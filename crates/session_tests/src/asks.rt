@@ -1,14 +1,18 @@
 //! Scenes for sessions, edits in short, and what is compared of a session.
 ghost use Rattle.scene_model.specs.Edits.{IsDirected};
 
+use par_route::OpenGate;
 use route_session::Session;
 use scene_store::{Dirs, Edit, Scene, SceneFault, Setting};
+use std::alloc::{AllocError, Global};
+use std::thread::Threads;
 
-/// What is compared: whether a transaction is open, where the second box stands, the next edge number, the cost of the
-/// first connector's route, and both counts.
+/// What is compared: whether a transaction is open, where the second box stands in its working scene and in the present
+/// one, the next edge number, the cost of the first connector's route, and both counts.
 #[derive(Clone, Copy, Debug, PartialEq, Eq)]
 pub(crate) struct Sight {
     pub(crate) open: bool,
+    pub(crate) working_x: Option<i64>,
     pub(crate) x: Option<i64>,
     pub(crate) next_edge: u32,
     pub(crate) cost: Option<u64>,
@@ -16,16 +20,34 @@ pub(crate) struct Sight {
     pub(crate) written: u64,
 }
 
+/// Where the second box stands.
+fn second_x(scene: &Scene) -> Option<i64> {
+    scene.node(2).map(|node| node.x)
+}
+
 pub(crate) fn look(session: &Session) -> Sight {
     let answer = session.book().answer(1);
     let route = answer.and_then(|answer| answer.route.as_ref());
     Sight {
         open: session.is_open(),
-        x: session.scene().node(2).map(|node| node.x),
+        working_x: session.working().and_then(second_x),
+        x: second_x(session.scene()),
         next_edge: session.scene().next_edge(),
         cost: route.map(|route| route.cost),
         searched: session.searched(),
         written: session.written(),
+    }
+}
+
+/// A session on the scene, by two workers, or without threads.
+pub(crate) fn open<R: Threads + Sync>(
+    rt: Option<&R>,
+    alloc: Global,
+    scene: Scene,
+) -> Result<Session, AllocError> {
+    match rt {
+        Some(rt) => Session::open(rt, alloc, scene, 2, &OpenGate),
+        None => Session::open_alone(alloc, scene),
     }
 }
 

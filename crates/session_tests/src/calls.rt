@@ -1,7 +1,7 @@
 //! The calls of a session, the number of writes to its graph, and each of its faults from one
 //! state, after which everything is as before.
 
-use crate::asks::{Ask, Drawing, Sight, draw, edit_of, look};
+use crate::asks::{Ask, Drawing, Sight, draw, edit_of, look, open};
 use par_route::OpenGate;
 use route_session::{Session, SessionFault};
 use scene_store::{Scene, SceneFault};
@@ -34,12 +34,24 @@ fn give_up(session: &mut Session) -> Result<(), SessionFault> {
     Ok(())
 }
 
+/// Commits by one worker, or without threads.
+fn commit<R: Threads + Sync>(rt: Option<&R>, session: &mut Session) -> Result<(), SessionFault> {
+    match rt {
+        Some(rt) => session.commit(rt, 1, &OpenGate),
+        None => session.commit_alone(),
+    }
+}
+
 /// Makes a call. It has no contract, so that a test compares only what it observes.
-fn make<R: Threads + Sync>(rt: &R, session: &mut Session, call: Call) -> Result<(), SessionFault> {
+fn make<R: Threads + Sync>(
+    rt: Option<&R>,
+    session: &mut Session,
+    call: Call,
+) -> Result<(), SessionFault> {
     match call {
         Call::Begin => session.begin(),
         Call::Edit(ask) => session.edit(&edit_of(ask)),
-        Call::Commit => session.commit(rt, 1, &OpenGate),
+        Call::Commit => commit(rt, session),
         Call::Abort => session.abort(),
         Call::GiveUp => give_up(session),
         Call::Undo => session.undo(),
@@ -49,7 +61,7 @@ fn make<R: Threads + Sync>(rt: &R, session: &mut Session, call: Call) -> Result<
 
 /// Makes calls up to the first one that is refused.
 fn make_all<R: Threads + Sync>(
-    rt: &R,
+    rt: Option<&R>,
     session: &mut Session,
     calls: &[Call],
 ) -> Result<(), SessionFault> {
@@ -66,6 +78,8 @@ enum Wanted {
     AsOpened,
     /// The place of the second box, the cost of the first route and the number of searches.
     Moved(i64, u64, u64),
+    /// The place of the second box in the working scene and in the present one.
+    Working(i64, i64),
     /// The number of lines and crossings that were written into the graph.
     Written(u64),
 }
@@ -76,6 +90,7 @@ fn is_wanted(opened: Sight, seen: Sight, wanted: Wanted) -> bool {
         Wanted::Moved(x, cost, searched) => {
             (seen.x, seen.cost, seen.searched) == (Some(x), Some(cost), searched)
         }
+        Wanted::Working(working_x, x) => { (seen.working_x, seen.x) == (Some(working_x), Some(x)) }
         Wanted::Written(written) => seen.written == written,
     }
 }
@@ -101,7 +116,7 @@ const CHANGED: [Call; 3] = [
 
 /// The result of the last of the calls of a step.
 fn answer<R: Threads + Sync>(
-    rt: &R,
+    rt: Option<&R>,
     session: &mut Session,
     step: Step,
 ) -> Result<(), SessionFault> {
@@ -115,7 +130,12 @@ fn answer<R: Threads + Sync>(
 }
 
 /// Whether the step has its expected result.
-fn is_right<R: Threads + Sync>(rt: &R, session: &mut Session, opened: Sight, step: Step) -> bool {
+fn is_right<R: Threads + Sync>(
+    rt: Option<&R>,
+    session: &mut Session,
+    opened: Sight,
+    step: Step,
+) -> bool {
     let answer = answer(rt, session, step);
     let seen = look(session);
     match step {
@@ -126,7 +146,11 @@ fn is_right<R: Threads + Sync>(rt: &R, session: &mut Session, opened: Sight, ste
 }
 
 /// The first of the steps with another result.
-fn wrong_step<R: Threads + Sync>(rt: &R, session: &mut Session, steps: &[Step]) -> Option<usize> {
+fn wrong_step<R: Threads + Sync>(
+    rt: Option<&R>,
+    session: &mut Session,
+    steps: &[Step],
+) -> Option<usize> {
     let opened = look(session);
     for (place, step) in steps.iter().enumerate() {
         if !is_right(rt, session, opened, *step) {
@@ -147,14 +171,14 @@ struct Outcome {
 
 /// The result of the steps in a session on the drawing.
 fn told<R: Threads + Sync>(
-    rt: &R,
+    rt: Option<&R>,
     alloc: Global,
     drawing: Drawing,
     steps: &[Step],
 ) -> Result<Outcome, SceneFault> {
     let mut scene = Scene::new(alloc);
     let drawn = draw(&mut scene, drawing);
-    let Ok(mut session) = Session::open(rt, alloc, scene, 2, &OpenGate) else {
+    let Ok(mut session) = open(rt, alloc, scene) else {
         return Err(SceneFault::Memory);
     };
     let wrong = wrong_step(rt, &mut session, steps);
@@ -240,9 +264,10 @@ const PASSED: &[Step] = &[
     Step::Made(&[Call::Undo], Wanted::Moved(100_000, 90_000, 2)),
     Step::Made(&[Call::Redo], Wanted::Moved(120_000, 110_000, 2)),
     Step::Made(
-        &[Call::Begin, Call::Edit(Ask::Move(2, 0)), Call::Abort],
-        Wanted::Moved(120_000, 110_000, 2),
+        &[Call::Begin, Call::Edit(Ask::Move(2, 0))],
+        Wanted::Working(0, 120_000),
     ),
+    Step::Made(&[Call::Abort], Wanted::Moved(120_000, 110_000, 2)),
 ];
 
 /// An open transaction is dropped; without one nothing changes.
@@ -334,7 +359,9 @@ fn answers_calls(rt: HostRuntime) {
             lines: row.lines,
             searches: row.searches,
         };
-        let told = told(&rt, rt.alloc(), row.drawing, row.steps);
-        assert_eq!(rt; told, Ok(wanted), "{}", row.name);
+        let threaded = told(Some(&rt), rt.alloc(), row.drawing, row.steps);
+        assert_eq!(rt; threaded, Ok(wanted), "{}", row.name);
+        let alone = told::<HostRuntime>(None, rt.alloc(), row.drawing, row.steps);
+        assert_eq!(rt; alone, Ok(wanted), "{}", row.name);
     }
 }

@@ -1,5 +1,5 @@
 //! Small scenes whose edges are nudged, and a large number of edges, through a session.
-use par_route::OpenGate;
+use crate::asks::open;
 use plane_geom::Point;
 use route_session::Session;
 use scene_store::{Dirs, Edge, Scene, SceneFault, Setting, Via};
@@ -390,11 +390,15 @@ fn compared(session: &Session, row: &Row) -> Result<Outcome, AllocError> {
     })
 }
 
-/// The result of the row in a session.
-fn told<R: Threads + Sync>(rt: &R, alloc: Global, row: &Row) -> Result<Outcome, SceneFault> {
+/// The result of the row in a session, by two workers, or without threads.
+fn told<R: Threads + Sync>(
+    rt: Option<&R>,
+    alloc: Global,
+    row: &Row,
+) -> Result<Outcome, SceneFault> {
     let mut scene = Scene::new(alloc);
     let drawn = draw(&mut scene, alloc, row);
-    let Ok(session) = Session::open(rt, alloc, scene, 2, &OpenGate) else {
+    let Ok(session) = open(rt, alloc, scene) else {
         return Err(SceneFault::Memory);
     };
     let told = compared(&session, row);
@@ -411,6 +415,9 @@ fn nudges_worked_scenes(rt: HostRuntime) {
             y_gaps: true,
             lines: true,
         };
-        assert_eq!(rt; told(&rt, rt.alloc(), row), Ok(wanted), "{}", row.name);
+        let threaded = told(Some(&rt), rt.alloc(), row);
+        assert_eq!(rt; threaded, Ok(wanted), "{}", row.name);
+        let alone = told::<HostRuntime>(None, rt.alloc(), row);
+        assert_eq!(rt; alone, Ok(wanted), "{}", row.name);
     }
 }

@@ -85,7 +85,7 @@ struct Row {
     wanted: &'static [Outcome],
 }
 
-/// The first number of workers with which the session answers otherwise, or 0.
+/// The first number of workers with which the session answers otherwise, 5 if it does without threads, or 0.
 fn wrong_workers<R: Threads + Sync>(
     rt: &R,
     alloc: Global,
@@ -93,6 +93,10 @@ fn wrong_workers<R: Threads + Sync>(
     row: &Row,
 ) -> Result<u32, AllocError> {
     let proposals = proposals(alloc, row.asked)?;
+    let alone = session.preview_alone(&proposals)?;
+    if !are_seen(&alone, row.wanted) {
+        return Ok(5);
+    }
     for workers in 1..=4 {
         let answers = session.preview(rt, &proposals, workers, &OpenGate)?;
         if !are_seen(&answers, row.wanted) {
@@ -121,7 +125,7 @@ fn passed<R: Threads + Sync>(
 /// What is asked of a session.
 #[derive(Clone, Copy)]
 enum Question {
-    /// The answers to the proposals, for each number of workers.
+    /// The answers to the proposals, for each number of workers and without threads.
     Answers(Row),
     /// How pieces pass gates.
     Gates,
