@@ -52,14 +52,11 @@ impl<'a> Comparison<'a> {
         requires right { AreAnswers self.now.old.now answers.now }
         ensures { IfOk result (λ numbers. AreStale self.now.old.now answers.now self.now.new.now numbers.items) }
     {
-        self.new.valid();
         let mut numbers = Vec::new(self.alloc);
-        let mut place = 0;
-        while let Some(edge) = self.new.edge_at(place) {
+        for edge in self.new.edges() {
             if edge.from != edge.to && self.is_stale(answers, edge) {
                 numbers.push(edge.number)?;
             }
-            place += 1;
         }
         Ok(numbers)
     }

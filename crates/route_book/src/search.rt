@@ -26,14 +26,11 @@ pub(crate) fn connector_numbers(alloc: Global, scene: &Scene) -> Result<Vec<u32>
     ensures connectors { IfOk result (λ ns. All (IsConnector scene.now) ns.items) }
     ensures valid { IsValid scene.now }
 {
-    scene.valid();
     let mut numbers = Vec::new(alloc);
-    let mut place = 0;
-    while let Some(edge) = scene.edge_at(place) {
+    for edge in scene.edges() {
         if edge.from != edge.to {
             numbers.push(edge.number)?;
         }
-        place += 1;
     }
     Ok(numbers)
 }

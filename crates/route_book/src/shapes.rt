@@ -63,14 +63,12 @@ pub(crate) fn removed(alloc: Global, old: &Scene, new: &Scene) -> Result<Vec<Sol
 {
     let settings = old.settings();
     let mut removed = Vec::new(alloc);
-    let mut place = 0;
-    while let Some(node) = old.node_at(place) {
+    for node in old.nodes() {
         if let Some(solid) = node.solid(settings) {
             if !has_solid(new, solid) {
                 removed.push(solid)?;
             }
         }
-        place += 1;
     }
     Ok(removed)
 }

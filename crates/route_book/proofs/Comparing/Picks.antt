@@ -1,7 +1,6 @@
 -- Elements that pass a test, and facts of them.
-use Rattle.std.proofs.Common.{◌≡◌, ℕ, zero, suc, ◌<◌, ◌≤◌, Bool, true, None, List, [], ◌∷◌, length, get_or, sym, subst, arith}
-use Rattle.std.specs.Prelude.{All, Any, Contains, filter, slice_get}
-use Rattle.std.proofs.lemmas.Option.{none-some}
+use Rattle.std.proofs.Common.{◌≡◌, ℕ, ◌<◌, Bool, true, List, length, get_or, sym, subst}
+use Rattle.std.specs.Prelude.{All, Any, Contains, filter}
 use Rattle.std.proofs.lemmas.List.Elements.{All-from_recursion, All-contains, All-filter, filter_passes}
 use Rattle.scene_store.proofs.Tasks.{passing}
 
@@ -16,12 +15,6 @@ pub one_passing : {X : Type 0} (p : X → Bool) (xs : List X) (i : ℕ) (x : X) 
 one_passing p xs i x l at h =
     subst (λ y. p y ≡ true → Contains (filter p xs) y) (sym at)
     (All-from_recursion (λ y. p y ≡ true → Contains (filter p xs) y) xs (passing p xs) i x l) h
-
--- past the end nothing is read
-pub past_end : {X : Type 0} (xs : List X) (i : ℕ) → slice_get xs i ≡ None → length xs ≤ i
-past_end [] i h = omega arith
-past_end (x ∷ xs) zero h = absurd (none-some x (sym h))
-past_end (x ∷ xs) (suc i) h = let l = past_end xs i h in omega (arith, l)
 
 -- where the fact holds of none, it holds of no one
 pub none_of : {X : Type 0} (P : X → Type 0) (xs : List X) → All (λ x. P x → ⊥) xs → Any P xs → ⊥
