@@ -119,7 +119,9 @@ fn replayed(
 {
     let mut scene = Scene::new(alloc);
     assert!(rt; fill(&mut scene).is_ok());
-    let Replayed { session, replies } = replay(rt, alloc, scene, commands, workers, &OpenGate)?;
+    let Replayed {
+        session, replies, ..
+    } = replay(rt, alloc, scene, commands, workers, &OpenGate)?;
     let is_open = session.is_open();
     let tally = session.into_tally();
     assert_eq!(rt; replies.as_slice(), wanted);

@@ -18,7 +18,8 @@ pub record IsDiagram (tree : Pairs) (was s : Scene) (answers : List Answer) (tex
   pub is_text : text ≡ printed (tree_of tree was s lines)
 
 -- the report on the replies, followed by the printed diagram of the world's present scene
-pub record IsOutput (tree : Pairs) (was : Scene) (count : Bool) (opening : ℕ) (replies : List LineReply) (end : World) (answers : List Answer) (text : List ℕ) : Type 0 where
+pub record IsOutput (tree : Pairs) (was : Scene) (count : Bool) (opening : ℕ) (replies : List LineReply) (end : World) (answers : List Answer)
+    (text : List ℕ) : Type 0 where
   pub diagram : List ℕ
   pub is_diagram : IsDiagram tree was end.present answers diagram
   pub is_text : text ≡ report count opening replies end answers ++ diagram

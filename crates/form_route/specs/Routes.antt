@@ -30,7 +30,8 @@ pub record Routes (tree : Pairs) (s : Scene) (commands : List (ℕ × Command)) 
   pub lines : List WrittenRoute
   pub are_replies : AreReplies (opened s) commands replies
   pub are_lines : AreLines (world_after s commands).present answers lines
-  pub is_text : text ≡ report count (length (connectors s)) replies (world_after s commands) answers ++ printed (tree_of tree s (world_after s commands).present lines)
+  pub is_text : text ≡ report count (length (connectors s)) replies (world_after s commands) answers
+      ++ printed (tree_of tree s (world_after s commands).present lines)
   pub is_refused : refused ≡ has_refusal replies (world_after s commands)
   pub is_searched : searched ≡ length (connectors s) + searched_in replies
 

@@ -1,8 +1,6 @@
 //! The report of a replay.
-ghost use Rattle.std.specs.Prelude.{◌≡◌, IfOk, length};
+ghost use Rattle.std.specs.Prelude.{◌≡◌, IfOk};
 ghost use Rattle.std.specs.List.{list_any};
-ghost use Rattle.scene_model.specs.Scene.{connectors};
-ghost use Rattle.scene_model.specs.Valid.{IsValid};
 ghost use Rattle.form_route.specs.Report.{edges_routed, has_refusal, is_refused, report, routed_by};
 
 use report_text::{
@@ -14,23 +12,6 @@ use route_session::Session;
 use scene_model::Edge;
 use scene_store::Scene;
 use std::alloc::{AllocError, Global};
-
-/// The number of connectors of the scene, which its opening searches.
-pub(crate) fn connector_count(scene: &Scene) -> u64
-    ensures count { result ≡ length (connectors scene.now) }
-    ensures valid { IsValid scene.now }
-{
-    scene.valid();
-    let mut count = 0;
-    let mut place = 0;
-    while let Some(edge) = scene.edge_at(place) {
-        if edge.from != edge.to {
-            count += 1;
-        }
-        place += 1;
-    }
-    count
-}
 
 /// The route of the edge, by the answers of the book.
 fn routed_by(book: &Book, edge: &Edge) -> Routed
@@ -57,7 +38,7 @@ pub fn edges_routed(
     ensures { IfOk result (λ edges. edges.items ≡ edges_routed scene.now book.now) }
 {
     let mut edges = Vec::new(alloc);
-    while let Some(edge) = scene.edge_at(edges.len()) {
+    for edge in scene.edges() {
         edges.push(EdgeRouted {
             edge: edge.number,
             routed: routed_by(book, edge),

@@ -8,7 +8,7 @@ ghost use Rattle.script_replay.specs.Replies.{AreDirected};
 ghost use Rattle.form_route.specs.Diagram.{IsDiagram, IsOutput};
 ghost use Rattle.form_route.specs.Routes.{AreLines, Routes};
 
-use crate::report::{connector_count, has_refusal, report};
+use crate::report::{has_refusal, report};
 use gml_scene::put_routes;
 use gml_text::{Doc, print};
 use par_route::Gate;
@@ -64,14 +64,15 @@ pub fn route<R: Threads + Sync, G: Gate>(
     requires printable { IsPrintable (tree doc.now) }
     ensures { IfOk result (λ r. Routes (tree doc.now) scene commands.now options.count r.text.items r.is_refused r.tally) }
 {
-    let opening = connector_count(&scene);
+    // For the proof: the scene is valid, so its replay keeps origins.
+    scene.valid();
     let replayed = replay(rt, alloc, scene, commands, options.workers, gate)?;
     replays_keep_origins();
     let written = output(
         alloc,
         doc,
         options.count,
-        opening,
+        replayed.opening,
         &replayed.replies,
         &replayed.session,
     );
@@ -99,7 +100,8 @@ fn output(
     requires nodes { IfOk (scene_of (tree doc.now)) (λ was. AreNodesOf was session.now.world.present) }
     requires edges { IfOk (scene_of (tree doc.now)) (λ was. AreEdgesOf was session.now.world.present) }
     requires printable { IsPrintable (tree doc.now) }
-    ensures { IfOk result (λ text. IfOk (scene_of (tree doc.now)) (λ was. IsOutput (tree doc.now) was count opening replies.now session.now.world session.now.book text.items)) }
+    ensures { IfOk result (λ text. IfOk (scene_of (tree doc.now)) (λ was.
+        IsOutput (tree doc.now) was count opening replies.now session.now.world session.now.book text.items)) }
 {
     let mut text = report(alloc, count, opening, replies, session)?;
     let diagram = printed_diagram(alloc, doc, session)?;

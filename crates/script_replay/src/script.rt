@@ -26,6 +26,8 @@ pub struct Replayed {
     pub session: Session,
     /// The reply to each command, in order.
     pub replies: Vec<LineReply>,
+    /// The number of connectors that the opening searched.
+    pub opening: u64,
 }
 
 /// Opens the scene, and executes the commands one after another, each with the number of its line.
@@ -48,16 +50,22 @@ pub fn replay<R: Threads + Sync, G: Gate>(
     ensures replies { IfOk result (λ r. AreReplies (opened scene) commands.now r.replies.items) }
     ensures world { IfOk result (λ r. r.session.world ≡ world_after scene commands.now) }
     ensures right { IfOk result (λ r. AreAnswers r.session.world.present r.session.book) }
+    ensures opening { IfOk result (λ r. r.opening ≡ length (connectors scene)) }
     // The number of searches is exactly that of the opening and of the commits.
     ensures searched { IfOk result (λ r. r.session.searched ≡ length (connectors scene) + searched_in r.replies.items) }
 {
     // For the proof: the scene has few connectors.
     scene.valid();
     let mut session = Session::open(rt, alloc, scene, workers, gate)?;
+    let opening = session.searched();
     match replies_to(rt, alloc, &mut session, commands, workers, gate) {
         Ok(replies) => {
             session.right();
-            Ok(Replayed { session, replies })
+            Ok(Replayed {
+                session,
+                replies,
+                opening,
+            })
         }
         Err(AllocError) => {
             let _tally = session.into_tally();

@@ -16,27 +16,27 @@ output-written-requires-clause-nodes g c =
     let s = c.args.scene in
     let commands = c.args.commands.now in
     so_of AreNodesOf (scene_of (tree c.args.doc.now)) s c.in_ok-replayed.replayed.session.world (world_after s commands) c.requires.source c.in_ok-replayed.ensures.world
-    (c.replays_keep_origins.ensures.nodes s commands c.connector_count-opening.ensures.valid c.requires.directed)
+    (c.replays_keep_origins.ensures.nodes s commands c.valid.ensures c.requires.directed)
 
 pub output-written-requires-clause-edges : goal.output-written-requires-clause-edges
 output-written-requires-clause-edges g c =
     let s = c.args.scene in
     let commands = c.args.commands.now in
     so_of AreEdgesOf (scene_of (tree c.args.doc.now)) s c.in_ok-replayed.replayed.session.world (world_after s commands) c.requires.source c.in_ok-replayed.ensures.world
-    (c.replays_keep_origins.ensures.edges s commands c.connector_count-opening.ensures.valid c.requires.directed)
+    (c.replays_keep_origins.ensures.edges s commands c.valid.ensures c.requires.directed)
 
 pub returns : goal.returns
 returns g c =
     let t = tree c.args.doc.now in
     let count = c.args.options.count in
-    let opening = c.connector_count-opening.result in
+    let opening = c.in_ok-replayed.replayed.opening in
     let replies = c.in_ok-replayed.replayed.replies.items in
     let w = c.in_ok-replayed.replayed.session.world in
     let answers = c.in_ok-replayed.replayed.session.book in
     made t c.args.scene c.args.commands.now count replies w answers opening c.into_tally-tally.result c.in_ok-text.text.items c.has_refusal-is_refused.result
     c.in_ok-replayed.ensures.world
     c.in_ok-replayed.ensures.replies
-    c.connector_count-opening.ensures.count
+    c.in_ok-replayed.ensures.opening
     (subst (λ (rs : List LineReply). IsOutput t c.args.scene count opening rs w answers c.in_ok-text.text.items) c.deref.ensures.value
     (of_ok (λ was. IsOutput t was count opening c.deref.result.now w answers c.in_ok-text.text.items) (scene_of t) c.args.scene c.requires.source
     (of_ok (λ text. IfOk (scene_of t) (λ was. IsOutput t was count opening c.deref.result.now w answers text.items)) c.output-written.result c.in_ok-text.text c.in_ok-text.was c.output-written.ensures)))
