@@ -26,6 +26,7 @@ use Rattle.report_text.specs.declared.finding.Finding.{Finding}
 use Rattle.report_text.specs.declared.finding.Finding.TheVariants.{Judged}
 use Rattle.report_text.specs.declared.finding.EdgeFinding.{EdgeFinding}
 use Rattle.script_replay.specs.Replies.{AreReplies, HaveOneListOfReplies, world_after}
+use Rattle.form_check.specs.Checks.{IsFinding, IsFindingOf, IsLineFinding, first_line_fault, is_breach}
 use Rattle.form_route.specs.Report.{has_refusal}
 use Rattle.form_preview.specs.Proposes.{ComeToOne, Proposes}
 use Rattle.diagram_read.specs.declared.fault.Part.{Part}
@@ -39,7 +40,7 @@ use Rattle.reroute_app.specs.Outcome.{Outcome, Course, Ends}
 use Rattle.reroute_app.specs.Reads.{HasRead, HasFailed, HasMore, ReadsFile}
 use Rattle.reroute_app.specs.Reads.ReadsFile.{fails, is_too_long, goes_on}
 use Rattle.reroute_app.specs.Diagram.{most_bytes, IsDiagram, HasDiagram, TakesScene, TakesTree, ReadsDiagram}
-use Rattle.reroute_app.specs.Check.{IsFinding, IsFindingOf, IsLineFinding, first_line_fault, is_breach, status_of, SaysFindings, ChecksUnless, Checks}
+use Rattle.reroute_app.specs.Check.{SaysFindings, ChecksUnless, Checks, check_status}
 use Rattle.reroute_app.specs.Replay.{most_script_bytes, replay_status, Replays}
 use Rattle.reroute_app.specs.Preview.{Previews}
 use Rattle.reroute_app.specs.Shared.{ListsPaths}
@@ -473,15 +474,17 @@ module _ (words : List (List ℕ)) (files : Option ToldFiles) (old new : List No
     }
 
     end_said : (tree : Pairs) (scene : Scene) → FindsLines words files old new tree scene → SaysFindings tree scene o → Ending o.status
-    end_said tree scene found said = by (list_any (λ f. is_breach f.finding) said.findings) refl
+    end_said tree scene found said = by said.breach refl
       where
-        by : (b : Bool) → list_any (λ f. is_breach f.finding) said.findings ≡ b → Ending o.status
-        by true any =
-            let is_bad : status_of said.findings ≡ status.BadLine = rw any refl in
-            by_finding (line_is_bad (record { tree = tree; scene = scene; found = found; bad = bad_found tree scene scene.edges said.findings said.found any })) (read_status _ said.outcome ∙ is_bad)
-        by false any =
-            let is_done : status_of said.findings ≡ status.Done = rw any refl in
-            by_finding (legal_lines (record { tree = tree; scene = scene; found = found; legal = legal_found tree scene scene.edges said.findings said.found any })) (read_status _ said.outcome ∙ is_done)
+        by : (b : Bool) → said.breach ≡ b → Ending o.status
+        by true is =
+            let any = sym said.checks.verdict ∙ is in
+            by_finding (line_is_bad (record { tree = tree; scene = scene; found = found; bad = bad_found tree scene scene.edges said.checks.findings said.checks.found any }))
+            (read_status _ said.outcome ∙ ap check_status is)
+        by false is =
+            let none = sym said.checks.verdict ∙ is in
+            by_finding (legal_lines (record { tree = tree; scene = scene; found = found; legal = legal_found tree scene scene.edges said.checks.findings said.checks.found none }))
+            (read_status _ said.outcome ∙ ap check_status is)
 
     end_checks : (name bytes : List ℕ) (tree : Pairs) (scene : Scene) (r : Option DiagramFault) → form_of words ≡ Some (check name) → HasRead files name most_bytes old new bytes → IsDiagram bytes tree scene
         → first_line_fault tree scene.edges ≡ r → ChecksUnless tree scene r o → Ending o.status

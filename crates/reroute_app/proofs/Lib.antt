@@ -1,7 +1,4 @@
 -- The lemmas of this crate.
-pub mod Counts
-pub mod Lines
-pub mod Findings
 pub mod Courses
 pub mod Stops
 pub mod Crews

@@ -1,24 +1,15 @@
 -- For given arguments, exposed files and notes there is one outcome.
-use Rattle.std.proofs.Common.{◌≡◌, ℕ, Bool, true, false, List, [], ◌∷◌, Option, Some, None, Result, Ok, Err, refl, sym, ap, ◌∙◌}
+use Rattle.std.proofs.Common.{◌≡◌, ℕ, Bool, List, Option, Some, None, Ok, sym, ap, ◌∙◌}
 use Rattle.std.specs.Prelude.{IsSome}
-use Rattle.std.specs.List.{AllZip}
-use Rattle.plane_geom.specs.declared.point.Point.{Point}
 use Rattle.host_edge.specs.Folder.{ToldFiles}
 use Rattle.host_edge.specs.Note.{Note}
 use Rattle.gml_text.specs.Tree.{Pairs}
-use Rattle.scene_model.specs.declared.edge.Edge.{Edge}
-use Rattle.scene_model.specs.Scene.{Scene, is_loop}
-use Rattle.scene_model.specs.Routing.{solids, task_of}
-use Rattle.route_check.proofs.OneVerdict.Verdicts.{one_verdict}
+use Rattle.scene_model.specs.Scene.{Scene}
 use Rattle.diagram_read.specs.declared.fault.DiagramFault.{DiagramFault}
-use Rattle.diagram_read.specs.Lines.{line_of}
 use Rattle.diagram_read.specs.Scene.{scene_of}
-use Rattle.report_text.specs.declared.finding.Finding.{Finding}
-use Rattle.report_text.specs.declared.finding.Finding.TheVariants.{Judged}
-use Rattle.report_text.specs.declared.finding.EdgeFinding.{EdgeFinding}
-use Rattle.report_text.specs.Findings.{finding_lines}
 use Rattle.edit_script.specs.Script.{commands}
 use Rattle.edit_script.proofs.Directed.{have_directions}
+use Rattle.form_check.specs.Checks.{HaveOneCheck, first_line_fault}
 use Rattle.form_route.specs.Routes.{ComesToOne}
 use Rattle.form_make.specs.Makes.{SeedsComeToOne}
 use Rattle.form_preview.specs.Proposes.{ComeToOne}
@@ -31,7 +22,7 @@ use Rattle.command_words.specs.Words.{Form, check, route, make, preview, shared,
 use Rattle.reroute_app.specs.declared.status.Status.TheVariants.{Done}
 use Rattle.reroute_app.specs.Outcome.{Outcome, Course, Ends, uncounted, unsearched}
 use Rattle.reroute_app.specs.Reads.{ReadsFile}
-use Rattle.reroute_app.specs.Check.{IsFinding, IsFindingOf, IsLineFinding, first_line_fault, status_of, SaysFindings, ChecksUnless, Checks}
+use Rattle.reroute_app.specs.Check.{ChecksUnless, Checks, check_status}
 use Rattle.reroute_app.specs.Replay.{most_script_bytes, replay_status, Replays}
 use Rattle.reroute_app.specs.Make.{Summarizes}
 use Rattle.reroute_app.specs.Preview.{Previews}
@@ -41,43 +32,13 @@ use Rattle.reroute_app.specs.Run.{IsFormOutcome, HasOneOutcome}
 use Rattle.reroute_app.proofs.Courses.{IsCourse, course_ends, course_ends_with, course_file, course_diagram}
 use Rattle.reroute_app.proofs.ReadScenes.{scene_valid}
 
-one_line_finding : (s : Scene) (e : Edge) (r : Result (Option (List Point)) DiagramFault) (f g : Finding) → IsLineFinding s e r f → IsLineFinding s e r g → f ≡ g
-one_line_finding s e (Ok None) f g a b = a ∙ sym b
-one_line_finding s e (Ok (Some points)) f g a b =
-    a.finding ∙ ap Judged (one_verdict (solids s) (task_of s e) points a.task a.verdict b.verdict a.is_verdict b.is_verdict) ∙ sym b.finding
-one_line_finding s e (Err fault) f g a b = absurd a
+module _ (checks : HaveOneCheck) (replays : ComesToOne) (seeds : SeedsComeToOne) (proposals : ComeToOne) (paths : HaveOneText) (certificates : HaveOneCertificate) (audits : HaveOneAudit) where
+  one_check : (tree : Pairs) (s : Scene) (o : Option DiagramFault) (a b : Outcome) → ChecksUnless tree s o a → ChecksUnless tree s o b → a ≡ b
+  one_check tree s None a b p q =
+      let same = checks tree s p.text q.text p.breach q.breach p.checks q.checks in
+      p.outcome ∙ (λ i. unsearched (check_status (same.same_verdict i)) (same.same_text i)) ∙ sym q.outcome
+  one_check tree s (Some fault) a b p q = p ∙ sym q
 
-same_finding : (f g : EdgeFinding) → f.edge ≡ g.edge → f.finding ≡ g.finding → f ≡ g
-same_finding f g edge finding = λ i. record { edge = edge i; finding = finding i }
-
-pub one_finding : (tree : Pairs) (s : Scene) (e : Edge) (f g : EdgeFinding) → IsFinding tree s e f → IsFinding tree s e g → f ≡ g
-one_finding tree s e f g a b = same_finding f g (a.edge ∙ sym b.edge) (by (is_loop e) a.finding b.finding)
-  where
-    by : (loop : Bool) → IsFindingOf loop s e (line_of tree e) f.finding → IsFindingOf loop s e (line_of tree e) g.finding
-        → f.finding ≡ g.finding
-    by true p q = p ∙ sym q
-    by false p q = one_line_finding s e (line_of tree e) f.finding g.finding p q
-
-one_list : (tree : Pairs) (s : Scene) (es : List Edge) (fs gs : List EdgeFinding) → AllZip (IsFinding tree s) es fs → AllZip (IsFinding tree s) es gs → fs ≡ gs
-one_list tree s [] [] [] a b = refl
-one_list tree s [] [] (g ∷ gs) a b = absurd b
-one_list tree s [] (f ∷ fs) gs a b = absurd a
-one_list tree s (e ∷ es) [] gs a b = absurd a
-one_list tree s (e ∷ es) (f ∷ fs) [] a b = absurd b
-one_list tree s (e ∷ es) (f ∷ fs) (g ∷ gs) a b =
-    let first = one_finding tree s e f g a.0 b.0 in
-    let rest = one_list tree s es fs gs a.1 b.1 in
-    λ i. first i ∷ rest i
-
-one_said : (tree : Pairs) (s : Scene) (a b : Outcome) → SaysFindings tree s a → SaysFindings tree s b → a ≡ b
-one_said tree s a b p q =
-    p.outcome ∙ ap (λ fs. unsearched (status_of fs) (finding_lines fs)) (one_list tree s s.edges p.findings q.findings p.found q.found) ∙ sym q.outcome
-
-one_check : (tree : Pairs) (s : Scene) (o : Option DiagramFault) (a b : Outcome) → ChecksUnless tree s o a → ChecksUnless tree s o b → a ≡ b
-one_check tree s None a b p q = one_said tree s a b p q
-one_check tree s (Some fault) a b p q = p ∙ sym q
-
-module _ (replays : ComesToOne) (seeds : SeedsComeToOne) (proposals : ComeToOne) (paths : HaveOneText) (certificates : HaveOneCertificate) (audits : HaveOneAudit) where
   one_replay : (tree : Pairs) (s : Scene) (bytes : List ℕ) (count : Bool) → scene_of tree ≡ Ok s → (a b : Outcome) → Replays tree s (commands bytes) count a → Replays tree s (commands bytes) count b → a ≡ b
   one_replay tree s bytes count is a b p q =
       let same = replays tree s (commands bytes) count p.text q.text p.refused q.refused p.searched q.searched (scene_valid tree s is) (have_directions bytes) p.routes q.routes in

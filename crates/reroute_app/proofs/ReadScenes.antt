@@ -43,7 +43,7 @@ use Rattle.diagram_read.proofs.EdgesRead.{IsRoomyEdge, edge_roomy}
 use Rattle.diagram_read.proofs.NodesRead.{IsRoomy, node_roomy}
 use Rattle.diagram_read.proofs.PinsRead.{pin_loadable, some_told}
 use Rattle.diagram_read.proofs.Steps.{bound, chosen, kept, ok_told, not_refused, there}
-use Rattle.reroute_app.proofs.Counts.{parted}
+use Rattle.form_check.proofs.Counts.{parted}
 
 -- ---- pins
 

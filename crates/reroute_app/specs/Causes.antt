@@ -15,12 +15,12 @@ use Rattle.report_text.specs.declared.reply.LineReply.{LineReply}
 use Rattle.script_replay.specs.Replies.{AreReplies, world_after}
 use Rattle.form_route.specs.Report.{has_refusal}
 use Rattle.command_words.specs.Words.{Form, check, route, make, preview, shared, prove, audit, form_of}
+use Rattle.form_check.specs.Checks.{first_line_fault}
 use Rattle.form_preview.specs.Proposes.{Proposes}
 use Rattle.form_certificate.specs.Sizes.{too_large}
 use Rattle.form_certificate.specs.Auditing.{Audits, HasTrueClaims}
 use Rattle.reroute_app.specs.Reads.{HasRead}
 use Rattle.reroute_app.specs.Diagram.{most_bytes, IsDiagram, HasDiagram}
-use Rattle.reroute_app.specs.Check.{first_line_fault}
 use Rattle.reroute_app.specs.Replay.{most_script_bytes}
 use Rattle.reroute_app.specs.Certificate.{most_certificate_bytes}
 
@@ -119,7 +119,8 @@ pub record FindsLegalLines (words : List (List ℕ)) (files : Option ToldFiles) 
   pub legal : All (HasNoBadLine tree scene) scene.edges
 
 -- a diagram was read and then a second file, which has these bytes
-pub record HasReadBoth (files : Option ToldFiles) (diagram second : List ℕ) (limit : ℕ) (old new : List Note) (tree : Pairs) (scene : Scene) (bytes : List ℕ) : Type 0 where
+pub record HasReadBoth (files : Option ToldFiles) (diagram second : List ℕ) (limit : ℕ) (old new : List Note) (tree : Pairs) (scene : Scene)
+    (bytes : List ℕ) : Type 0 where
   pub middle : List Note
   pub first : HasDiagram files diagram old middle tree scene
   pub read : HasRead files second limit middle new bytes

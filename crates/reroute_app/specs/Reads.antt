@@ -28,4 +28,5 @@ pub record HasMore (files : Option ToldFiles) (name : List ℕ) (limit : ℕ) (o
 pub data ReadsFile (files : Option ToldFiles) (name : List ℕ) (limit : ℕ) (next : List ℕ → Course) (old new : List Note) (o : Outcome) : Type 0 where
   fails : HasFailed name limit old new → o ≡ unsearched status.ReadFault (read_fault_line name) → ReadsFile files name limit next old new o
   is_too_long : HasMore files name limit old new → o ≡ unsearched status.TooLong (too_long_line name limit) → ReadsFile files name limit next old new o
-  goes_on : (bytes : List ℕ) (middle : List Note) → HasRead files name limit old middle bytes → next bytes middle new o → ReadsFile files name limit next old new o
+  goes_on : (bytes : List ℕ) (middle : List Note) → HasRead files name limit old middle bytes → next bytes middle new o
+      → ReadsFile files name limit next old new o

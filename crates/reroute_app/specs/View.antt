@@ -1,13 +1,11 @@
 -- The models of the code's own types. No public clause cites this module.
-use Rattle.std.specs.Prelude.{◌≡◌, ◌⊎◌, ℕ, suc, ◌+◌, ◌≤◌, Bool, List, Some, None, Option, Result, Ok, Err}
+use Rattle.std.specs.Prelude.{◌≡◌, ◌⊎◌, ℕ, Bool, List, Some, None, Option, Result, Ok, Err}
 use Rattle.host_edge.specs.Folder.{ToldFiles, GainsNote}
 use Rattle.host_edge.specs.Note.{Note}
-use Rattle.gml_text.specs.Tree.{Content, number, text, list, Pairs, no_pairs, pair}
+use Rattle.gml_text.specs.Tree.{Pairs}
 use Rattle.scene_model.specs.declared.edit.Command.{Command}
 use Rattle.scene_model.specs.Scene.{Scene}
 use Rattle.edit_script.specs.Script.{commands}
-use Rattle.diagram_read.specs.declared.fault.DiagramFault.{DiagramFault}
-use Rattle.diagram_read.specs.declared.fault.DiagramFault.TheVariants as faults
 use Rattle.reroute_app.specs.declared.outcome.Outcome.{Outcome as Made}
 use Rattle.reroute_app.specs.declared.outcome.Stop.{Stop}
 use Rattle.reroute_app.specs.declared.outcome.Stop.TheVariants.{Ended, Memory}
@@ -77,28 +75,8 @@ pub record HasCommands (files : Option ToldFiles) (name : List ℕ) (old new : L
   pub are_commands : list ≡ commands bytes
 
 -- diagram and script were read: this is the diagram's tree and scene, and these are the commands
-pub record HasBoth (files : Option ToldFiles) (diagram script : List ℕ) (old new : List Note) (tree : Pairs) (scene : Scene) (list : List (ℕ × Command)) : Type 0 where
+pub record HasBoth (files : Option ToldFiles) (diagram script : List ℕ) (old new : List Note) (tree : Pairs) (scene : Scene)
+    (list : List (ℕ × Command)) : Type 0 where
   pub middle : List Note
   pub has_diagram : HasDiagram files diagram old middle tree scene
   pub has_commands : HasCommands files script middle new list
-
--- the fault is the first of the lines, or out of memory, on which the lines have no influence
-abbrev pub IsLineFault : Option DiagramFault → DiagramFault → Type 0
-IsLineFault told faults.Memory = Unit {0}
-IsLineFault told fault = told ≡ Some fault
-
-abbrev mutual
-  -- the number of pairs, at all depths
-  pub pair_count : Pairs → ℕ
-  pair_count no_pairs = 0
-  pair_count (pair key value rest) = suc (value_count value + pair_count rest)
-
-  -- the number of pairs in a value
-  pub value_count : Content → ℕ
-  value_count (number bytes) = 0
-  value_count (text bytes) = 0
-  value_count (list inner) = pair_count inner
-
--- no list of the tree has more pairs than a line may have points
-abbrev pub HasFewPairs : Pairs → Type 0
-HasFewPairs tree = pair_count tree ≤ 40000000

@@ -1,114 +1,35 @@
 //! The check of the lines of a diagram.
-ghost use Rattle.std.specs.Prelude.{◌≡◌, ◌≢◌, All, IfOk, IfErr, IfSome, Ok, Some};
-ghost use Rattle.std.specs.List.{AllZip, list_any};
-ghost use Rattle.plane_geom.specs.Rect.{RectIsOnSheet};
+ghost use Rattle.std.specs.Prelude.{◌≡◌};
 ghost use Rattle.gml_text.specs.View.{tree};
-ghost use Rattle.walk_model.specs.Line.{IsPolyline};
-ghost use Rattle.scene_model.specs.Scene.{edge_with};
-ghost use Rattle.scene_model.specs.Routing.{solids as solids_of};
-ghost use Rattle.reroute_app.specs.Check.{Checks, IsFinding, IsLineFinding, first_line_fault, is_breach, line_fault, status_of};
-ghost use Rattle.reroute_app.specs.View.{Comes, HasFewPairs, IsLineFault};
+ghost use Rattle.form_check.specs.Sizes.{HasFewPairs};
+ghost use Rattle.reroute_app.specs.Check.{Checks, check_status};
+ghost use Rattle.reroute_app.specs.Outcome.{unsearched};
+ghost use Rattle.reroute_app.specs.View.{Comes, view};
 
 use crate::outcome::{Outcome, Stop, no_diagram, unsearched};
 use crate::read::Diagram;
 use crate::status::Status;
-use diagram_read::{DiagramFault, line_of};
-use gml_text::Doc;
-use plane_geom::{Points, Solid};
-use report_text::{EdgeFinding, Finding, push_finding_lines};
-use route_check::check;
-use scene_model::Edge;
-use scene_store::Scene;
-use std::alloc::{AllocError, Global};
+use diagram_read::DiagramFault;
+use form_check::{Checked, check_lines};
+use std::alloc::Global;
 
-/// The result for the line of a connector, if it has one.
-fn line_finding(
-    scene: &Scene,
-    solids: &[Solid],
-    edge: &Edge,
-    line: Option<Points>,
-) -> Result<Finding, AllocError>
-    requires on_sheet { All (λ s. RectIsOnSheet s.rect) solids.now }
-    requires solids { solids.now ≡ solids_of scene.now }
-    requires edge { edge_with scene.now edge.now.number ≡ Some edge.now }
-    requires connector { edge.now.from ≢ edge.now.to }
-    requires line { IfSome line IsPolyline }
-    ensures { IfOk result (IsLineFinding scene.now edge.now (Ok line)) }
+/// How a check ends.
+fn status_of(has_breach: bool) -> Status
+    ensures { result ≡ check_status has_breach }
 {
-    match line {
-        Some(points) => {
-            let task = scene.task(edge.number)?;
-            Ok(Finding::Judged(check(solids, &task, points.as_slice())))
-        }
-        None => Ok(Finding::NoLine),
-    }
-}
-
-/// The result for an edge.
-fn finding_of(
-    alloc: Global,
-    doc: &Doc,
-    scene: &Scene,
-    solids: &[Solid],
-    edge: &Edge,
-) -> Result<EdgeFinding, DiagramFault>
-    requires doc { HasFewPairs (tree doc.now) }
-    requires on_sheet { All (λ s. RectIsOnSheet s.rect) solids.now }
-    requires solids { solids.now ≡ solids_of scene.now }
-    requires edge { edge_with scene.now edge.now.number ≡ Some edge.now }
-    ensures ok { IfOk result (IsFinding (tree doc.now) scene.now edge.now) }
-    ensures err { IfErr result (IsLineFault (line_fault (tree doc.now) edge.now)) }
-{
-    let finding = if edge.from == edge.to {
-        Finding::Loop
-    } else {
-        let line = line_of(alloc, doc, edge)?;
-        line_finding(scene, solids, edge, line)?
-    };
-    Ok(EdgeFinding {
-        edge: edge.number,
-        finding,
-    })
-}
-
-/// The results for the edges, in order, or the first fault of their lines.
-fn findings_of(alloc: Global, doc: &Doc, scene: &Scene) -> Result<Vec<EdgeFinding>, DiagramFault>
-    requires { HasFewPairs (tree doc.now) }
-    ensures ok { IfOk result (λ fs. AllZip (IsFinding (tree doc.now) scene.now) scene.now.edges fs.items) }
-    ensures err { IfErr result (IsLineFault (first_line_fault (tree doc.now) scene.now.edges)) }
-{
-    let floor = scene.floor()?;
-    // Edges are numbered from 1, so there are fewer of them than the next number.
-    let mut findings = Vec::with_capacity(alloc, scene.next_edge() as usize)?;
-    while let Some(edge) = scene.edge_at(findings.len()) {
-        findings.push(finding_of(alloc, doc, scene, floor.solids.as_slice(), edge)?)?;
-    }
-    Ok(findings)
-}
-
-/// Whether a line breaks a rule.
-fn is_breach(finding: &Finding) -> bool
-    ensures { result ≡ is_breach finding.now }
-{
-    matches!(finding, Finding::Judged(Err(_)))
-}
-
-/// Whether some line breaks a rule.
-fn has_breach(findings: &[EdgeFinding]) -> bool
-    ensures { result ≡ list_any (λ f. is_breach f.finding) findings.now }
-{
-    findings.iter().any(|found| is_breach(&found.finding))
-}
-
-/// The status of a check with these results.
-fn status_of(findings: &[EdgeFinding]) -> Status
-    ensures { result ≡ status_of findings.now }
-{
-    if has_breach(findings) {
+    if has_breach {
         Status::BadLine
     } else {
         Status::Done
     }
+}
+
+/// The outcome of a check whose lines can all be read.
+fn outcome_of(checked: Checked) -> Outcome
+    ensures { view result ≡ unsearched (check_status checked.has_breach) checked.text.items }
+{
+    let Checked { text, has_breach } = checked;
+    unsearched(status_of(has_breach), text)
 }
 
 /// The output and the status of a check of the diagram.
@@ -116,12 +37,9 @@ pub(crate) fn check_diagram(alloc: Global, diagram: &Diagram) -> Result<Outcome,
     requires { HasFewPairs (tree diagram.now.doc) }
     ensures { Comes (Checks (tree diagram.now.doc) diagram.now.scene) result }
 {
-    let findings = match findings_of(alloc, &diagram.doc, &diagram.scene) {
-        Ok(findings) => findings,
-        Err(DiagramFault::Memory) => return Err(Stop::Memory),
-        Err(fault) => return Ok(no_diagram(alloc, &fault)?),
-    };
-    let mut text = Vec::new(alloc);
-    push_finding_lines(&mut text, &findings)?;
-    Ok(unsearched(status_of(&findings), text))
+    match check_lines(alloc, &diagram.doc, &diagram.scene) {
+        Ok(checked) => Ok(outcome_of(checked)),
+        Err(DiagramFault::Memory) => Err(Stop::Memory),
+        Err(fault) => Ok(no_diagram(alloc, &fault)?),
+    }
 }

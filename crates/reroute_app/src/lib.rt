@@ -26,6 +26,7 @@ use crate::form::outcome_of;
 use crate::outcome::Outcome;
 pub use exit::exit_code_of;
 use form_certificate::certificates_come_to_one;
+use form_check::checks_come_to_one;
 use form_make::seeds_come_to_one;
 use form_preview::proposals_come_to_one;
 use form_route::replays_come_to_one;
@@ -194,6 +195,7 @@ pub fn one_outcome()
     ensures { (words : List (List ℕ)) (files : Option ToldFiles) (old new : List Note) → IsSome files →
         HasOneOutcome words files old new }
 {
+    checks_come_to_one();
     replays_come_to_one();
     seeds_come_to_one();
     proposals_come_to_one();

@@ -1,8 +1,9 @@
 -- A diagram that is not read is the end, and one that is read is checked.
+use Rattle.std.proofs.Common.{arith}
 use Rattle.gml_text.specs.View.{tree}
+use Rattle.form_check.proofs.Counts.{document_few}
 use Rattle.reroute_app.specs.Outcome.{Ends}
 use Rattle.reroute_app.specs.Check.{Checks}
-use Rattle.reroute_app.proofs.Counts.{document_few}
 use Rattle.reroute_app.proofs.Stops.{diagram_comes, diagram_stops, end_comes}
 use Rattle.reroute_app.proofs.form.check_file.Goals as goal
 
@@ -14,7 +15,8 @@ returns-in_err-diagram-clause-outcome g c =
 pub check_diagram-requires : goal.check_diagram-requires
 check_diagram-requires g c =
     let has = c.in_ok-diagram.ensures.read in
-    document_few (tree c.in_ok-diagram.diagram.doc) has.bytes has.diagram.document has.read.short
+    let short = has.read.short in
+    document_few (tree c.in_ok-diagram.diagram.doc) has.bytes has.diagram.document (omega (arith, short))
 
 pub returns-clause-outcome : goal.returns-clause-outcome
 returns-clause-outcome g c =

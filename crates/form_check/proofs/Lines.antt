@@ -15,8 +15,8 @@ use Rattle.diagram_read.specs.Values.{value_at, lists_at, number_in, is_no_numbe
 use Rattle.diagram_read.specs.Faults.{need, refuse, each}
 use Rattle.diagram_read.specs.Lines.{on_sheet, point_in, with_point, line_with, line_in, list_with, line_of}
 use Rattle.diagram_read.proofs.Steps.{bound, ok_told, there}
-use Rattle.reroute_app.specs.View.{pair_count, HasFewPairs}
-use Rattle.reroute_app.proofs.Counts.{parted, line_few, lists_few}
+use Rattle.form_check.specs.Sizes.{pair_count, HasFewPairs}
+use Rattle.form_check.proofs.Counts.{parted, line_few, lists_few}
 
 fits : (v : ℤ) → is_coordinate v ≡ true → IsCoordinate v
 fits v within = record { low = grind (arith, ints, within); high = grind (arith, ints, within) }

@@ -1,5 +1,5 @@
 -- What is found of edges, one after the other.
-use Rattle.std.proofs.Common.{◌≡◌, ℕ, zero, suc, ◌+◌, ◌<◌, ◌≤◌, ◌==◌, Bool, true, false, cond, List, [], ◌∷◌, ◌++◌, length, take, drop, get_or, Option, Some, None, Result, Ok, Err, refl, sym, ap, subst, ◌∙◌, arith, add-one, drop-cons, eq-eqb}
+use Rattle.std.proofs.Common.{◌≡◌, ℕ, zero, suc, ◌+◌, ◌<◌, ◌==◌, Bool, true, false, cond, List, [], ◌∷◌, ◌++◌, length, take, drop, get_or, Option, Some, None, Result, Ok, Err, refl, sym, ap, subst, ◌∙◌, arith, add-one, drop-cons, eq-eqb}
 use Rattle.std.specs.Prelude.{IfErr, IsErrAnd, slice_get, find, if◌then◌else◌}
 use Rattle.std.specs.Result.{result_err}
 use Rattle.std.specs.List.{AllByRecursion as Each, AllZip}
@@ -18,11 +18,7 @@ use Rattle.diagram_read.specs.declared.fault.DiagramFault.TheVariants as faults
 use Rattle.diagram_read.specs.Lines.{line_of}
 use Rattle.report_text.specs.declared.finding.Finding.{Finding}
 use Rattle.report_text.specs.declared.finding.EdgeFinding.{EdgeFinding}
-use Rattle.report_text.specs.Findings.{finding_lines}
-use Rattle.reroute_app.specs.declared.status.Status.{Status}
-use Rattle.reroute_app.specs.Outcome.{unsearched}
-use Rattle.reroute_app.specs.View.{IsLineFault}
-use Rattle.reroute_app.specs.Check.{IsFinding, IsFindingOf, IsLineFinding, line_fault, first_line_fault, status_of, ChecksUnless, Checks}
+use Rattle.form_check.specs.Checks.{IsFinding, IsFindingOf, IsLineFault, IsLineFinding, line_fault, first_line_fault}
 
 -- what stands at a place
 pub record IsAt {X : Type 0} (xs : List X) (k : ℕ) (x : X) : Type 0 where
@@ -33,11 +29,6 @@ pub at_place : {X : Type 0} (xs : List X) (k : ℕ) (x : X) → slice_get xs k �
 at_place [] k x is = absurd (none-some x is)
 at_place (y ∷ ys) zero x is = record { within = omega arith; here = sym (same_Some y x is) }
 at_place (y ∷ ys) (suc k) x is = (let later = at_place ys k x is in let within = later.within in record { within = omega (arith, within); here = later.here })
-
-pub beyond : {X : Type 0} (xs : List X) (k : ℕ) → slice_get xs k ≡ None → length xs ≤ k
-beyond [] k is = omega arith
-beyond (y ∷ ys) zero is = absurd (none-some y (sym is))
-beyond (y ∷ ys) (suc k) is = (let later = beyond ys k is in omega (arith, later))
 
 -- ---- the edge at a place is the one with its number
 
@@ -131,22 +122,3 @@ pub fault_on : {T : Type 0} (tree : Pairs) (es : List Edge) (k : ℕ) (e : Edge)
 fault_on tree es k e f (Ok x) at later is handed = tt
 fault_on tree es k e f (Err g) at later is handed =
     subst (IsLineFault (first_line_fault tree es)) (sym handed) (fault_moves f (line_fault tree e) (first_line_fault tree es) (λ h here. later ∙ fault_here tree es k e h at here) is)
-
-take-all : {X : Type 0} (xs : List X) (k : ℕ) → length xs ≤ k → take k xs ≡ xs
-take-all [] zero long = refl
-take-all [] (suc k) long = refl
-take-all (x ∷ xs) zero long = absurd (omega (arith, long))
-take-all (x ∷ xs) (suc k) long = ap (λ ys. x ∷ ys) (take-all xs k (omega (arith, long)))
-
--- what is found up to the end is found of all
-pub all_found : {X Y : Type 0} (R : X → Y → Type 0) (xs : List X) (ys : List Y) (k : ℕ) → slice_get xs k ≡ None → AllZip R (take k xs) ys → AllZip R xs ys
-all_found R xs ys k none zipped = subst (λ zs. AllZip R zs ys) (take-all xs k (beyond xs k none)) zipped
-
--- ---- the outcome
-
--- what is found is the outcome of a check
-pub said : (tree : Pairs) (s : Scene) (fs : List EdgeFinding) (status : Status) (text : List ℕ) → AllZip (IsFinding tree s) s.edges fs → status ≡ status_of fs → text ≡ finding_lines fs
-    → Checks tree s (unsearched status text)
-said tree s fs status text zipped is_status is_text =
-    subst (λ (r : Option DiagramFault). ChecksUnless tree s r (unsearched status text)) (sym (no_faults tree s s.edges fs zipped))
-    (record { findings = fs; found = zipped; outcome = (λ i. unsearched (is_status i) (is_text i)) })

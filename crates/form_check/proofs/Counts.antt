@@ -8,8 +8,7 @@ use Rattle.gml_text.specs.Grammar.{IsKey, SpellsPairs, SpellsValue}
 use Rattle.gml_text.specs.Parse.{IsDocument}
 use Rattle.diagram_read.specs.Values.{as_list, value_at, values_at, lists_at, list_at, values}
 use Rattle.diagram_read.specs.Lines.{list_with, line_in}
-use Rattle.reroute_app.specs.Diagram.{most_bytes}
-use Rattle.reroute_app.specs.View.{pair_count, value_count, HasFewPairs}
+use Rattle.form_check.specs.Sizes.{pair_count, value_count, HasFewPairs}
 
 some_key : (key : List ℕ) → IsKey key → 0 < length key
 some_key [] is = absurd is
@@ -33,8 +32,8 @@ mutual
       let long = simp length-append at (ap length s.1) in
       omega (arith, within, long)
 
--- a document that is read has few pairs
-pub document_few : (tree : Pairs) (bytes : List ℕ) → IsDocument tree bytes → length bytes ≤ most_bytes → HasFewPairs tree
+-- a document of few bytes has few pairs
+pub document_few : (tree : Pairs) (bytes : List ℕ) → IsDocument tree bytes → length bytes ≤ 40000000 → HasFewPairs tree
 document_few tree bytes is short =
     let within = pairs_short tree is.spelled.body is.spelled.pairs in
     let long = simp length-append at (ap length is.spelled.spelled) in

@@ -1,0 +1,8 @@
+//! `check`: the finding on the line of each edge of a diagram, as text.
+#![tactic(auto)]
+
+mod checking;
+mod laws;
+
+pub use checking::{Checked, check_lines};
+pub use laws::checks_come_to_one;
