@@ -303,7 +303,7 @@ fn read_and_routed(alloc: Global, doc: &Doc, points: Vec<Point>) -> Result<Vec<u
     let Ok(scene) = scene_of(alloc, doc) else {
         return Err(Unwritten::Unread);
     };
-    let _valid = scene.settings();
+    scene.valid();
     if has_connector(&scene) {
         told(with_line(alloc, doc, &scene, points))
     } else {
@@ -336,7 +336,7 @@ fn read_and_edited(alloc: Global, doc: &Doc, edit: &Edit) -> Result<Vec<u8>, Unw
     let Ok(mut scene) = scene_of(alloc, doc) else {
         return Err(Unwritten::Unread);
     };
-    let _valid = scene.settings();
+    scene.valid();
     match scene.edit(edit) {
         Ok(()) => told(written(alloc, doc, &scene, &[])),
         Err(_) => Err(Unwritten::Refused),

@@ -31,7 +31,8 @@ abbrev pub CommitsArePreviewed : Type 0
 CommitsArePreviewed =
     (edits : List Edit) (old new : State) → AreAnswers old.world.present old.book → AreCalls (committed edits) old new →
     CountsStale old.world.present old.book new.world.present old.searched new.searched →
-    (searched : ℕ) × IsPreview old.world.present old.book edits (Committed new.world.present new.book searched) × (new.searched ≡ counted_by searched old.searched)
+    (searched : ℕ) × IsPreview old.world.present old.book edits (Committed new.world.present new.book searched)
+    × (new.searched ≡ counted_by searched old.searched)
 
 -- the law: where a session refuses an edit, the answer is the place and the fault of this edit, whatever edits follow
 abbrev pub RefusalsArePreviewed : Type 0

@@ -19,8 +19,10 @@ pub record AreCut (all : List Proposal) (many : ℕ) (pieces : List Piece) : Typ
   pub count : length pieces ≡ many
   pub proposals : all_proposals pieces ≡ all
   pub numbers : (i : ℕ) (d : Piece) → i < length pieces → (slice_index_or pieces i d).number ≡ i + 1
-  pub longer_first : (i j : ℕ) (d : Piece) → i < j → j < length pieces → length (slice_index_or pieces j d).proposals.now ≤ length (slice_index_or pieces i d).proposals.now
-  pub even : (i j : ℕ) (d : Piece) → i < j → j < length pieces → length (slice_index_or pieces i d).proposals.now ≤ length (slice_index_or pieces j d).proposals.now + 1
+  pub longer_first : (i j : ℕ) (d : Piece) → i < j → j < length pieces
+      → length (slice_index_or pieces j d).proposals.now ≤ length (slice_index_or pieces i d).proposals.now
+  pub even : (i j : ℕ) (d : Piece) → i < j → j < length pieces
+      → length (slice_index_or pieces i d).proposals.now ≤ length (slice_index_or pieces j d).proposals.now + 1
 
 -- the answers to the proposals of the piece
 abbrev pub IsAnswered : Scene → List Answer → Piece → Answered → Type 0

@@ -72,7 +72,8 @@ fn followed(alloc: Global, old: &Scene, book: &Book, new: Scene) -> Result<Previ
         IfOk result (IsPreview old.now book.now edits) }
 {
     // Both scenes are known to be valid from here.
-    let _settings = (old.settings(), new.settings());
+    old.valid();
+    new.valid();
     let graph = Graph::build(alloc, &new.floor()?)?;
     let mut book = book.copy()?;
     let mut tally = Tally::new();

@@ -20,5 +20,5 @@ returns c = λ edits none same.
       right = subst (AreAnswers new) (sym c.swap.ensures.book) c.in_ok-changes.ensures.there;
       stale = counts.0;
       are_stale = stale;
-      searches = counted old c.args.book.now new counts.0 c.count.result c.settings-2.ensures.valid stale (c.count.ensures ∙ counts.2 ∙ ap (counted_by (length counts.0)) c.new-tally.ensures);
+      searches = counted old c.args.book.now new counts.0 c.count.result c.valid-2.ensures stale (c.count.ensures ∙ counts.2 ∙ ap (counted_by (length counts.0)) c.new-tally.ensures);
     }
