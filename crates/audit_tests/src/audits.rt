@@ -626,7 +626,7 @@ const CASES: [Case; 45] = [
 fn load_edge(alloc: Global, scene: &mut Scene, from: i64, to: i64) -> Result<(), SceneFault> {
     let number = scene.next_edge();
     if number == u32::MAX {
-        return Err(SceneFault::Memory);
+        return Err(SceneFault::TooMany { limit: u32::MAX });
     }
     scene.load_edge(Edge {
         number,
