@@ -8,7 +8,7 @@ use Rattle.preview.specs.declared.answer.Previewed.{Previewed}
 use Rattle.preview.specs.declared.proposals.Proposal.{Proposal}
 use Rattle.preview.specs.Previews.{ArePreviews, HaveOnePreview}
 use Rattle.form_preview.specs.Blocks.{Blocks, proposals, refused, unfinished, blocks_of}
-use Rattle.form_preview.specs.Proposes.{ComeToOne, IsSameOutput, ProposesBlocks, is_refused, lines_from}
+use Rattle.form_preview.specs.Proposes.{ComeToOne, IsSameOutput, ProposesBlocks, is_refusal, lines_from}
 
 module _ (one_preview : HaveOnePreview) (one_list : HaveOneList) where
   same_previews : (s : Scene) (answers : List Answer) (asked : List Proposal) (these those : List Previewed) →
@@ -29,7 +29,7 @@ module _ (one_preview : HaveOnePreview) (one_list : HaveOneList) where
       (subst (λ (right : List Answer). ArePreviews s right asked h.previews) answers h.are_previews) k.are_previews in
       record {
         same_text = h.is_text ∙ ap (lines_from 1) previews ∙ sym k.is_text;
-        same_verdict = h.refusal ∙ ap (list_any is_refused) previews ∙ sym k.refusal;
+        same_verdict = h.refusal ∙ ap (list_any is_refusal) previews ∙ sym k.refusal;
       }
   same_output s (refused line why) text other is_any_refused other_refused h k =
       record { same_text = h.0 ∙ sym k.0; same_verdict = h.1 ∙ sym k.1 }

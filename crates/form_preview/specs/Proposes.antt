@@ -26,9 +26,9 @@ lines_from number [] = []
 lines_from number (p ∷ ps) = answer_lines number p ++ lines_from (number + 1) ps
 
 -- the proposal is refused
-abbrev pub is_refused : Previewed → Bool
-is_refused (Committed after book searched) = false
-is_refused (Refused place fault) = true
+abbrev pub is_refusal : Previewed → Bool
+is_refusal (Committed after book searched) = false
+is_refusal (Refused place fault) = true
 
 -- the answers to the proposals on the scene, and whether one of them is refused
 pub record Answers (s : Scene) (asked : List Proposal) (text : List ℕ) (is_any_refused : Bool) : Type 0 where
@@ -37,7 +37,7 @@ pub record Answers (s : Scene) (asked : List Proposal) (text : List ℕ) (is_any
   pub previews : List Previewed
   pub are_previews : ArePreviews s answers asked previews
   pub is_text : text ≡ lines_from 1 previews
-  pub refusal : is_any_refused ≡ list_any is_refused previews
+  pub refusal : is_any_refused ≡ list_any is_refusal previews
 
 -- the output for these blocks, and whether something is refused; a refused line, or a block without `commit`, is the whole output
 abbrev pub ProposesBlocks : Scene → Blocks → List ℕ → Bool → Type 0

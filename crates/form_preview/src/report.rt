@@ -1,7 +1,7 @@
 //! The lines of the answers to proposals.
 ghost use Rattle.std.specs.Prelude.{◌≡◌, ◌++◌, IfOk, OnOk};
 ghost use Rattle.std.specs.List.{list_any};
-ghost use Rattle.form_preview.specs.Proposes.{answer_lines, is_refused, lines_from};
+ghost use Rattle.form_preview.specs.Proposes.{answer_lines, is_refusal, lines_from};
 
 use form_route::edges_routed;
 use preview::Previewed;
@@ -42,15 +42,15 @@ pub(crate) fn answers_text(alloc: Global, answers: &[Previewed]) -> Result<Vec<u
 }
 
 /// Whether the proposal is refused.
-fn is_refused(answer: &Previewed) -> bool
-    ensures { result ≡ is_refused answer.now }
+fn is_refusal(answer: &Previewed) -> bool
+    ensures { result ≡ is_refusal answer.now }
 {
     matches!(answer, Previewed::Refused { .. })
 }
 
 /// Whether a proposal is refused.
 pub(crate) fn is_any_refused(answers: &[Previewed]) -> bool
-    ensures { result ≡ list_any is_refused answers.now }
+    ensures { result ≡ list_any is_refusal answers.now }
 {
-    answers.iter().any(is_refused)
+    answers.iter().any(is_refusal)
 }

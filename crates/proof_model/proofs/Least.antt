@@ -33,7 +33,7 @@ use Rattle.proof_model.specs.declared.proof.Claim.TheVariants.{Cost, Cut}
 use Rattle.proof_model.specs.declared.proof.LabelRow.{LabelRow}
 use Rattle.proof_model.specs.Claims.{IsTrueClaim}
 use Rattle.proof_model.specs.Labels.{label_of}
-use Rattle.proof_model.specs.Places.{Place, IsEnding, IsEntry}
+use Rattle.proof_model.specs.Places.{Place, IsExit, IsEntry}
 use Rattle.proof_model.specs.Rules.{AreMovesFound, MayAllEnd, Proves}
 use Rattle.proof_model.proofs.Bridge.{at_point, crossing_of, floor_move}
 
@@ -91,7 +91,7 @@ module _ (floor : Floor) (a : Arena) (arena : IsArena a) (stands : StandsFor flo
     (rows : List LabelRow) where
   -- where a way ends, it ends on the floor
   floor_ending : (x : Standing) (p : Point) (n : ℕ) (e : Choice) → StandsAt a x.crossing p → slice_get task.ends n ≡ Some e → Ends floor.solids a task.via e x →
-      IsEnding floor task (at_point x p) (task.penalty * turn x.heading (opposite e.dir) + stub_length e + e.cost)
+      IsExit floor task (at_point x p) (task.penalty * turn x.heading (opposite e.dir) + stub_length e + e.cost)
   floor_ending x p n e at is ends = record {
     end = e;
     is_end = contains_at task.ends n e is;

@@ -36,8 +36,8 @@ use Rattle.proof_model.specs.declared.proof.Claim.{Claim}
 use Rattle.proof_model.specs.declared.proof.Claim.TheVariants.{Cost, Cut}
 use Rattle.proof_model.specs.declared.proof.LabelRow.{LabelRow}
 use Rattle.proof_model.specs.Labels.{is_before, is_row_of, label_in, label_of}
-use Rattle.proof_model.specs.LeastLabels.{AreLeastLabels, Comes, IsReached, IsRightClaim, Step}
-use Rattle.proof_model.specs.Places.{Place, IsEnding, IsMove}
+use Rattle.proof_model.specs.LeastLabels.{AreLeastLabels, Comes, IsLabelReached, IsRightClaim, Step}
+use Rattle.proof_model.specs.Places.{Place, IsExit, IsMove}
 use Rattle.proof_model.specs.Rules.{AreMovesFound, IsLabelFor, IsLineOf, IsRow, IsShown, MayAllEnd, Proves, most_label}
 use Rattle.proof_model.proofs.Bridge.{crossing_at, is_along, only_next}
 use Rattle.proof_model.proofs.Least.{at_place, cost_on, leg_cost, line_legal, line_triple, stub_cost}
@@ -156,7 +156,7 @@ module _ (floor : Floor) (a : Arena) (arena : IsArena a) (stands : StandsFor flo
         record { walk = rest.walk; legal = rest.legal; costs = omega (arith, rest.costs, cost_of, h.3, h.2.costs) }
 
   -- a walk that reaches an ending is legal
-  pub ends_well : (steps : List Step) (x : Place) (cost rest : ℕ) → Comes floor task steps x cost → IsEnding floor task x rest → IsWhole (cost + rest)
+  pub ends_well : (steps : List Step) (x : Place) (cost rest : ℕ) → Comes floor task steps x cost → IsExit floor task x rest → IsWhole (cost + rest)
   ends_well steps x cost rest h end =
       let e = end.end in
       let is_end = at_place task.ends e end.is_end in
@@ -200,15 +200,15 @@ module _ (floor : Floor) (a : Arena) (arena : IsArena a) (stands : StandsFor flo
         }
 
     -- what a reached label says
-    comes_by : (claim : Claim) (x : Place) (label : ℕ) → IsReached floor task claim x label → (steps : List Step) × (cost : ℕ) × Comes floor task steps x cost
+    comes_by : (claim : Claim) (x : Place) (label : ℕ) → IsLabelReached floor task claim x label → (steps : List Step) × (cost : ℕ) × Comes floor task steps x cost
     comes_by (Cost most points) x label at = (at.1, label, at.2)
     comes_by Cut x label at = (at.1, at.2, at.3)
 
-    label_right : (claim : Claim) (x : Place) (label : ℕ) → IsReached floor task claim x label → IsLabelFor claim label
+    label_right : (claim : Claim) (x : Place) (label : ℕ) → IsLabelReached floor task claim x label → IsLabelFor claim label
     label_right (Cost most points) x label at = at.0
     label_right Cut x label at = at.0
 
-    label_small : (claim : Claim) → IsShown floor task claim → (x : Place) (label : ℕ) → IsReached floor task claim x label → label < most_label
+    label_small : (claim : Claim) → IsShown floor task claim → (x : Place) (label : ℕ) → IsLabelReached floor task claim x label → label < most_label
     label_small (Cost most points) is_shown x label at = omega (arith, at.0, is_shown.small)
     label_small Cut is_shown x label at = let big : 0 < most_label = search rules in omega (arith, at.0, big)
 
@@ -224,7 +224,7 @@ module _ (floor : Floor) (a : Arena) (arena : IsArena a) (stands : StandsFor flo
         small = λ h label is. label_small claim is_shown (place_in (get_or rows i d) h) label (reached_at h label is);
       }
         where
-          reached_at : (h : Dir) (label : ℕ) → label_in (get_or rows i d) h ≡ Some label → IsReached floor task claim (place_in (get_or rows i d) h) label
+          reached_at : (h : Dir) (label : ℕ) → label_in (get_or rows i d) h ≡ Some label → IsLabelReached floor task claim (place_in (get_or rows i d) h) label
           reached_at h label is = l.reached (place_in (get_or rows i d) h) label (label_found rows l.rise i d within h ∙ is)
 
           on_by : (h : Dir) (o : Option ℕ) → o ≡ label_in (get_or rows i d) h → IsSome o →

@@ -9,7 +9,7 @@ use Rattle.proof_model.specs.declared.proof.Claim.{Claim}
 use Rattle.proof_model.specs.declared.proof.Claim.TheVariants.{Cost, Cut}
 
 -- the line draws a legal walk of this cost, and no legal walk costs less
-pub record IsLeast (solids : List Solid) (task : Task) (points : List Point) (cost : ℕ) : Type 0 where
+pub record IsLeastClaim (solids : List Solid) (task : Task) (points : List Point) (cost : ℕ) : Type 0 where
   pub walk : Triple
   pub legal : IsLegalTriple solids task walk
   pub draws : Draws points walk.walk
@@ -18,5 +18,5 @@ pub record IsLeast (solids : List Solid) (task : Task) (points : List Point) (co
 
 -- the line draws a legal walk of the claimed cost and none costs less; or, for a cut, no walk is legal
 abbrev pub IsTrueClaim : List Solid → Task → Claim → Type 0
-IsTrueClaim solids task (Cost cost points) = IsLeast solids task points cost
+IsTrueClaim solids task (Cost cost points) = IsLeastClaim solids task points cost
 IsTrueClaim solids task Cut = HasNoWalk solids task

@@ -29,15 +29,15 @@ Comes floor task (s ∷ ss) x cost =
     (before : ℕ) × Comes floor task ss s.from before × IsMove floor task s.from s.cost x × (cost ≡ before + s.cost)
 
 -- some walk reaches the place at the label's cost, below the claimed one; for a cut, at some cost, and the label is 0
-abbrev pub IsReached : Floor → Task → Claim → Place → ℕ → Type 0
-IsReached floor task (Cost most points) x label = (label < most) × (steps : List Step) × Comes floor task steps x label
-IsReached floor task Cut x label = (label ≡ 0) × (steps : List Step) × (cost : ℕ) × Comes floor task steps x cost
+abbrev pub IsLabelReached : Floor → Task → Claim → Place → ℕ → Type 0
+IsLabelReached floor task (Cost most points) x label = (label < most) × (steps : List Step) × Comes floor task steps x label
+IsLabelReached floor task Cut x label = (label ≡ 0) × (steps : List Step) × (cost : ℕ) × Comes floor task steps x cost
 
 -- the rows rise, each has a label, each label is reached, and no walk reaches a place for less than its label
 pub record AreLeastLabels (floor : Floor) (task : Task) (claim : Claim) (rows : List LabelRow) : Type 0 where
   pub rise : AllPairs (λ a b. IsTrue (is_before a b)) rows
   pub some : All (λ r. (h : Dir) × IsSome (label_in r h)) rows
-  pub reached : (x : Place) (label : ℕ) → label_of rows x ≡ Some label → IsReached floor task claim x label
+  pub reached : (x : Place) (label : ℕ) → label_of rows x ≡ Some label → IsLabelReached floor task claim x label
   pub least : (x : Place) (steps : List Step) (cost : ℕ) → Comes floor task steps x cost → IsFound claim rows x cost
 
 -- the claim is the cost and the points of the first walk's route, or a cut where no walk is legal

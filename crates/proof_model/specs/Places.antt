@@ -37,7 +37,7 @@ pub record IsMove (floor : Floor) (task : Task) (x : Place) (cost : ℕ) (y : Pl
   pub costs : cost ≡ steps + task.penalty * turn x.heading y.heading
 
 -- a walk that has passed all checkpoints leaves the place by the free stub of an end choice, at this cost
-pub record IsEnding (floor : Floor) (task : Task) (x : Place) (cost : ℕ) : Type 0 where
+pub record IsExit (floor : Floor) (task : Task) (x : Place) (cost : ℕ) : Type 0 where
   pub end : Choice
   pub is_end : Contains task.ends end
   pub crossing : IsCrossing floor x.at

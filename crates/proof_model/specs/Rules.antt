@@ -10,7 +10,7 @@ use Rattle.plane_geom.specs.declared.point.Point.{Point}
 use Rattle.proof_model.specs.declared.proof.Claim.{Claim}
 use Rattle.proof_model.specs.declared.proof.Claim.TheVariants.{Cost, Cut}
 use Rattle.proof_model.specs.declared.proof.LabelRow.{LabelRow}
-use Rattle.proof_model.specs.Places.{Place, IsEntry, IsMove, IsEnding}
+use Rattle.proof_model.specs.Places.{Place, IsEntry, IsMove, IsExit}
 use Rattle.proof_model.specs.Labels.{is_before, label_in, label_of}
 
 -- labels and costs are below this
@@ -72,7 +72,7 @@ AreMovesFound floor task claim rows =
 -- rule 6: at a labelled place, the label and the cost of each ending are no less than is claimed
 abbrev pub MayAllEnd : Floor → Task → Claim → List LabelRow → Type 0
 MayAllEnd floor task claim rows =
-    (x : Place) (label cost : ℕ) → label_of rows x ≡ Some label → IsEnding floor task x cost → MayEnd claim (label + cost)
+    (x : Place) (label cost : ℕ) → label_of rows x ≡ Some label → IsExit floor task x cost → MayEnd claim (label + cost)
 
 -- the rules 2 to 6 hold
 pub record Proves (floor : Floor) (task : Task) (claim : Claim) (rows : List LabelRow) : Type 0 where

@@ -18,7 +18,7 @@ use Rattle.proof_model.specs.declared.proof.Claim.{Claim}
 use Rattle.proof_model.specs.declared.proof.LabelRow.{LabelRow}
 use Rattle.proof_model.specs.declared.proof.Proof.{Proof}
 use Rattle.proof_model.specs.Labels.{label_of}
-use Rattle.proof_model.specs.LeastLabels.{IsReached, IsRightClaim}
+use Rattle.proof_model.specs.LeastLabels.{IsLabelReached, IsRightClaim}
 use Rattle.proof_model.specs.Places.{Place}
 use Rattle.proof_model.specs.Rules.{Suffices}
 use Rattle.proof_model.proofs.Bridge.{crossing_at}
@@ -56,12 +56,12 @@ least_rows p ready s l spread spots are floor on = record {
     stages : ℕ
     stages = length p.task.now.via + 1
 
-    reached : (x : Place) (v : ℕ) → label_of (rows_upto l (length p.task.now.via + 1) spots) x ≡ Some v → IsReached floor task (claim_of s) x v
+    reached : (x : Place) (v : ℕ) → label_of (rows_upto l (length p.task.now.via + 1) spots) x ≡ Some v → IsLabelReached floor task (claim_of s) x v
     reached x v e =
         let there = label_there a ready.arena l stages spots are x v e in
         let r = spread.searching.reached (standing there.0 x) v there.3 in
         let point : r.at ≡ x.at = one_point a there.0 r.at x.at ready.arena r.here there.1 in
-        subst (λ (q : Point). IsReached floor task (claim_of s) (record { stage = x.stage; at = q; heading = x.heading }) v) point (r.reached floor on)
+        subst (λ (q : Point). IsLabelReached floor task (claim_of s) (record { stage = x.stage; at = q; heading = x.heading }) v) point (r.reached floor on)
 
 -- ---- the answer and its claim
 

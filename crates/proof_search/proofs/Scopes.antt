@@ -6,7 +6,7 @@ use Rattle.walk_model.specs.declared.task.Task.{Task}
 use Rattle.move_model.specs.declared.place.Place.{Place}
 use Rattle.search_labels.specs.Problems.{IsReady}
 use Rattle.search_labels.specs.declared.problem.Problem.{Problem}
-use Rattle.proof_model.specs.LeastLabels.{IsReached}
+use Rattle.proof_model.specs.LeastLabels.{IsLabelReached}
 use Rattle.proof_model.specs.Places as floors
 use Rattle.proof_model.specs.Rules.{Suffices}
 use Rattle.proof_search.specs.declared.scope.Scope.{Scope}
@@ -59,18 +59,18 @@ none_suffices Every o cost e small = absurd (let both : ◌≡◌ {A = Option �
 
 module _ (floor : Floor) (task : Task) (x : floors.Place) where
   -- the label that a walk gives is reached
-  pub label_reached : (s : Scope) (cost v : ℕ) → ComesBy s floor task x cost → label_for s cost ≡ Some v → IsReached floor task (claim_of s) x v
+  pub label_reached : (s : Scope) (cost v : ℕ) → ComesBy s floor task x cost → label_for s cost ≡ Some v → IsLabelReached floor task (claim_of s) x v
   label_reached (Below most) cost v comes e =
       let is = label_is most cost v e in
-      subst (λ n. IsReached floor task (claim_of (Below most)) x n) is.1 (is.0, comes.0, comes.1)
+      subst (λ n. IsLabelReached floor task (claim_of (Below most)) x n) is.1 (is.0, comes.0, comes.1)
   label_reached Every cost v comes e = (sym (same_some 0 v e), comes.0, comes.1, comes.2)
 
   -- and a walk comes at what is reached
-  pub reached_comes : (s : Scope) (v : ℕ) → IsReached floor task (claim_of s) x v → ComesBy s floor task x v
+  pub reached_comes : (s : Scope) (v : ℕ) → IsLabelReached floor task (claim_of s) x v → ComesBy s floor task x v
   reached_comes (Below most) v h = (h.1, h.2)
   reached_comes Every v h = (h.1, h.2, h.3)
 
-  pub reached_below : (s : Scope) (v : ℕ) → IsReached floor task (claim_of s) x v → v < most_of s
+  pub reached_below : (s : Scope) (v : ℕ) → IsLabelReached floor task (claim_of s) x v → v < most_of s
   reached_below (Below most) v h = h.0
   reached_below Every v h = omega (arith, h.0)
 

@@ -15,7 +15,7 @@ use Rattle.search_labels.specs.declared.label.Label.TheVariants.{Absent, Open, C
 use Rattle.search_labels.specs.declared.label.Row.{Row}
 use Rattle.search_labels.specs.declared.problem.Problem.{Problem}
 use Rattle.proof_model.specs.declared.next.Next.{Next}
-use Rattle.proof_model.specs.LeastLabels.{IsReached}
+use Rattle.proof_model.specs.LeastLabels.{IsLabelReached}
 use Rattle.proof_model.specs.Next.{IsNext, IsNoneNext}
 use Rattle.proof_model.specs.Places as floors
 use Rattle.proof_model.specs.Rules.{Suffices}
@@ -62,7 +62,7 @@ pub record IsReachedAt (p : Problem) (s : Scope) (x : Place) (label : ℕ) : Typ
   pub at : Point
   pub here : StandsAt p.arena.now x.crossing at
   pub stage : x.stage ≤ length p.task.now.via
-  pub reached : OnFloors p (λ floor. IsReached floor p.task.now (claim_of s) (place_at x at) label)
+  pub reached : OnFloors p (λ floor. IsLabelReached floor p.task.now (claim_of s) (place_at x at) label)
 
 -- this was offered to the place: its label says no more, or it needs none
 abbrev pub IsOffered : Scope → Labels → Place → ℕ → Type 0

@@ -1,38 +1,38 @@
 -- Whole lines in front of other bytes: they are found again in one way.
 use Rattle.std.proofs.Common.{◌≡◌, ℕ, ◌+◌, List, [], ◌∷◌, ◌++◌, length, refl, sym, ap, ◌∙◌, arith, append_assoc}
 use Rattle.std.specs.List.{AllByRecursion}
-use Rattle.proof_text.specs.Lines.{line_feed, ended_line, text_of_lines, IsOneLine}
+use Rattle.proof_text.specs.Lines.{newline, ended_line, text_of_lines, IsOneLine}
 
 -- bytes that begin with a line begin with one line only
 pub record SameFirst (a b x y : List ℕ) : Type 0 where
   pub line : a ≡ b
   pub after : x ≡ y
 
-pub first_line_same : (a b x y : List ℕ) → IsOneLine a → IsOneLine b → a ++ line_feed ∷ x ≡ b ++ line_feed ∷ y → SameFirst a b x y
+pub first_line_same : (a b x y : List ℕ) → IsOneLine a → IsOneLine b → a ++ newline ∷ x ≡ b ++ newline ∷ y → SameFirst a b x y
 first_line_same [] [] x y p q e = record { line = refl; after = cc }
-first_line_same [] (c ∷ b) x y p q e = (let is : c ≡ line_feed = cc in absurd (q.0 is))
-first_line_same (c ∷ a) [] x y p q e = (let is : c ≡ line_feed = cc in absurd (p.0 is))
+first_line_same [] (c ∷ b) x y p q e = (let is : c ≡ newline = cc in absurd (q.0 is))
+first_line_same (c ∷ a) [] x y p q e = (let is : c ≡ newline = cc in absurd (p.0 is))
 first_line_same (c ∷ a) (d ∷ b) x y p q e =
     let head : c ≡ d = cc in
-    let tail : a ++ line_feed ∷ x ≡ b ++ line_feed ∷ y = cc in
+    let tail : a ++ newline ∷ x ≡ b ++ newline ∷ y = cc in
     let rest = first_line_same a b x y p.1 q.1 tail in
     let line = rest.line in
     record { line = cc; after = rest.after }
 
 -- bytes without a line feed begin with no line
-pub no_first_line : (bytes line after : List ℕ) → IsOneLine bytes → bytes ≡ line ++ line_feed ∷ after → ⊥
+pub no_first_line : (bytes line after : List ℕ) → IsOneLine bytes → bytes ≡ line ++ newline ∷ after → ⊥
 no_first_line [] [] after one e = cc
 no_first_line [] (b ∷ line) after one e = cc
-no_first_line (c ∷ bytes) [] after one e = (let is : c ≡ line_feed = cc in one.0 is)
-no_first_line (c ∷ bytes) (b ∷ line) after one e = (let tail : bytes ≡ line ++ line_feed ∷ after = cc in no_first_line bytes line after one.1 tail)
+no_first_line (c ∷ bytes) [] after one e = (let is : c ≡ newline = cc in one.0 is)
+no_first_line (c ∷ bytes) (b ∷ line) after one e = (let tail : bytes ≡ line ++ newline ∷ after = cc in no_first_line bytes line after one.1 tail)
 
-line_apart : (line rest : List ℕ) → ended_line line ++ rest ≡ line ++ line_feed ∷ rest
-line_apart line rest = append_assoc line (line_feed ∷ []) rest
+line_apart : (line rest : List ℕ) → ended_line line ++ rest ≡ line ++ newline ∷ rest
+line_apart line rest = append_assoc line (newline ∷ []) rest
 
-lines_apart : (line : List ℕ) (lines : List (List ℕ)) (rest : List ℕ) → text_of_lines (line ∷ lines) ++ rest ≡ line ++ line_feed ∷ (text_of_lines lines ++ rest)
+lines_apart : (line : List ℕ) (lines : List (List ℕ)) (rest : List ℕ) → text_of_lines (line ∷ lines) ++ rest ≡ line ++ newline ∷ (text_of_lines lines ++ rest)
 lines_apart line lines rest = append_assoc (ended_line line) (text_of_lines lines) rest ∙ line_apart line (text_of_lines lines ++ rest)
 
-pub text_apart : (line : List ℕ) (lines : List (List ℕ)) → text_of_lines (line ∷ lines) ≡ line ++ line_feed ∷ text_of_lines lines
+pub text_apart : (line : List ℕ) (lines : List (List ℕ)) → text_of_lines (line ∷ lines) ≡ line ++ newline ∷ text_of_lines lines
 text_apart line lines = line_apart line (text_of_lines lines)
 
 -- whole lines that begin a text of lines are its first ones
@@ -41,7 +41,7 @@ pub record AreFirst (xs ys : List (List ℕ)) (more : List ℕ) : Type 0 where
   pub lines : ys ≡ xs ++ others
   pub after : more ≡ text_of_lines others
 
-pub not_empty : (line rest : List ℕ) → line ++ line_feed ∷ rest ≡ [] → ⊥
+pub not_empty : (line rest : List ℕ) → line ++ newline ∷ rest ≡ [] → ⊥
 not_empty [] rest e = cc
 not_empty (b ∷ line) rest e = cc
 
@@ -61,7 +61,7 @@ pub record IsNext (xs ys : List (List ℕ)) (rest more : List ℕ) : Type 0 wher
   pub line : List ℕ
   pub one : IsOneLine line
   pub lines : ys ≡ xs ++ line ∷ []
-  pub begins : rest ≡ line ++ line_feed ∷ more
+  pub begins : rest ≡ line ++ newline ∷ more
 
 pub next_line : (xs ys : List (List ℕ)) (rest more : List ℕ) → AllByRecursion IsOneLine xs → AllByRecursion IsOneLine ys → length ys ≡ length xs + 1 →
     text_of_lines xs ++ rest ≡ text_of_lines ys ++ more → IsNext xs ys rest more

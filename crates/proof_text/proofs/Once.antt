@@ -6,7 +6,7 @@ use Rattle.std.proofs.lemmas.Bool.{cases_lt}
 use Rattle.std.proofs.lemmas.List.{append-nil}
 use Rattle.proof_model.specs.declared.proof.Proof.{Proof}
 use Rattle.proof_text.specs.Fronts.{CanGoOn, IsBadLine}
-use Rattle.proof_text.specs.Lines.{text_of_lines, IsOneLine, AreLines}
+use Rattle.proof_text.specs.Lines.{text_of_lines, IsOneLine, AreWholeLines}
 use Rattle.proof_text.specs.Reading.{proofs_of}
 use Rattle.proof_text.specs.Text.{proofs_lines, proofs_text, IsText, AreWritable}
 use Rattle.proof_text.proofs.Folds.{after_lines, proofs_read, proofs_one}
@@ -109,7 +109,7 @@ not_both bytes proofs line text bad =
     (ap (λ b. b ++ bad.rest) (sym before.spelled) ∙ sym bad.spelled ∙ text.spelled) in
     no_stop bytes proofs line bad text first.others first.lines first.after
 
-pub front_is_text : (front : List ℕ) (count : ℕ) → AreLines front count → CanGoOn front → (proofs : List Proof) × IsText front proofs
+pub front_is_text : (front : List ℕ) (count : ℕ) → AreWholeLines front count → CanGoOn front → (proofs : List Proof) × IsText front proofs
 front_is_text front count lines on =
     let s = lines_can_be_read lines.lines lines.each (subst CanGoOn lines.spelled on) in
     (proofs_of s.0, subst (λ b. IsText b (proofs_of s.0)) (sym lines.spelled) (lines_are_text lines.lines s.0 s.1))

@@ -6,7 +6,7 @@ use Rattle.std.specs.List.{AllByRecursion}
 use Rattle.std.proofs.lemmas.List.{append-nil}
 use Rattle.proof_model.specs.declared.proof.Proof.{Proof}
 use Rattle.proof_text.specs.Fronts.{CanGoOn, IsBadLine}
-use Rattle.proof_text.specs.Lines.{line_feed, ended_line, text_of_lines, IsOneLine}
+use Rattle.proof_text.specs.Lines.{newline, ended_line, text_of_lines, IsOneLine}
 use Rattle.proof_text.specs.Reading.{State, proofs_of, after_line, GoesOn, IsStuck}
 use Rattle.proof_text.specs.Reading.IsStuck.{no_line, bad_line}
 use Rattle.proof_text.specs.Text.{proofs_lines, IsText}
@@ -52,9 +52,9 @@ all_read bytes count s so_far =
     let text = lines_are_text so_far.lines s so_far.read in
     record { spelled = so_far.spelled ∙ append-nil (text_of_lines so_far.lines) ∙ text.spelled; writable = text.writable }
 
-one_more : (lines : List (List ℕ)) (line rest : List ℕ) → text_of_lines lines ++ (line ++ line_feed ∷ rest) ≡ text_of_lines (lines ++ line ∷ []) ++ rest
+one_more : (lines : List (List ℕ)) (line rest : List ℕ) → text_of_lines lines ++ (line ++ newline ∷ rest) ≡ text_of_lines (lines ++ line ∷ []) ++ rest
 one_more lines line rest =
-    ap (λ l. text_of_lines lines ++ l) (sym (append_assoc line (line_feed ∷ []) rest) ∙ ap (λ l. l ++ rest) (sym (append-nil (ended_line line))))
+    ap (λ l. text_of_lines lines ++ l) (sym (append_assoc line (newline ∷ []) rest) ∙ ap (λ l. l ++ rest) (sym (append-nil (ended_line line))))
     ∙ sym (append_assoc (text_of_lines lines) (text_of_lines (line ∷ [])) rest)
     ∙ ap (λ l. l ++ rest) (sym (text_of_lines-append lines (line ∷ [])))
 
@@ -74,7 +74,7 @@ goes_on bytes rest after count s t so_far on = record {
 
 -- the bytes get fewer
 pub fewer : (rest after : List ℕ) (s t : State) → GoesOn rest after s t → length after < length rest
-fewer rest after s t on = omega (arith, ap length on.begins.spelled, length-append on.line (line_feed ∷ after))
+fewer rest after s t on = omega (arith, ap length on.begins.spelled, length-append on.line (newline ∷ after))
 
 -- no text can go on with a line that is stuck
 no_line_more : (lines : List (List ℕ)) (line : List ℕ) (s : State) → AllByRecursion IsOneLine lines → IsOneLine line → after_lines start lines ≡ Some s →
@@ -87,7 +87,7 @@ no_line_more lines line s each one read bad on =
 
 stuck_at : (rest : List ℕ) (s : State) (lines : List (List ℕ)) (line more : List ℕ) → AllByRecursion IsOneLine lines → after_lines start lines ≡ Some s →
     IsStuck rest s → IsOneLine line →
-    rest ≡ line ++ line_feed ∷ more → CanGoOn (text_of_lines (lines ++ line ∷ [])) → ⊥
+    rest ≡ line ++ newline ∷ more → CanGoOn (text_of_lines (lines ++ line ∷ [])) → ⊥
 stuck_at rest s lines line more each read (no_line one) is_one begins on = no_first_line rest line more one begins
 stuck_at rest s lines line more each read (bad_line other after parts bad) is_one begins on =
     let same = first_line_same other line after more parts.one is_one (sym parts.spelled ∙ begins) in
@@ -113,7 +113,7 @@ stuck bytes rest count s so_far some at = record {
 lines_short : (lines : List (List ℕ)) → length lines ≤ length (text_of_lines lines)
 lines_short [] = omega arith
 lines_short (line ∷ lines) =
-    omega (arith, lines_short lines, length-append (ended_line line) (text_of_lines lines), length-append line (line_feed ∷ []))
+    omega (arith, lines_short lines, length-append (ended_line line) (text_of_lines lines), length-append line (newline ∷ []))
 
 -- each line has a byte at least
 pub few_lines : (bytes rest : List ℕ) (count : ℕ) (s : State) → HaveRead bytes rest count s → count + length rest ≤ length bytes

@@ -10,11 +10,11 @@ use Rattle.proof_text.specs.declared.line.Line.{Line}
 use Rattle.proof_text.specs.declared.line.Line.TheVariants.{Edge, Corner, Row}
 use Rattle.proof_text.specs.Forms.{claim_form, edge_form, point_of, point_form, labels_form, row_form, line_of_words, words, line_of}
 use Rattle.proof_text.specs.Lines.{IsOneLine}
-use Rattle.proof_text.specs.Text.{IsWritableLabel, IsWritablePoint, IsWritableRow, label_word, most_index, words_line}
+use Rattle.proof_text.specs.Text.{IsWritableLabel, IsWritablePoint, IsWritableRow, label_word, most_index, joined_words}
 use Rattle.proof_text.specs.Values.{natural, whole, index, label}
 use Rattle.proof_text.proofs.Numbers.{of_some, mapped_some, natural_spells, natural_reads, index_spells}
 use Rattle.proof_text.proofs.Numbers.{index_reads, whole_spells, whole_reads, label_spells, label_reads}
-use Rattle.proof_text.proofs.Words.{IsWord, decimal_word, signed_word, label_is_word, words-words_line, words_one_line}
+use Rattle.proof_text.proofs.Words.{IsWord, decimal_word, signed_word, label_is_word, words-joined_words, words_one_line}
 
 abbrev pub claim_words : Option ℕ → List (List ℕ)
 claim_words None = codes "cut" ∷ []
@@ -34,7 +34,7 @@ name_of (Row r) = codes "label"
 
 -- the bytes of the line
 abbrev pub line_bytes : Line → List ℕ
-line_bytes l = words_line (name_of l ∷ args_of l)
+line_bytes l = joined_words (name_of l ∷ args_of l)
 
 -- its numbers are within their bounds
 abbrev pub IsWritableLine : Line → Type 0
@@ -173,7 +173,7 @@ words_said (name ∷ args) l e = by_edge name args l (bytes_eq name (codes "edge
 pub line_spells : (line : List ℕ) (l : Line) → line_of line ≡ Some l → (line ≡ line_bytes l) × IsWritableLine l
 line_spells line l e =
     let said = words_said (words line) l e in
-    (sym (join_with_byte-slice_split 32 line) ∙ ap words_line said.words, said.writable)
+    (sym (join_with_byte-slice_split 32 line) ∙ ap joined_words said.words, said.writable)
 
 -- from what is said to the words
 
@@ -215,7 +215,7 @@ are_words (Row r) w = (
 )
 
 pub line_reads : (l : Line) → IsWritableLine l → line_of (line_bytes l) ≡ Some l
-line_reads l w = ap line_of_words (words-words_line (name_of l) (args_of l) (are_words l w)) ∙ args_read l w
+line_reads l w = ap line_of_words (words-joined_words (name_of l) (args_of l) (are_words l w)) ∙ args_read l w
 
 pub line_is_one : (l : Line) → IsWritableLine l → IsOneLine (line_bytes l)
 line_is_one l w = words_one_line (name_of l) (args_of l) (are_words l w)

@@ -8,7 +8,7 @@ use Rattle.std.proofs.lemmas.Bool.{and_parts}
 use Rattle.std.proofs.lemmas.Bool.Decides.{nat_tests}
 use Rattle.proof_text.specs.Forms.{line_of_words, words}
 use Rattle.proof_text.specs.Lines.{IsOneLine}
-use Rattle.proof_text.specs.Text.{IsWritableLabel, label_word, most_number, words_line}
+use Rattle.proof_text.specs.Text.{IsWritableLabel, label_word, most_number, joined_words}
 use Rattle.proof_text.proofs.Numbers.{decimal_digits}
 
 -- no form has more than eight words
@@ -59,19 +59,19 @@ split_first (b ∷ w) rest p =
     ap (λ t. cond t ([] ∷ words (w ++ 32 ∷ rest)) (onto_first b (words (w ++ 32 ∷ rest)))) (no_blank b p.0) ∙ ap (onto_first b) (split_first w rest p.1)
 
 -- the words that make a line are those of the line
-pub words-words_line : (w : List ℕ) (ws : List (List ℕ)) → AllByRecursion IsWord (w ∷ ws) → words (words_line (w ∷ ws)) ≡ w ∷ ws
-words-words_line w [] p = split_last w p.0
-words-words_line w (v ∷ ws) p = split_first w (words_line (v ∷ ws)) p.0 ∙ ap (λ vs. w ∷ vs) (words-words_line v ws p.1)
+pub words-joined_words : (w : List ℕ) (ws : List (List ℕ)) → AllByRecursion IsWord (w ∷ ws) → words (joined_words (w ∷ ws)) ≡ w ∷ ws
+words-joined_words w [] p = split_last w p.0
+words-joined_words w (v ∷ ws) p = split_first w (joined_words (v ∷ ws)) p.0 ∙ ap (λ vs. w ∷ vs) (words-joined_words v ws p.1)
 
 word_one_line : (w rest : List ℕ) → IsWord w → IsOneLine rest → IsOneLine (w ++ rest)
 word_one_line [] rest p q = q
 word_one_line (b ∷ w) rest p q = (λ is. omega (arith, p.0, is), word_one_line w rest p.1 q)
 
 -- and no line feed stands among them
-pub words_one_line : (w : List ℕ) (ws : List (List ℕ)) → AllByRecursion IsWord (w ∷ ws) → IsOneLine (words_line (w ∷ ws))
+pub words_one_line : (w : List ℕ) (ws : List (List ℕ)) → AllByRecursion IsWord (w ∷ ws) → IsOneLine (joined_words (w ∷ ws))
 words_one_line w [] p = one w p.0
   where
     one : (w : List ℕ) → IsWord w → IsOneLine w
     one [] p = tt
     one (b ∷ w) p = (λ is. omega (arith, p.0, is), one w p.1)
-words_one_line w (v ∷ ws) p = word_one_line w (32 ∷ words_line (v ∷ ws)) p.0 ((λ is. omega (arith, is)), words_one_line v ws p.1)
+words_one_line w (v ∷ ws) p = word_one_line w (32 ∷ joined_words (v ∷ ws)) p.0 ((λ is. omega (arith, is)), words_one_line v ws p.1)

@@ -3,7 +3,7 @@ use Rattle.std.specs.Prelude.{ℕ, ◌≡◌, ◌≢◌, ◌-◌, ◌≤◌, Lis
 use Rattle.proof_model.specs.declared.proof.Proof.{Proof}
 use Rattle.proof_text.specs.declared.read.ProofFault.{ProofFault}
 use Rattle.proof_text.specs.declared.read.ProofFault.TheVariants.{Line, Memory}
-use Rattle.proof_text.specs.Lines.{AreLines}
+use Rattle.proof_text.specs.Lines.{AreWholeLines}
 use Rattle.proof_text.specs.Text.{IsText}
 
 -- some text begins with these bytes
@@ -16,10 +16,10 @@ pub record IsBadLine (bytes : List ℕ) (line : ℕ) : Type 0 where
   pub rest : List ℕ
   pub spelled : bytes ≡ before ++ rest
   pub from_one : 1 ≤ line
-  pub lines_before : AreLines before (line - 1)
+  pub lines_before : AreWholeLines before (line - 1)
   pub can_go_on : CanGoOn before
   pub some : rest ≢ []
-  pub stops : (front more : List ℕ) → bytes ≡ front ++ more → AreLines front line → CanGoOn front → ⊥
+  pub stops : (front more : List ℕ) → bytes ≡ front ++ more → AreWholeLines front line → CanGoOn front → ⊥
 
 -- what a fault says of the bytes
 abbrev pub IsFaultOf : List ℕ → ProofFault → Type 0

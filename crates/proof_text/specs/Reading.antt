@@ -8,7 +8,7 @@ use Rattle.proof_model.specs.declared.proof.Proof.{Proof}
 use Rattle.proof_text.specs.declared.line.Line.{Line}
 use Rattle.proof_text.specs.declared.line.Line.TheVariants.{Edge, Corner, Row}
 use Rattle.proof_text.specs.declared.reader.Reader.{Reader}
-use Rattle.proof_text.specs.Lines.{IsOneLine, line_feed}
+use Rattle.proof_text.specs.Lines.{IsOneLine, newline}
 use Rattle.proof_text.specs.Forms.{line_of}
 
 -- the proofs that are read whole, and the one whose lines are being read
@@ -52,7 +52,7 @@ after_line s line = option_and_then (with_line s) (line_of line)
 
 -- the first line of the bytes and what follows it
 pub record BeginsWith (bytes line after : List ℕ) : Type 0 where
-  pub spelled : bytes ≡ line ++ line_feed ∷ after
+  pub spelled : bytes ≡ line ++ newline ∷ after
   pub one : IsOneLine line
 
 -- the bytes begin with a line, after which the proofs are these

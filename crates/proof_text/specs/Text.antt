@@ -10,8 +10,8 @@ use Rattle.proof_model.specs.declared.proof.Proof.{Proof}
 use Rattle.proof_text.specs.Lines.{text_of_lines}
 
 -- words with one blank between two of them
-abbrev pub words_line : List (List ℕ) → List ℕ
-words_line words = join_with_byte 32 words
+abbrev pub joined_words : List (List ℕ) → List ℕ
+joined_words words = join_with_byte 32 words
 
 -- a label, or a minus where there is none
 abbrev pub label_word : Option ℕ → List ℕ
@@ -20,17 +20,17 @@ label_word (Some label) = decimal label
 
 -- edge N cost C, or edge N cut
 abbrev pub edge_line : ℕ → Claim → List ℕ
-edge_line edge (Cost cost points) = words_line (codes "edge" ∷ decimal edge ∷ codes "cost" ∷ decimal cost ∷ [])
-edge_line edge Cut = words_line (codes "edge" ∷ decimal edge ∷ codes "cut" ∷ [])
+edge_line edge (Cost cost points) = joined_words (codes "edge" ∷ decimal edge ∷ codes "cost" ∷ decimal cost ∷ [])
+edge_line edge Cut = joined_words (codes "edge" ∷ decimal edge ∷ codes "cut" ∷ [])
 
 -- point X Y
 abbrev pub point_line : Point → List ℕ
-point_line p = words_line (codes "point" ∷ signed_decimal p.x ∷ signed_decimal p.y ∷ [])
+point_line p = joined_words (codes "point" ∷ signed_decimal p.x ∷ signed_decimal p.y ∷ [])
 
 -- label STAGE X Y EAST SOUTH WEST NORTH
 abbrev pub row_line : LabelRow → List ℕ
 row_line r =
-    words_line (codes "label" ∷ decimal r.stage ∷ signed_decimal r.at.x ∷ signed_decimal r.at.y
+    joined_words (codes "label" ∷ decimal r.stage ∷ signed_decimal r.at.x ∷ signed_decimal r.at.y
     ∷ label_word r.east ∷ label_word r.south ∷ label_word r.west ∷ label_word r.north ∷ [])
 
 -- the points of a claimed line

@@ -2,7 +2,7 @@
 ghost use Rattle.std.specs.Prelude.{◌≡◌, ◌↔◌, List, ℕ};
 ghost use Rattle.proof_model.specs.declared.proof.Proof.{Proof};
 ghost use Rattle.proof_text.specs.Fronts.{CanGoOn, IsBadLine};
-ghost use Rattle.proof_text.specs.Lines.{AreLines};
+ghost use Rattle.proof_text.specs.Lines.{AreWholeLines};
 ghost use Rattle.proof_text.specs.Text.{AreWritable, IsText, proofs_text};
 
 /// What is written is read again as it was, where its numbers are within the bounds of the text.
@@ -25,6 +25,6 @@ pub fn read_once()
 
 /// A text can go on after whole lines exactly where they are a text themselves.
 pub fn fronts_are_texts()
-    ensures { (front : List ℕ) (count : ℕ) → AreLines front count
+    ensures { (front : List ℕ) (count : ℕ) → AreWholeLines front count
         → (CanGoOn front ↔ ((proofs : List Proof) × IsText front proofs)) }
 {}

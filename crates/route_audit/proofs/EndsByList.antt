@@ -22,7 +22,7 @@ use Rattle.search_labels.specs.Ends.{AreEndings, AreEntries, IsEndingOf, IsEntry
 use Rattle.proof_model.specs.declared.proof.Claim.{Claim}
 use Rattle.proof_model.specs.declared.proof.LabelRow.{LabelRow}
 use Rattle.proof_model.specs.Labels.{label_of}
-use Rattle.proof_model.specs.Places.{Place, IsEnding, IsEntry}
+use Rattle.proof_model.specs.Places.{Place, IsExit, IsEntry}
 use Rattle.proof_model.specs.Rules.{AreEntriesFound, MayAllEnd, MayEnd, Suffices}
 use Rattle.proof_model.proofs.Bridge.{crossing_at, crossing_of}
 use Rattle.proof_model.proofs.Least.{at_place}
@@ -93,7 +93,7 @@ module _ (floor : Floor) (a : Arena) (arena : IsArena a) (stands : StandsFor flo
 
     -- an ending of the list is one on the floor
     ending_on_floor : (c : Choice) (e : Ending) → IsEndingOf floor.solids a task c e → (h : Dir) →
-        IsEnding floor task (record { stage = length task.via; at = e.port; heading = h }) (task.penalty * turn h e.dir + e.rest)
+        IsExit floor task (record { stage = length task.via; at = e.port; heading = h }) (task.penalty * turn h e.dir + e.rest)
     ending_on_floor c e is h =
         let turned : task.penalty * turn h e.dir ≡ task.penalty * turn h (opposite c.dir) = ap (λ d. task.penalty * turn h d) is.dir in
         record {
