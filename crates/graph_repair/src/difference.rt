@@ -19,19 +19,18 @@ use visibility_graph::{Graph, crossings_of};
 ///
 /// The graph's floor, lines, crossings and `written` stay as they are, even when out of memory,
 /// which is the only error.
-pub fn plan(alloc: Global, graph: &mut Graph, new: &Floor) -> Result<Repair, AllocError>
-    requires new_floor { IsFloor new.now }
+pub fn plan(alloc: Global, graph: &mut Graph, new: Floor) -> Result<Repair, AllocError>
+    requires new_floor { IsFloor new }
     ensures floor { graph.new.floor ≡ graph.old.floor }
     ensures lines { graph.new.arena.lines ≡ graph.old.arena.lines }
     ensures crossings { graph.new.arena.crossings ≡ graph.old.arena.crossings }
     ensures written { graph.new.arena.written ≡ graph.old.arena.written }
     ensures leads { IfOk result (λ r. LeadsFrom graph.new r) }
     ensures planned { IfOk result (λ r. r.applied ≡ false) }
-    ensures new_floor { IfOk result (λ r. r.floor ≡ new.now) }
+    ensures new_floor { IfOk result (λ r. r.floor ≡ new) }
 {
-    let floor = new.copy(alloc)?;
-    let hull = hull_of_difference(graph.floor(), &floor);
-    let new_lines = lines_near(alloc, &floor, &hull)?;
+    let hull = hull_of_difference(graph.floor(), &new);
+    let new_lines = lines_near(alloc, &new, &hull)?;
     let old_lines = graph.arena().lines_in_order();
     let Difference { stay, here, there } = compare(alloc, &hull, old_lines, new_lines.as_slice())?;
     graph.arena().laws();
@@ -44,7 +43,7 @@ pub fn plan(alloc: Global, graph: &mut Graph, new: &Floor) -> Result<Repair, All
     )?;
     Ok(Repair {
         alloc,
-        floor,
+        floor: new,
         stay,
         here,
         there,

@@ -31,14 +31,14 @@ pub make_room-requires-clause-there_ordered : goal.make_room-requires-clause-the
 make_room-requires-clause-there_ordered c =
     let old = lines_of c.lines_in_order-old_lines.result.now in
     let new = c.as_slice.result.now in
-    let kept = subst (AreKept c.in_ok-floor.floor (λ l. is_near c.hull_of_difference-hull.result l ≡ true)) (sym c.as_slice.ensures.value) c.in_ok-new_lines.ensures in
+    let kept = subst (AreKept c.args.new (λ l. is_near c.hull_of_difference-hull.result l ≡ true)) (sym c.as_slice.ensures.value) c.in_ok-new_lines.ensures in
     subst AreOrdered (sym (c.as_slice-4.ensures.value ∙ c.in_ok-stay.ensures.there)) (ordered_filter (λ l. not (is_listed old l)) new kept.ordered)
 
 pub returns-clause-leads : goal.returns-clause-leads
 returns-clause-leads c =
     let graph = c.args.graph.now in
     let a = graph.floor in
-    let b = c.in_ok-floor.floor in
+    let b = c.args.new in
     let old = lines_of c.lines_in_order-old_lines.result.now in
     let new = c.as_slice.result.now in
     let stay = c.in_ok-stay.field-0.stay.items in
