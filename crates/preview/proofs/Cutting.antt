@@ -1,7 +1,6 @@
 -- Proposals cut into pieces, one piece after the other.
-use Rattle.std.proofs.Common.{ℕ, ◌≡◌, ◌+◌, ◌-◌, ◌*◌, ◌/◌, ◌%◌, ◌<◌, ◌≤◌, List, [], ◌∷◌, ◌++◌, refl, sym, ◌∙◌, length, get_or, arith, zero, suc, nat_lt, if◌then◌else◌, ◌⊎◌, inl, inr}
+use Rattle.std.proofs.Common.{ℕ, ◌≡◌, ◌+◌, ◌-◌, ◌*◌, ◌/◌, ◌%◌, ◌<◌, ◌≤◌, List, [], ◌∷◌, ◌++◌, refl, sym, ◌∙◌, length, get_or, arith, ◌⊎◌, inl, inr}
 use Rattle.std.specs.List.{All}
-use Rattle.std.proofs.Math.Nat.{div-add-mod, mod-lt}
 use Rattle.std.proofs.lemmas.Bool.{cases_lt}
 use Rattle.std.proofs.lemmas.List.{length-append, append_assoc, append-nil, get_or_append_left, get_or-append_right, flat_map_more}
 use Rattle.std.proofs.lemmas.List.Elements.{All-cons, All-nil}
@@ -9,6 +8,7 @@ use Rattle.par_route.specs.Pieces.{piece_length}
 use Rattle.preview.specs.declared.proposals.Proposal.{Proposal}
 use Rattle.preview.specs.declared.pieces.Piece.{Piece}
 use Rattle.preview.specs.Pieces.{AreCut, all_proposals}
+use Rattle.par_route.proofs.Lengths.{empty, left_first, left_more, longer_even, longer_falls, mod_small, none_left}
 use Rattle.par_route.proofs.Zips.{All-back, All-front}
 
 -- the piece with this place has its number and its length
@@ -24,47 +24,6 @@ pub record AreCutSoFar (all rest : List Proposal) (count done : ℕ) (pieces : L
   pub proposals : all_proposals pieces ++ rest ≡ all
   pub left : length rest ≡ (count - done) * (length all / count) + (length all % count - done)
   pub each : (i : ℕ) (d : Piece) → i < done → IsPieceAt (length all) count i (get_or pieces i d)
-
--- the one task more of a longer piece
-abbrev longer : ℕ → ℕ → ℕ
-longer place extra = if nat_lt place extra then 1 else 0
-
-longer_next : (place extra : ℕ) → longer place extra + (extra - (place + 1)) ≡ extra - place
-longer_next place extra = grind arith
-
-longer_falls : (i j extra : ℕ) → i < j → longer j extra ≤ longer i extra
-longer_falls i j extra lt = grind arith
-
-longer_even : (i j extra : ℕ) → longer i extra ≤ longer j extra + 1
-longer_even i j extra = grind arith
-
-mod_small : (n count : ℕ) → (count ≡ 0 → n ≡ 0) → n % count ≤ count
-mod_small n zero none = rw (none refl) (omega arith)
-mod_small n (suc k) none = omega (arith, mod-lt n {m = suc k} (omega arith))
-
-product_more : (k q : ℕ) → (k + 1) * q ≡ q + k * q
-product_more k q = omega arith
-
--- what is left is the next piece and what is left after it
-left_more : (n count place : ℕ) → place < count →
-    (count - place) * (n / count) + (n % count - place) ≡ piece_length n count place + ((count - (place + 1)) * (n / count) + (n % count - (place + 1)))
-left_more n count place lt =
-    let more : count - place ≡ count - (place + 1) + 1 = omega (arith, lt) in
-    rw more (omega (arith, product_more (count - (place + 1)) (n / count), longer_next place (n % count)))
-
-none_left : (count q extra : ℕ) → extra ≤ count → (count - count) * q + (extra - count) ≡ 0
-none_left count q extra le =
-    let none : count - count ≡ 0 = omega arith in
-    rw none (omega (arith, le))
-
-empty : {X : Type 0} (xs : List X) → length xs ≡ 0 → xs ≡ []
-empty [] none = refl
-empty (x ∷ xs) none = absurd (omega (arith, none))
-
-left_first : (n count : ℕ) → n ≡ (count - 0) * (n / count) + (n % count - 0)
-left_first n count =
-    let all : count - 0 ≡ count = omega arith in
-    rw all (omega (arith, div-add-mod n count))
 
 -- no piece is cut yet
 pub start : (all : List Proposal) (count : ℕ) → (count ≡ 0 → length all ≡ 0) → AreCutSoFar all all count 0 []
