@@ -15,7 +15,7 @@ use Rattle.walk_model.specs.Choice.{stub_length}
 use Rattle.walk_model.specs.Cost.{turn}
 use Rattle.move_model.specs.Places.{ComesTo, HasFreeStub}
 use Rattle.proof_model.specs.Crossings.{IsNextCrossing}
-use Rattle.proof_model.specs.Places.{IsEnding, IsEntry, IsMove, Place}
+use Rattle.proof_model.specs.Places.{IsExit, IsEntry, IsMove, Place}
 use Rattle.existence_laws.proofs.Decided.{Decided, holds, fails, both, decided_as, denied, nat_le, one_of, same_int, same_nat, same_option, some_below}
 use Rattle.existence_laws.proofs.Alike.{same_point}
 use Rattle.existence_laws.proofs.Floors.{all_decided, crossing_decided, few_ahead, meets_decided, next_decided}
@@ -141,11 +141,11 @@ module _ (floor : Floor) (task : Task) where
   abbrev pub end_cost : Place → Choice → ℕ
   end_cost x c = task.penalty * turn x.heading (opposite c.dir) + stub_length c + c.cost
 
-  pub ending_by : (x : Place) (c : Choice) → Contains task.ends c → Ends x c → IsEnding floor task x (end_cost x c)
+  pub ending_by : (x : Place) (c : Choice) → Contains task.ends c → Ends x c → IsExit floor task x (end_cost x c)
   unfolding Ends
   ending_by x c has e = record { end = c; is_end = has; crossing = e.0.0.0; free = e.0.0.1; stage = e.0.1; at = e.1; costs = refl }
 
   -- all endings are such
-  pub ended : (x : Place) (P : ℕ → Type 0) → ((c : Choice) → Contains task.ends c → Ends x c → P (end_cost x c)) → (cost : ℕ) → IsEnding floor task x cost → P cost
+  pub ended : (x : Place) (P : ℕ → Type 0) → ((c : Choice) → Contains task.ends c → Ends x c → P (end_cost x c)) → (cost : ℕ) → IsExit floor task x cost → P cost
   unfolding Ends
   ended x P each cost e = subst P (sym e.costs) (each e.end e.is_end (((e.crossing, e.free), e.stage), e.at))

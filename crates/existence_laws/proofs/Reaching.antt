@@ -16,7 +16,7 @@ use Rattle.proof_model.specs.declared.proof.Claim.{Claim}
 use Rattle.proof_model.specs.declared.proof.Claim.TheVariants.{Cost, Cut}
 use Rattle.move_model.specs.Places.{ComesTo}
 use Rattle.proof_model.specs.Crossings.{IsNextCrossing}
-use Rattle.proof_model.specs.LeastLabels.{Comes, IsReached, Step}
+use Rattle.proof_model.specs.LeastLabels.{Comes, IsLabelReached, Step}
 use Rattle.proof_model.specs.Places.{IsEntry, IsMove, Place}
 use Rattle.proof_model.specs.Rules.{Suffices}
 use Rattle.existence_laws.proofs.Decided.{Decided, holds, fails, HasLeast, both, decided_as, least_below, nat_le, one_of, same_nat, some_below, some_in}
@@ -244,7 +244,7 @@ module _ (floor : Floor) (task : Task) where
 
   -- the label of a place: what a walk costs at least that comes there, below the claim; for a cut, 0
   pub record IsLabel (claim : Claim) (x : Place) (label : Option ℕ) : Type 0 where
-    pub reached : (n : ℕ) → label ≡ Some n → IsReached floor task claim x n
+    pub reached : (n : ℕ) → label ≡ Some n → IsLabelReached floor task claim x n
     pub least : (steps : List Step) (cost : ℕ) → Comes floor task steps x cost → Suffices claim label cost
 
   label_by_cost : (most : ℕ) (points : List Point) (x : Place) → ((m : ℕ) × (m < most) × HasLeast (Reaches x) m) ⊎ ((n : ℕ) → n < most → Reaches x n → ⊥) → (label : Option ℕ) × IsLabel (Cost most points) x label
@@ -252,7 +252,7 @@ module _ (floor : Floor) (task : Task) where
   label_by_cost most points x (inl (m, l, h)) = (
     Some h.least,
     record {
-      reached = λ n e. let same = same_Some _ _ e in subst (λ k. IsReached floor task (Cost most points) x k) same (let within = h.within in omega (arith, l, within), h.has.0, h.has.1);
+      reached = λ n e. let same = same_Some _ _ e in subst (λ k. IsLabelReached floor task (Cost most points) x k) same (let within = h.within in omega (arith, l, within), h.has.0, h.has.1);
       least = λ steps cost comes. elim (cases_lt cost h.least) as (λ _. h.least ≤ cost) [ inl less ↦ absurd (h.none_below cost less (steps, comes)) | inr more ↦ more ];
     },
   )

@@ -8,7 +8,7 @@ use Rattle.gml_text.specs.declared.fault.GmlFault.TheVariants.{Syntax, TooDeep}
 use Rattle.gml_text.specs.Reading.{State, start, stepped, finished}
 use Rattle.gml_text.specs.Standing.{Stands}
 use Rattle.gml_text.proofs.Standing.{finished_there, goes, refused_there, stands_at_start, too_deep_there, unfinished_there}
-use Rattle.proof_text.specs.Lines.{IsOneLine, line_feed}
+use Rattle.proof_text.specs.Lines.{IsOneLine, newline}
 use Rattle.proof_text.specs.Reading.{BeginsWith, GoesOn, IsStuck, State as Lines, after_line, bad_line, no_line, proofs_of}
 use Rattle.proof_text.proofs.Parting as parting
 use Rattle.existence_laws.specs.Readings.{HaveProofReadings, HaveReadings, IsRead}
@@ -55,14 +55,14 @@ data Split (bytes : List ℕ) : Type 0 where
   no_end : IsOneLine bytes → Split bytes
   ends : (line after : List ℕ) → BeginsWith bytes line after → Split bytes
 
-split_on : (b : ℕ) (bytes : List ℕ) → Decided (b ≡ line_feed) → Split bytes → Split (b ∷ bytes)
+split_on : (b : ℕ) (bytes : List ℕ) → Decided (b ≡ newline) → Split bytes → Split (b ∷ bytes)
 split_on b bytes (holds end) rest = ends [] bytes (record { spelled = ap (λ c. c ∷ bytes) end; one = tt })
 split_on b bytes (fails other) (no_end one) = no_end (other, one)
 split_on b bytes (fails other) (ends line after begins) = ends (b ∷ line) after (record { spelled = ap (λ bs. b ∷ bs) begins.spelled; one = (other, begins.one) })
 
 split : (bytes : List ℕ) → Split bytes
 split [] = no_end tt
-split (b ∷ bytes) = split_on b bytes (same_nat b line_feed) (split bytes)
+split (b ∷ bytes) = split_on b bytes (same_nat b newline) (split bytes)
 
 module _ (bytes : List ℕ) where
   stuck : (b : ℕ) (rest : List ℕ) (count : ℕ) (s : Lines) → parting.HaveRead bytes (b ∷ rest) count s → IsStuck (b ∷ rest) s → IsRead bytes
