@@ -115,7 +115,7 @@ no_move a c h = record { free = λ k s inside other. absurd (omega (arith, insid
 one_leg : steps_of_way (record { steps = 2; to = record { crossing = 5; stage = 0; heading = North } } ∷ []) north_choice ≡ North ∷ North ∷ South ∷ South ∷ South ∷ []
 one_leg = refl
 
--- from a rectangle: no bend straight on, two beside it, two back, one across
+-- from a rectangle: no bend straight on, two beside it, four behind it, two back, one across, three across and behind
 abbrev ports : Rect
 ports = record { left = pos 0; top = pos 0; right = pos 3; bottom = pos 2 }
 
@@ -128,11 +128,17 @@ straight_on = refl
 beside_them : fewest_bends East ports (at (pos 1) (pos 4)) East ≡ 2
 beside_them = refl
 
+behind_them : fewest_bends East ports (at (negsuc 0) (pos 1)) East ≡ 4
+behind_them = refl
+
 back_to_them : fewest_bends East ports (at (pos 5) (pos 1)) West ≡ 2
 back_to_them = refl
 
 across_them : fewest_bends East ports (at (pos 5) (pos 1)) South ≡ 1
 across_them = refl
+
+across_and_behind : fewest_bends East ports (at (pos 5) (negsuc 0)) South ≡ 3
+across_and_behind = refl
 
 -- a walk after one turn: its pin and the turn are its corners, and it is two steps further on
 one_turn : IsDrawn (at (pos 0) (pos 0) ∷ at (pos 3) (pos 0) ∷ []) (at (pos 3) (pos 2)) South (record { start = at (pos 0) (pos 0); steps = East ∷ East ∷ East ∷ South ∷ South ∷ [] })

@@ -1,9 +1,9 @@
 -- The lemmas on problems and labels, callees first.
 pub mod Origins
+pub mod Stages
 pub mod Gaps
 pub mod BoundsGrow
 pub mod Stubs
-pub mod Legs
 pub mod Headings
 pub mod Choices
 pub mod Least

@@ -8,13 +8,9 @@ use Rattle.move_model.specs.Boxes.{distance_from, fewest_bends}
 use Rattle.search_labels.specs.declared.ends.Entry.{Entry}
 use Rattle.search_labels.specs.declared.origin.Origin.{Origin}
 
--- a lower bound on the cost of reaching the point from the ports
-abbrev pub cost_from : Origin → Point → ℕ
-cost_from o p = o.lead + distance_from o.ports p
-
--- a lower bound on the cost of reaching the point with the heading
+-- a lower bound on the cost of reaching the point with the heading from the ports
 abbrev pub bound_from : ℕ → Origin → Point → Dir → ℕ
-bound_from penalty o p heading = cost_from o p + penalty * fewest_bends o.dir o.ports p heading
+bound_from penalty o p heading = o.lead + distance_from o.ports p + penalty * fewest_bends o.dir o.ports p heading
 
 -- the entry begins in the origin's direction at one of its ports, and costs at least the origin's lead
 pub record Covers (o : Origin) (e : Entry) : Type 0 where
@@ -22,10 +18,10 @@ pub record Covers (o : Origin) (e : Entry) : Type 0 where
   pub port : HasWithin o.ports e.port
   pub lead : o.lead ≤ e.lead
 
--- the ports lie on the sheet, and the lead is one of a stub and a connection cost
+-- the ports lie on the sheet, and the lead is at most what a first walk costs
 pub record IsOrigin (o : Origin) : Type 0 where
   pub ports : RectIsOnSheet o.ports
-  pub lead : o.lead ≤ 5 * 10 ^ 9
+  pub lead : o.lead ≤ 300000000000000000
 
 -- the port lies on the sheet, and the lead is one of a stub and a connection cost
 pub record IsSmallEntry (e : Entry) : Type 0 where

@@ -1,11 +1,12 @@
 //! A lower bound on the cost to a point from the ports that walks leave in one direction.
 ghost use Rattle.std.specs.Prelude.{◌≡◌, ◌+◌, ◌*◌, ◌^◌, ◌≤◌, ◌≤ℤ◌, ◌↔◌, All, IfSome, IsNone, IsTrue};
-ghost use Rattle.move_model.specs.Boxes.{beside, distance_from, fewest_bends, outside};
+ghost use Rattle.move_model.specs.Boxes.{behind_by, beside, distance_from, fewest_bends, outside};
 ghost use Rattle.plane_geom.specs.Along.{way_of};
 ghost use Rattle.plane_geom.specs.Point.{IsCoordinate, PointIsOnSheet};
 ghost use Rattle.std.specs.Int.{int_gap};
-ghost use Rattle.search_labels.specs.Origins.{Covers, IsOrigin, IsSmallEntry, bound_from, cost_from};
+ghost use Rattle.search_labels.specs.Origins.{Covers, IsOrigin, IsSmallEntry, bound_from};
 ghost use Rattle.search_labels.specs.declared.ends.Entry.{Entry};
+ghost use Rattle.walk_model.specs.Cost.{turn};
 
 use crate::ends::Entry;
 use plane_geom::{Dir, Point, Rect, Way};
@@ -95,31 +96,68 @@ impl Origin {
         }
     }
 
+    /// Whether the point lies behind the box, for one who leaves the box in the direction.
+    fn lies_behind(&self, p: Point, dir: Dir) -> bool
+        requires origin { IsOrigin self.now }
+        requires within { PointIsOnSheet p }
+        ensures { IsTrue result ↔ (behind_by dir self.now.ports p ≡ 0 → ⊥) }
+    {
+        match dir {
+            Dir::East => gap(p.x, self.ports.left) > 0,
+            Dir::South => gap(p.y, self.ports.top) > 0,
+            Dir::West => gap(self.ports.right, p.x) > 0,
+            Dir::North => gap(self.ports.bottom, p.y) > 0,
+        }
+    }
+
+    /// A lower bound on the bends of a walk that arrives at the point in the direction in which it
+    /// left the box.
+    fn bends_on(&self, p: Point) -> u64
+        requires origin { IsOrigin self.now }
+        requires within { PointIsOnSheet p }
+        ensures exact { result ≡ fewest_bends self.now.dir self.now.ports p self.now.dir }
+        ensures few { result ≤ 4 }
+    {
+        if self.lies_behind(p, self.dir) {
+            4
+        } else if self.is_beside(p) {
+            2
+        } else {
+            0
+        }
+    }
+
+    /// A lower bound on the bends of a walk that arrives at the point in a direction across that in
+    /// which it left the box.
+    fn bends_turned(&self, p: Point, heading: Dir) -> u64
+        requires origin { IsOrigin self.now }
+        requires within { PointIsOnSheet p }
+        requires turned { turn self.now.dir heading ≡ 1 }
+        ensures exact { result ≡ fewest_bends self.now.dir self.now.ports p heading }
+        ensures few { result ≤ 4 }
+    {
+        if self.lies_behind(p, self.dir) || self.lies_behind(p, heading) {
+            3
+        } else {
+            1
+        }
+    }
+
     /// A lower bound on the bends of a walk from the box that arrives at the point with the
     /// heading.
     fn bends(&self, p: Point, heading: Dir) -> u64
         requires origin { IsOrigin self.now }
         requires within { PointIsOnSheet p }
         ensures exact { result ≡ fewest_bends self.now.dir self.now.ports p heading }
-        ensures few { result ≤ 2 }
+        ensures few { result ≤ 4 }
     {
         if heading == self.dir {
-            if self.is_beside(p) { 2 } else { 0 }
+            self.bends_on(p)
         } else if heading == self.dir.opposite() {
             2
         } else {
-            1
+            self.bends_turned(p, heading)
         }
-    }
-
-    /// A lower bound on the cost of reaching the point.
-    pub fn cost(&self, p: Point) -> u64
-        requires origin { IsOrigin self.now }
-        requires within { PointIsOnSheet p }
-        ensures exact { result ≡ cost_from self.now p }
-        ensures small { result ≤ 21 * 10 ^ 9 }
-    {
-        self.lead + self.distance(p)
     }
 
     /// A lower bound on the cost of reaching the point with the heading.
@@ -129,7 +167,7 @@ impl Origin {
         requires penalty { penalty ≤ 10 ^ 9 }
         ensures { result ≡ bound_from penalty self.now p heading }
     {
-        self.cost(p) + penalty * self.bends(p, heading)
+        self.lead + self.distance(p) + penalty * self.bends(p, heading)
     }
 
     /// The origin, widened to one more entry.

@@ -1,9 +1,9 @@
 //! The problem of a search: a task over an arena.
-ghost use Rattle.std.specs.Prelude.{◌≡◌, ◌⊎◌, ◌+◌, ◌*◌, ◌^◌, ◌<◌, ◌≤◌, All, Any, IfOk, OnOk, length, vec_len};
+ghost use Rattle.std.specs.Prelude.{◌≡◌, ◌⊎◌, ◌+◌, ◌*◌, ◌^◌, ◌<◌, ◌≤◌, All, Any, IfOk, OnOk, length};
 ghost use Rattle.move_model.specs.Problems.{IsProblem};
 ghost use Rattle.plane_geom.specs.Point.{PointIsOnSheet};
 ghost use Rattle.plane_geom.specs.declared.floor.Floor.{Floor};
-ghost use Rattle.search_labels.specs.Bounds.{AreFirstLegs, bound_of, checkpoint, least_bound_from, least_cost_by, least_cost_from, most_cost};
+ghost use Rattle.search_labels.specs.Bounds.{AreStages, bound_of, least_bound_from, most_cost, origin_at, origins_after, origins_at};
 ghost use Rattle.search_labels.specs.Origins.{AreCovered, Covers, IsOrigin, IsSmallEntry};
 ghost use Rattle.search_labels.specs.declared.ends.Entry.{Entry};
 ghost use Rattle.search_labels.specs.Problems.{IsReady};
@@ -12,7 +12,7 @@ use crate::ends::{Ending, Entry, endings, entries};
 use crate::origin::{Origin, origin_of};
 use line_arena::LineArena;
 use move_model::{Ahead, Place};
-use plane_geom::{Dir, Point, Solid};
+use plane_geom::{Dir, Point, Rect, Solid};
 use std::alloc::{AllocError, Global};
 use walk_model::Task;
 
@@ -40,9 +40,9 @@ pub struct Problem<'a> {
     pub task: &'a Task,
     pub entries: Vec<Entry>,
     pub endings: Vec<Ending>,
-    pub origins: Vec<Origin>,
-    /// A lower bound on the cost of reaching each checkpoint.
-    pub legs: Vec<u64>,
+    /// Where walks begin that have passed so many checkpoints: at the ports, and later at the last
+    /// checkpoint, in each heading.
+    pub origins: Vec<Vec<Origin>>,
 }
 
 /// Appends the origin of the direction, if it has one.
@@ -73,20 +73,6 @@ fn all_origins(alloc: Global, entries: &[Entry]) -> Result<Vec<Origin>, AllocErr
     Ok(origins)
 }
 
-/// A lower bound on the cost of reaching the first checkpoint.
-fn first_leg(origins: &[Origin], to: Point) -> u64
-    requires origins { All IsOrigin origins.now }
-    requires within { PointIsOnSheet to }
-    ensures exact { result ≡ least_cost_from origins.now to }
-    ensures small { result ≤ most_cost }
-{
-    let mut least = MOST_COST;
-    for origin in origins {
-        least = least.min(origin.cost(to));
-    }
-    least
-}
-
 /// A lower bound on the cost of reaching the point with the heading from one of the origins.
 fn least_bound(origins: &[Origin], penalty: u64, to: Point, heading: Dir) -> u64
     requires origins { All IsOrigin origins.now }
@@ -102,39 +88,70 @@ fn least_bound(origins: &[Origin], penalty: u64, to: Point, heading: Dir) -> u64
     least
 }
 
-/// A lower bound on the cost of reaching the next checkpoint, whose number is the length of `legs`;
-/// `legs` are the bounds for those before it.
-fn next_leg(origins: &[Origin], via: &[Point], legs: &[u64]) -> u64
-    requires origins { All IsOrigin origins.now }
-    requires within { All PointIsOnSheet via.now }
-    requires few { length via.now ≤ 4 }
-    requires more { length legs.now < length via.now }
-    requires legs { AreFirstLegs origins.now via.now legs.now }
-    ensures exact { result ≡ least_cost_by origins.now via.now (length legs.now) (checkpoint via.now (length legs.now)) }
-    ensures small { result ≤ most_cost + 8000000000 * length legs.now }
+/// The origin of walks that leave the checkpoint at the point with the heading; those to it begin
+/// at the origins `before`.
+fn origin_at(before: &[Origin], penalty: u64, at: Point, heading: Dir) -> Origin
+    requires origins { All IsOrigin before.now }
+    requires within { PointIsOnSheet at }
+    requires penalty { penalty ≤ 10 ^ 9 }
+    ensures exact { result ≡ origin_at penalty before.now at heading }
+    ensures origin { IsOrigin result }
 {
-    let to = via[legs.len()];
-    if legs.len() == 0 {
-        return first_leg(origins, to);
+    Origin {
+        dir: heading,
+        ports: Rect {
+            left: at.x,
+            top: at.y,
+            right: at.x,
+            bottom: at.y,
+        },
+        lead: least_bound(before, penalty, at, heading),
     }
-    let last = legs.len() - 1;
-    legs[last] + via[last].distance(to)
 }
 
-/// A lower bound on the cost of reaching each checkpoint by way of those before it.
-fn all_legs(alloc: Global, origins: &[Origin], via: &[Point]) -> Result<Vec<u64>, AllocError>
-    requires origins { All IsOrigin origins.now }
-    requires within { All PointIsOnSheet via.now }
-    requires few { length via.now ≤ 4 }
-    ensures all { IfOk result (λ v. vec_len v ≡ length via.now) }
-    ensures legs { IfOk result (λ v. AreFirstLegs origins.now via.now v.items) }
+/// The origins of walks that leave the checkpoint at the point, one for each heading; those to it
+/// begin at the origins `before`.
+fn origins_at(
+    alloc: Global,
+    before: &[Origin],
+    penalty: u64,
+    at: Point,
+) -> Result<Vec<Origin>, AllocError>
+    requires origins { All IsOrigin before.now }
+    requires within { PointIsOnSheet at }
+    requires penalty { penalty ≤ 10 ^ 9 }
+    ensures exact { IfOk result (λ v. v.items ≡ origins_at penalty before.now at) }
+    ensures origins { IfOk result (λ v. All IsOrigin v.items) }
 {
-    let mut legs = Vec::new(alloc);
-    'legs: while legs.len() < via.len() {
-        let leg = next_leg(origins, via, &legs);
-        legs.push(leg)?;
+    let east = origin_at(before, penalty, at, Dir::East);
+    let south = origin_at(before, penalty, at, Dir::South);
+    let west = origin_at(before, penalty, at, Dir::West);
+    let north = origin_at(before, penalty, at, Dir::North);
+    let origins = vec![in alloc; east, south, west, north]?;
+    Ok(origins)
+}
+
+/// The origins of walks by the number of checkpoints that they have passed; `first` are those of
+/// the entries.
+fn all_stages(
+    alloc: Global,
+    first: Vec<Origin>,
+    penalty: u64,
+    via: &[Point],
+) -> Result<Vec<Vec<Origin>>, AllocError>
+    requires origins { All IsOrigin first.items }
+    requires within { All PointIsOnSheet via.now }
+    requires penalty { penalty ≤ 10 ^ 9 }
+    ensures first { IfOk result (λ v. origins_after v.items 0 ≡ first.items) }
+    ensures stages { IfOk result (λ v. AreStages penalty via.now v.items) }
+    ensures all { IfOk result (λ v. length v.items ≡ length via.now + 1) }
+{
+    let mut stages = vec![in alloc; first]?;
+    for &at in via {
+        let next = origins_at(alloc, &stages[stages.len() - 1], penalty, at)?;
+        stages.push(next)?;
     }
-    Ok(legs)
+    Ok(stages)
 }
 
 /// The cost of a walk that enters by the entry and costs `cost` from the place, if the entry is at
@@ -149,6 +166,19 @@ fn cost_through(entry: &Entry, place: &Place, cost: u64) -> u64
     } else {
         MOST_COST
     }
+}
+
+/// Whether the point is in the box of the ports that walks leave with the heading.
+fn may_enter(origins: &[Origin], heading: Dir, at: Point) -> bool
+    requires origins { All IsOrigin origins.now }
+    requires within { PointIsOnSheet at }
+{
+    for origin in origins {
+        if origin.dir == heading && origin.holds(at) {
+            return true;
+        }
+    }
+    false
 }
 
 impl<'a> Problem<'a> {
@@ -169,8 +199,8 @@ impl<'a> Problem<'a> {
         arena.laws();
         let entries = entries(alloc, arena, solids, task)?;
         let endings = endings(alloc, arena, solids, task)?;
-        let origins = all_origins(alloc, &entries)?;
-        let legs = all_legs(alloc, &origins, task.via.as_slice())?;
+        let first = all_origins(alloc, &entries)?;
+        let origins = all_stages(alloc, first, task.penalty, task.via.as_slice())?;
         Ok(Problem {
             arena,
             solids,
@@ -178,22 +208,7 @@ impl<'a> Problem<'a> {
             entries,
             endings,
             origins,
-            legs,
         })
-    }
-
-    /// A lower bound on the cost of reaching the point by way of the first `stage` checkpoints, at
-    /// least one.
-    fn cost_by(&self, stage: u32, at: Point) -> u64
-        requires ready { IsReady self.now }
-        requires within { PointIsOnSheet at }
-        requires some { 0 < stage }
-        requires stage { stage ≤ length self.now.task.now.via }
-        ensures exact { result ≡ least_cost_by self.now.origins.items self.now.task.now.via stage at }
-        ensures small { result ≤ 4 * 10 ^ 17 }
-    {
-        let last = stage as usize - 1;
-        self.legs[last] + self.task.via.as_slice()[last].distance(at)
     }
 
     /// A lower bound on the cost of reaching the place, which is at the point.
@@ -204,24 +219,8 @@ impl<'a> Problem<'a> {
         ensures exact { result ≡ bound_of self.now.origins.items self.now.task.now place.now.stage place.now.heading at }
         ensures small { result ≤ 4 * 10 ^ 17 }
     {
-        if place.stage > 0 {
-            self.cost_by(place.stage, at)
-        } else {
-            least_bound(&self.origins, self.task.penalty, at, place.heading)
-        }
-    }
-
-    /// Whether the point is in the box of the ports that walks leave with the heading.
-    fn may_enter(&self, heading: Dir, at: Point) -> bool
-        requires origins { All IsOrigin self.now.origins.items }
-        requires within { PointIsOnSheet at }
-    {
-        for origin in &self.origins {
-            if origin.dir == heading && origin.holds(at) {
-                return true;
-            }
-        }
-        false
+        let origins = &self.origins[place.stage as usize];
+        least_bound(origins, self.task.penalty, at, place.heading)
     }
 
     /// The least cost of a walk that enters at the place, which is at the point, and costs `cost`
@@ -235,7 +234,7 @@ impl<'a> Problem<'a> {
             ⊎ Any (λ e. (e.place ≡ place.now) × (result ≡ e.lead + cost)) self.now.entries.items }
     {
         let mut least = MOST_COST;
-        if self.may_enter(place.heading, at) {
+        if may_enter(&self.origins[0], place.heading, at) {
             for entry in &self.entries {
                 least = least.min(cost_through(entry, place, cost));
             }

@@ -1,9 +1,7 @@
 //! Labels of a crossing, the order of a queue, bounds worked by hand, and the checkpoints that a
 //! walk has passed.
-ghost use Rattle.std.specs.Prelude.{◌≡◌, ◌*◌, ◌<◌, ◌≤◌, All, IfOk, length};
+ghost use Rattle.std.specs.Prelude.{◌≡◌, ◌*◌, ◌<◌, ◌≤◌, IfOk, length};
 ghost use Rattle.plane_geom.specs.Floor.{IsFloor};
-ghost use Rattle.plane_geom.specs.Point.{PointIsOnSheet};
-ghost use Rattle.search_labels.specs.Origins.{IsOrigin};
 ghost use Rattle.search_labels.specs.Problems.{IsReady};
 ghost use Rattle.search_labels.specs.Tables.{IsMarked};
 ghost use Rattle.walk_model.specs.Floors.{IsFloorOf};
@@ -14,7 +12,7 @@ use crate::floors::graph;
 use line_arena::{CrossId, LineArena};
 use move_model::{Ahead, Place};
 use plane_geom::{Dir, Point};
-use search_labels::{Candidate, Label, Origin, Problem, Queue, Table, stage_at};
+use search_labels::{Candidate, Label, Problem, Queue, Table, stage_at};
 use std::alloc::{AllocError, Global};
 use std::test::Fail;
 use visibility_graph::Graph;
@@ -97,69 +95,82 @@ fn keeps_labels_until_they_are_cleared(rt: HostRuntime) -> Result<(), Fail> {
     Ok(())
 }
 
-/// Whether the point lies in the box of one of the origins.
-fn is_held(origins: &[Origin], at: Point) -> bool
-    requires origins { All IsOrigin origins.now }
-    requires within { PointIsOnSheet at }
-{
-    for origin in origins {
-        if origin.holds(at) {
-            return true;
-        }
-    }
-    false
-}
+/// Two ports to the East, in a box from (0, 0) to (4, 20), with the least lead 7, and a checkpoint.
+const TWO_PORTS: Asked = Asked {
+    starts: &[Stub(-1, 0, Dir::East, 0, 9), Stub(3, 20, Dir::East, 0, 6)],
+    ends: &[],
+    via: &[(10, 25)],
+    penalty: 100,
+};
 
-/// The bound of the point with the heading East, before any checkpoint, if a walk enters at all.
-fn bound_at(problem: &Problem<'_>, at: Point) -> Option<u64>
+/// The bound of a point with a heading after `stage` checkpoints.
+#[derive(Clone, Copy)]
+struct Bounded(u32, Dir, i16, i16, u64);
+
+/// Bounds from the two ports, worked by hand.
+const BOUNDED: [Bounded; 10] = [
+    // In the direction of the ports: in their box, before it, beside it, and behind it.
+    Bounded(0, Dir::East, 2, 3, 7),
+    Bounded(0, Dir::East, 10, 10, 13),
+    Bounded(0, Dir::East, 10, 25, 218),
+    Bounded(0, Dir::East, -5, 10, 412),
+    // Across it: one bend, and three where the point lies behind in the heading.
+    Bounded(0, Dir::South, 10, 25, 118),
+    Bounded(0, Dir::North, 10, 25, 318),
+    // Back: two bends.
+    Bounded(0, Dir::West, 10, 10, 213),
+    // From the checkpoint: straight on South, straight on East, and back North.
+    Bounded(1, Dir::South, 10, 30, 123),
+    Bounded(1, Dir::East, 20, 25, 228),
+    Bounded(1, Dir::North, 10, 20, 323),
+];
+
+/// The bound of the row's point, if a walk enters at all.
+fn bound_at(problem: &Problem<'_>, row: Bounded) -> Option<u64>
     requires ready { IsReady problem.now }
-    requires within { PointIsOnSheet at }
 {
+    let Bounded(stage, heading, x, y, _) = row;
     let entry = problem.entries.first()?;
+    if stage as usize > problem.task.via.as_slice().len() {
+        return None;
+    }
     let place = Place {
         crossing: entry.place.crossing,
-        stage: 0,
-        heading: Dir::East,
+        stage,
+        heading,
     };
-    Some(problem.bound(&place, at))
+    Some(problem.bound(&place, point(x, y)))
 }
 
-/// Whether the box of the ports holds (2, 3), and the bounds of (10, 25) and (10, 10).
-fn bounds(
+/// The same for a task and its graph.
+fn bound_in(
     alloc: Global,
     graph: &Graph,
     task: &Task,
-) -> Result<(bool, Option<u64>, Option<u64>), Fail>
+    row: Bounded,
+) -> Result<Option<u64>, Fail>
     requires floor { IsFloor graph.now.floor }
     requires task { IsTask task.now }
     requires floor_of { IsFloorOf graph.now.floor task.now }
 {
     let solids = graph.floor().solids.as_slice();
     let problem = Problem::new(alloc, graph.arena(), solids, task)?;
-    let is_held = is_held(&problem.origins, point(2, 3));
-    let beside = bound_at(&problem, point(10, 25));
-    let ahead = bound_at(&problem, point(10, 10));
-    Ok((is_held, beside, ahead))
+    Ok(bound_at(&problem, row))
 }
 
-/// The same for a described task.
-fn asked_bounds(alloc: Global, asked: Asked) -> Result<(bool, Option<u64>, Option<u64>), Fail> {
-    let task = task(alloc, asked)?;
+/// The same for the task of the two ports.
+fn asked_bound(alloc: Global, row: Bounded) -> Result<Option<u64>, Fail> {
+    let task = task(alloc, TWO_PORTS)?;
     let graph = graph(alloc, &task)?;
-    bounds(alloc, &graph, &task)
+    bound_in(alloc, &graph, &task, row)
 }
 
-/// Two ports to the East, in a box from (0, 0) to (4, 20), with the least lead 7.
 #[test]
 fn bounds_from_a_box_of_ports(rt: HostRuntime) -> Result<(), Fail> {
-    let asked = Asked {
-        starts: &[Stub(-1, 0, Dir::East, 0, 9), Stub(3, 20, Dir::East, 0, 6)],
-        ends: &[],
-        via: &[],
-        penalty: 100,
-    };
-    let bounds = asked_bounds(rt.alloc(), asked)?;
-    assert_eq!(rt; bounds, (true, Some(218), Some(13)));
+    for (place, &row) in BOUNDED.iter().enumerate() {
+        let bound = asked_bound(rt.alloc(), row)?;
+        assert_eq!(rt; bound, Some(row.4), "in row {place}");
+    }
     Ok(())
 }
 

@@ -136,7 +136,7 @@ module _ (p : Problem) (l : Labels) (ready : IsReady p) (spread : IsSpread p l) 
       let cost : v.cost ≡ on.cost + g.steps + penalty * turn x.heading g.to.heading = ap (λ (z : Ahead). z.cost) front in
       let runs : v.runs ≡ (if turn x.heading g.to.heading == 0 then 0 else 1) + on.runs = ap (λ (z : Ahead). z.runs) front in
       let bound : bound_at p g.to m.end ≤ bound_at p x at + g.steps + penalty * turn x.heading g.to.heading =
-      subst (λ q. bound_at p g.to m.end ≤ bound_at p x q + g.steps + penalty * turn x.heading g.to.heading) (begin x at g m here) (move_adds p x g.to g.steps m) in
+      subst (λ q. bound_at p g.to m.end ≤ bound_at p x q + g.steps + penalty * turn x.heading g.to.heading) (begin x at g m here) (move_adds p ready x g.to g.steps m) in
       record {
         least = least_behind x at g m here on (subst (IsLeastAhead p x at) front matters.least);
         cheap = omega (arith, matters.cheap, cost, bound);

@@ -7,12 +7,12 @@ use Rattle.plane_geom.specs.declared.point.Dir.{Dir}
 use Rattle.plane_geom.specs.declared.point.Dir.TheVariants.{East, South, West, North}
 use Rattle.plane_geom.specs.Along.{across, way_of}
 use Rattle.plane_geom.specs.Point.{IsCoordinate, PointIsOnSheet, distance}
+use Rattle.plane_geom.proofs.Signed.{distance_bound}
 use Rattle.line_arena.specs.Arena.{StandsAt}
 use Rattle.line_arena.proofs.Arenas.ArenaLaws.{placed}
 use Rattle.walk_model.specs.declared.task.Choice.{Choice}
 use Rattle.walk_model.specs.Choice.{IsChoice}
 use Rattle.walk_laws.proofs.OnKeptLines.Lines.{chosen}
-use Rattle.search_labels.proofs.Legs.{distance_small}
 use Rattle.search_labels.specs.Ends.{IsEndingOf}
 use Rattle.search_labels.specs.Problems.{IsReady}
 use Rattle.search_labels.specs.declared.ends.Ending.{Ending}
@@ -39,7 +39,7 @@ small_ending p e ready inside =
     let c : Choice = sound.1 in
     let of : IsEndingOf p.solids.now p.arena.now p.task.now c e = sound.2 in
     let is : IsChoice c = chosen IsChoice p.task.now.ends e.choice c of.is_end ready.problem.is_task.ends.each in
-    let far : distance c.pin c.port ≤ 8000000000 = distance_small c.pin c.port is.pin is.port in
+    let far : distance c.pin c.port ≤ 8000000000 = distance_bound c.pin c.port is.pin is.port in
     record {
       choice = c;
       of = of;

@@ -6,6 +6,7 @@ use Rattle.std.proofs.lemmas.Option.{same_Some}
 use Rattle.plane_geom.specs.declared.point.Point.{Point}
 use Rattle.plane_geom.specs.declared.point.Dir.{Dir}
 use Rattle.plane_geom.specs.Point.{forward}
+use Rattle.plane_geom.proofs.Signed.{distance_bound}
 use Rattle.line_arena.specs.Arena.{StandsAt}
 use Rattle.walk_model.specs.declared.task.Choice.{Choice}
 use Rattle.walk_model.specs.Choice.{IsChoice, stub_length}
@@ -29,7 +30,6 @@ use Rattle.route_search.specs.Labels.{label_at}
 use Rattle.route_search.specs.Starting.{EntersAt}
 use Rattle.route_search.proofs.Tracing.Corners.{corners_from}
 use Rattle.route_search.proofs.Tracing.Following.{IsFollowing}
-use Rattle.search_labels.proofs.Legs.{distance_small}
 
 module _ (p : Problem) (l : Labels) (ready : IsReady p) (entry : Entry) (v : Ahead) (t : Triple) (e : EntersAt p l entry v t) where
   abbrev start : Choice
@@ -107,7 +107,7 @@ module _ (p : Problem) (l : Labels) (ready : IsReady p) (entry : Entry) (v : Ahe
         subst (λ c. IsEntryOf p.solids.now p.arena.now p.task.now c entry) same of_some.2
 
     pub small_lead : entry.lead ≤ 9000000000
-    small_lead = omega (arith, entry_of.lead, distance_small start.pin start.port is_choice.pin is_choice.port, is_choice.cost)
+    small_lead = omega (arith, entry_of.lead, distance_bound start.pin start.port is_choice.pin is_choice.port, is_choice.cost)
 
     -- the cost of the walk is the lead of its entry and what is ahead
     pub cost_is : entry.lead + v.cost ≡ triple_cost p.task.now t

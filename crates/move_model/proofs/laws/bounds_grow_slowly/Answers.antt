@@ -1,4 +1,4 @@
--- One coordinate at a time; and who leaves the rectangle straight on stays as far beside it.
+-- One coordinate at a time; and a walk in a direction stays as far beside and behind across it.
 use Rattle.plane_geom.proofs.Headings.{forward_distance}
 use Rattle.move_model.proofs.Bounds.{bends_grow, distance_grows, point_grows, within_bends}
 use Rattle.move_model.proofs.laws.bounds_grow_slowly.Goals as goal

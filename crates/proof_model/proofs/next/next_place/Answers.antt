@@ -1,7 +1,7 @@
 -- By the nearest crossing.
 use Rattle.std.proofs.Common.{refl, sym, subst, arith}
+use Rattle.plane_geom.proofs.Signed.{distance_bound}
 use Rattle.move_model.proofs.GoingOn.Rests.{crossing_on_sheet}
-use Rattle.search_labels.proofs.Legs.{distance_small}
 use Rattle.proof_model.specs.Next.{IsNext}
 use Rattle.proof_model.proofs.Nexts.{is_next, is_none_next}
 use Rattle.proof_model.proofs.next.next_place.Goals as goal
@@ -28,7 +28,7 @@ returns-clause-short c =
     let a = c.args.problem.now.arena.now in
     let from = crossing_on_sheet r.floor a c.args.crossing c.args.at r.arena r.problem.stands c.requires.here in
     let to = crossing_on_sheet r.floor a c.in_ok-crossing.crossing c.point-there.result r.arena r.problem.stands c.point-there.ensures in
-    omega (arith, distance_small c.args.at c.point-there.result from to, c.distance.ensures)
+    omega (arith, distance_bound c.args.at c.point-there.result from to, c.distance.ensures)
 
 pub returns-clause-next : goal.returns-clause-next
 returns-clause-next c = λ floor problem.

@@ -2,13 +2,13 @@
 use Rattle.std.proofs.Common.{◌+◌, rules, sym, subst, arith}
 use Rattle.plane_geom.specs.declared.point.Dir.{Dir}
 use Rattle.plane_geom.specs.Point.{PointIsOnSheet, opposite}
+use Rattle.plane_geom.proofs.Signed.{distance_bound}
 use Rattle.line_arena.specs.Arena.{IsNearest, LiesFurther}
 use Rattle.move_model.specs.declared.ahead.Stretch.{Stretch}
 use Rattle.move_model.specs.Places.{ComesTo}
 use Rattle.move_model.proofs.Moving.Stages.{one_stage}
 use Rattle.route_search.specs.declared.labels.Labels.{Labels}
 use Rattle.route_search.proofs.Offers.HandingOn.{Handing, all_handed, handing_more, handing_past, none_behind, way_behind}
-use Rattle.search_labels.proofs.Legs.{distance_small}
 use Rattle.route_search.proofs.Moving.Sizes.{crossing_on_sheet}
 use Rattle.route_search.proofs.labels.Labels.hand_on.Goals as goal
 use Rattle.route_search.proofs.labels.Labels.hand_on.Goals.{In-Some, After-point-at, After-point-from, After-stage_at, then-stage_at-place+in_ok-offer_all, else-stage_at-place}
@@ -59,7 +59,7 @@ offer_all-requires-clause-ways c = λ h.
 pub offer_all-requires-clause-steps : goal.offer_all-requires-clause-steps
 offer_all-requires-clause-steps c =
     let here = goal.at.offer_all-requires-clause-steps c in
-    let far = distance_small c.point-from.result c.point-at.result (from_on_sheet here.After-point-from) (at_on_sheet here.After-point-at) in
+    let far = distance_bound c.point-from.result c.point-at.result (from_on_sheet here.After-point-from) (at_on_sheet here.After-point-at) in
     omega (arith, far, c.distance.ensures)
 
 pub offer_all-requires-clause-small : goal.offer_all-requires-clause-small

@@ -2,12 +2,12 @@
 use Rattle.std.proofs.Common.{◌≡◌, Some, None, refl, sym, ap, subst, ◌∙◌, arith, rules}
 use Rattle.plane_geom.specs.declared.point.Dir.{Dir}
 use Rattle.plane_geom.specs.declared.point.Point.{Point}
+use Rattle.plane_geom.proofs.Signed.{distance_bound}
 use Rattle.line_arena.specs.Arena.{LiesFurther}
 use Rattle.move_model.specs.declared.place.Place.{Place}
 use Rattle.move_model.specs.Ahead.{with_stretch}
 use Rattle.search_labels.specs.Labels.{ahead_in}
 use Rattle.route_search.specs.Labels.{label_at}
-use Rattle.search_labels.proofs.Legs.{distance_small}
 use Rattle.route_search.proofs.Moving.Sizes.{across_small, crossing_on_sheet}
 use Rattle.route_search.proofs.Tracing.Tails.{the_only}
 use Rattle.route_search.proofs.Moving.TheMoves.{the_move}
@@ -40,7 +40,7 @@ makes-requires-clause-cost c =
     let small = c.requires.searching.small _ c.in_ok-ahead.ahead (sym c.ahead_of.ensures ∙ c.in_ok-ahead.was) in
     let from = crossing_on_sheet p c.args.standing.now.place.crossing c.point-from.result c.requires.ready c.point-from.ensures in
     let at = crossing_on_sheet p c.in_ok-crossing.crossing c.point-at.result c.requires.ready c.point-at.ensures in
-    let far = distance_small c.point-from.result c.point-at.result from at in
+    let far = distance_bound c.point-from.result c.point-at.result from at in
     omega (arith, far, c.distance.ensures, small.cost, c.requires.ready.problem.is_task.penalty)
 
 pub makes-requires-clause-runs : goal.makes-requires-clause-runs

@@ -1,9 +1,17 @@
 -- Leads of entries are small, and the least of two is one of them.
-use Rattle.std.proofs.Common.{◌≡◌, ◌<◌, List, length, get_or, subst, sym, ap, ◌∙◌, arith}
+use Rattle.std.proofs.Common.{◌≡◌, ◌<◌, List, All, length, get_or, subst, sym, ap, ◌∙◌, arith}
+use Rattle.search_labels.specs.Origins.{IsOrigin}
 use Rattle.search_labels.specs.declared.ends.Entry.{Entry}
 use Rattle.search_labels.proofs.Choices.{entries_small}
 use Rattle.search_labels.proofs.Least.{IsWhole, least_step}
+use Rattle.search_labels.proofs.Stages.{read_stage}
 use Rattle.search_labels.proofs.problem.Problem.least_whole.Goals as goal
+
+pub may_enter-requires-clause-origins : goal.may_enter-requires-clause-origins
+may_enter-requires-clause-origins c =
+    let stages = c.args.self.now.origins.items in
+    let within : 0 < length stages = omega (arith, c.requires.ready.all_stages) in
+    subst (All IsOrigin) (read_stage stages c.index.result.now 0 within c.index.ensures ∙ sym c.deref.ensures.value) (c.requires.ready.stages.each 0 within)
 
 pub cost_through-requires-clause-lead : goal.cost_through-requires-clause-lead
 cost_through-requires-clause-lead c =

@@ -1,7 +1,7 @@
 -- What is kept of the task is what a search reads.
-use Rattle.std.proofs.Common.{List, All, length, subst, sym, ap, arith}
+use Rattle.std.proofs.Common.{List, All, ◌+◌, length, subst, sym, ap, ◌∙◌}
 use Rattle.plane_geom.specs.declared.point.Point.{Point}
-use Rattle.search_labels.specs.Bounds.{AreFirstLegs}
+use Rattle.search_labels.specs.Bounds.{AreStages}
 use Rattle.search_labels.specs.Origins.{AreCovered, IsSmallEntry}
 use Rattle.search_labels.specs.declared.origin.Origin.{Origin}
 use Rattle.search_labels.proofs.Choices.{entries_small}
@@ -14,17 +14,16 @@ all_origins-requires c =
 
 pub returns-clause-ready : goal.returns-clause-ready
 returns-clause-ready c =
-    let origins = c.in_ok-origins.origins.items in
-    let legs = c.in_ok-legs.legs.items in
+    let stages = c.in_ok-origins.origins.items in
+    let entries = c.in_ok-entries.entries.items in
     record {
       floor = c.requires.0;
       problem = c.requires.1;
       arena = c.laws.ensures.arena;
       entries = c.in_ok-entries.ensures;
       endings = c.in_ok-endings.ensures;
-      origins = c.in_ok-origins.ensures.origins;
-      covered = subst (AreCovered origins) c.deref.ensures.value c.in_ok-origins.ensures.covered;
-      legs = subst (λ (os : List Origin). AreFirstLegs os c.args.task.now.via legs) c.deref-2.ensures.value
-          (subst (λ (via : List Point). AreFirstLegs c.deref-2.result.now via legs) c.as_slice.ensures c.in_ok-legs.ensures.legs);
-      all_legs = omega (arith, c.in_ok-legs.ensures.all, ap length c.as_slice.ensures, c.in_ok-legs.legs.ok.0);
+      covered = subst (λ (os : List Origin). AreCovered os entries) (sym c.in_ok-origins.ensures.first)
+          (subst (AreCovered c.in_ok-first.first.items) c.deref.ensures.value c.in_ok-first.ensures.covered);
+      stages = subst (λ (via : List Point). AreStages c.args.task.now.penalty via stages) c.as_slice.ensures c.in_ok-origins.ensures.stages;
+      all_stages = c.in_ok-origins.ensures.all ∙ ap (λ (via : List Point). length via + 1) c.as_slice.ensures;
     }

@@ -1,6 +1,6 @@
 -- The task may be searched on the graph of a floor of it.
 use Rattle.std.proofs.Common.{◌≡◌, rules}
-use Rattle.search_tests.proofs.labels.bounds.Goals as goal
+use Rattle.search_tests.proofs.labels.bound_in.Goals as goal
 
 pub new-requires : goal.new-requires
 new-requires c =
