@@ -10,13 +10,6 @@ use Rattle.search_labels.specs.Bounds.{AreStages, checkpoint, origins_after, ori
 use Rattle.search_labels.specs.Origins.{IsOrigin}
 use Rattle.search_labels.specs.declared.origin.Origin.{Origin}
 
--- the origins of the entries alone are a stage
-pub begin_stages : (penalty : ℕ) (via : List Point) (v : Vec Origin Global) → All IsOrigin v.items → AreStages penalty via (v ∷ [])
-begin_stages penalty via v all = record {
-  each = λ k within. let none : 0 ≡ k = omega (arith, within) in subst (λ i. All IsOrigin (origins_after (v ∷ []) i)) none all;
-  next = λ k within. absurd (omega (arith, within));
-}
-
 module _ (stages : List (Vec Origin Global)) (v : Vec Origin Global) where
   -- what is read of the stages are the origins there
   pub read_stage : (k : ℕ) → k < length stages → v ≡ get_or stages k v → origins_after stages k ≡ v.items
