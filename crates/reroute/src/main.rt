@@ -1,8 +1,10 @@
-//! The program: `reroute check FILE`, `reroute route FILE FILE` and `reroute make SEED`.
+//! The program: `reroute` with its seven subcommands.
 #![tactic(auto)]
 
+mod hint;
 mod words;
 
+use hint::print_hint;
 use host_edge::{DiskFolder, StdSink};
 use reroute_app::exit_code_of;
 use std::process::ExitCode;
@@ -12,5 +14,9 @@ fn main(rt: HostRuntime) -> ExitCode {
     let alloc = rt.alloc();
     let mut folder = DiskFolder::new(alloc, &rt);
     let mut out = StdSink::new(&rt);
-    exit_code_of(&rt, alloc, all_words(&rt, alloc), &mut folder, &mut out)
+    let code = exit_code_of(&rt, alloc, all_words(&rt, alloc), &mut folder, &mut out);
+    if let Ok(words) = all_words(&rt, alloc) {
+        print_hint(&rt, alloc, &words, &code);
+    }
+    code
 }
