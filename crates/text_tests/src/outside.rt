@@ -11,6 +11,7 @@ use host_edge::{
     write_all_to,
 };
 use std::alloc::{AllocError, Global};
+use std::cell::RefCell;
 use std::fmt::Display;
 use std::io::ErrorKind;
 use std::test::Fail;
@@ -217,6 +218,55 @@ fn writes_to_standard_output(rt: HostRuntime) -> Result<(), Fail> {
         write_all_to(&mut sink, b"written to standard output\n"),
         Ok(())
     );
+    Ok(())
+}
+
+/// A standard output that takes at most three bytes of a piece and keeps what it took.
+#[derive(Drop)]
+struct Page {
+    kept: RefCell<Vec<u8>>,
+}
+
+impl Page {
+    fn keep(&self, bytes: &[u8]) -> io::Result<()> {
+        let Ok(mut kept) = self.kept.try_borrow_mut() else {
+            return Err(io::Error::from(ErrorKind::ResourceBusy));
+        };
+        Ok(kept.extend_from_slice(bytes)?)
+    }
+}
+
+impl Print for Page {
+    fn print<D: Display + Drop>(&self, _value: D) -> io::Result<()> {
+        Err(io::Error::from(ErrorKind::Unsupported))
+    }
+
+    fn println<D: Display + Drop>(&self, _value: D) -> io::Result<()> {
+        Err(io::Error::from(ErrorKind::Unsupported))
+    }
+
+    fn write_all(&self, bytes: &[u8]) -> io::Result<()> {
+        self.keep(bytes)
+    }
+
+    fn write_some(&self, bytes: &[u8]) -> io::Result<usize> {
+        let taken = bytes.len().min(3);
+        self.keep(&bytes[..taken])?;
+        Ok(taken)
+    }
+}
+
+#[test]
+fn writes_each_piece_once_and_in_order(rt: HostRuntime) -> Result<(), Fail> {
+    let page = Page {
+        kept: RefCell::new(Vec::new(rt.alloc())),
+    };
+    let mut sink = StdSink::new(&page);
+    for piece in ["one", "", "two, three", "4", "five and six\n"] {
+        assert_eq!(rt; write_all_to(&mut sink, piece.as_bytes()), Ok(()));
+    }
+    let kept = page.kept.into_inner();
+    assert!(rt; kept.as_slice() == b"onetwo, three4five and six\n".as_slice());
     Ok(())
 }
 
