@@ -4,8 +4,10 @@
 use crate::rows;
 use crate::runs::{Row, Wanted, exit_code, run_row, whole_row};
 use reroute_app::Status;
-use std::process::ExitCode;
+use std::alloc::Global;
+use std::process::{Abort, ExitCode};
 use std::test::Fail;
+use std::thread::Threads;
 
 /// Three nodes in a row, and an edge that leads around one of them.
 const ROUND: &[u8] = b"graph [ node [ id 1 graphics [ x 0 y 0 w 20 h 20 ] ] \
@@ -158,33 +160,67 @@ fn refuses_other_words(rt: HostRuntime) -> Result<(), Fail> {
     Ok(())
 }
 
-#[test]
-fn refuses_long_diagrams(rt: HostRuntime) -> Result<(), Fail> {
-    let spaces = vec![in rt.alloc(); b' '; 16_777_217]?;
+/// Numbers of spaces, as many as a diagram may have and one more, and the results.
+const LONG_DIAGRAMS: [(usize, Status, &str); 2] = [
+    (16_777_216, Status::Diagram, "diagram: NoGraph\n"),
+    (
+        16_777_217,
+        Status::TooLong,
+        "too long: d.gml limit 16777216\n",
+    ),
+];
+
+fn read_long_diagram(
+    rt: &(impl Abort + Threads + Sync),
+    alloc: Global,
+    (count, status, output): (usize, Status, &str),
+) -> Result<(), Fail> {
+    let spaces = vec![in alloc; b' '; count]?;
     let row = Row {
         diagram: &spaces,
-        ..whole_row(
-            "check|d.gml",
-            Status::TooLong,
-            "too long: d.gml limit 16777216\n",
-        )
+        ..whole_row("check|d.gml", status, output)
     };
-    run_row(&rt, rt.alloc(), &row)?;
+    run_row(rt, alloc, &row)?;
     Ok(())
 }
 
 #[test]
-fn refuses_long_scripts(rt: HostRuntime) -> Result<(), Fail> {
-    let spaces = vec![in rt.alloc(); b' '; 4_194_305]?;
+fn reads_long_diagrams(rt: HostRuntime) -> Result<(), Fail> {
+    for row in LONG_DIAGRAMS {
+        read_long_diagram(&rt, rt.alloc(), row)?;
+    }
+    Ok(())
+}
+
+/// The same of a script.
+const LONG_SCRIPTS: [(usize, Status, &str); 2] = [
+    (4_194_304, Status::Done, "graph [\n]\n"),
+    (
+        4_194_305,
+        Status::TooLong,
+        "too long: s.txt limit 4194304\n",
+    ),
+];
+
+fn read_long_script(
+    rt: &(impl Abort + Threads + Sync),
+    alloc: Global,
+    (count, status, output): (usize, Status, &str),
+) -> Result<(), Fail> {
+    let spaces = vec![in alloc; b' '; count]?;
     let row = Row {
         script: &spaces,
-        ..whole_row(
-            "route|d.gml|s.txt",
-            Status::TooLong,
-            "too long: s.txt limit 4194304\n",
-        )
+        ..whole_row("route|d.gml|s.txt", status, output)
     };
-    run_row(&rt, rt.alloc(), &row)?;
+    run_row(rt, alloc, &row)?;
+    Ok(())
+}
+
+#[test]
+fn reads_long_scripts(rt: HostRuntime) -> Result<(), Fail> {
+    for row in LONG_SCRIPTS {
+        read_long_script(&rt, rt.alloc(), row)?;
+    }
     Ok(())
 }
 

@@ -6,14 +6,31 @@ use crate::runs::{Row, route_row, run_row_gated, whole_row};
 use crate::subcommands::{PROPOSALS, PROPOSALS_OUT, ROUND};
 use par_route::Gate;
 use reroute_app::Status;
+use std::alloc::Global;
+use std::process::Abort;
 use std::sync::atomic::{AtomicBool, AtomicU32, Ordering};
 use std::test::Fail;
+use std::thread::Threads;
 
 /// Counts the pieces that pass, and adds up their numbers.
 #[derive(Drop)]
 struct Counts {
     pieces: AtomicU32,
     numbers: AtomicU32,
+}
+
+impl Counts {
+    fn new() -> Self {
+        Counts {
+            pieces: AtomicU32::new(0),
+            numbers: AtomicU32::new(0),
+        }
+    }
+
+    fn both(&self) -> (u32, u32) {
+        let pieces = self.pieces.load(Ordering::SeqCst);
+        (pieces, self.numbers.load(Ordering::SeqCst))
+    }
 }
 
 impl Gate for Counts {
@@ -77,18 +94,46 @@ impl Gate for HoldsLater {
 
 #[test]
 fn counts_searches(rt: HostRuntime) -> Result<(), Fail> {
-    let gate = Counts {
-        pieces: AtomicU32::new(0),
-        numbers: AtomicU32::new(0),
-    };
+    let gate = Counts::new();
     let row = Row {
         words: "route|d.gml|s.txt|--count",
         ..route_row("graph [ ]", rows::UNDONE, Status::Done, rows::UNDONE_OUT)
     };
     let searched = run_row_gated(&rt, rt.alloc(), &row, Some(&gate))?;
     assert_eq!(rt; searched, 2);
-    assert_eq!(rt; gate.pieces.load(Ordering::SeqCst), 2);
-    assert_eq!(rt; gate.numbers.load(Ordering::SeqCst), 2);
+    assert!(rt; gate.both() == (2, 2));
+    Ok(())
+}
+
+/// Arguments, the expected number of pieces in which five connectors are searched, and the sum of the
+/// numbers of these pieces.
+const PIECES: [(&str, (u32, u32)); 4] = [
+    ("route|d.gml|s.txt", (1, 1)),
+    ("route|--workers|2|d.gml|s.txt", (2, 3)),
+    ("route|--workers|3|d.gml|s.txt", (3, 6)),
+    ("route|--workers|4|d.gml|s.txt", (4, 10)),
+];
+
+fn pieces_of(
+    rt: &(impl Abort + Threads + Sync),
+    alloc: Global,
+    words: &str,
+) -> Result<(u32, u32), Fail> {
+    let gate = Counts::new();
+    let row = Row {
+        words,
+        ..route_row("graph [ ]", rows::CHANNEL, Status::Done, rows::CHANNEL_OUT)
+    };
+    let searched = run_row_gated(rt, alloc, &row, Some(&gate))?;
+    assert_eq!(rt; searched, 5);
+    Ok(gate.both())
+}
+
+#[test]
+fn searches_in_a_piece_for_each_worker(rt: HostRuntime) -> Result<(), Fail> {
+    for (words, pieces) in PIECES {
+        assert!(rt; pieces_of(&rt, rt.alloc(), words)? == pieces, "{words}");
+    }
     Ok(())
 }
 

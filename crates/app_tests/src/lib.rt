@@ -12,19 +12,17 @@ mod gates;
 #[cfg(test)]
 mod large;
 #[cfg(test)]
+mod limit_rows;
+#[cfg(test)]
 mod limits;
 #[cfg(test)]
 mod outputs;
-#[cfg(test)]
-mod replies;
 #[cfg(test)]
 mod routes;
 #[cfg(test)]
 mod rows;
 #[cfg(test)]
 mod runs;
-#[cfg(test)]
-mod seeds;
 #[cfg(test)]
 mod sizes;
 #[cfg(test)]
