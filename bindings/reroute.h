@@ -1,0 +1,175 @@
+/* reroute.h: right-angled connectors for diagram editors. The interface of the library for C, version 0.1.
+ *
+ * A session keeps a scene of boxes, pins and connectors, and for each connector the cheapest legal route. Edits come in
+ * transactions; a committed transaction can be undone and redone. Lengths are whole thousandths of a unit; x grows to the
+ * right and y downwards. Things are named by numbers: you choose the ids of boxes, and the session numbers connectors from 1.
+ *
+ * Memory. You give a session its room: reroute_size() bytes, aligned to 16, as malloc gives them. reroute_start and
+ * reroute_end, at the end of this file, do that for you. All else is taken by malloc, realloc and free, and given back by
+ * reroute_close. Your memory is written only where a parameter says so, and no pointer to it is kept, but for the room.
+ * The room may not be moved or copied.
+ *
+ * Threads. Sessions share nothing. Calls of one session must not overlap; they may come from different threads, one after
+ * another. No call starts a thread, takes a lock, reads or writes a file, prints, or ends the process.
+ *
+ * Refusals. Most calls return a reroute_fault: a code, REROUTE_OK if nothing is refused, and a value, which is what the
+ * refusal names. After a refused begin, edit, commit, abort, undo or redo no transaction is open: the edits of the one that
+ * was open are dropped together, and scene, routes and history are as they were before it. It is the same when memory runs
+ * out. Of the other calls each says what stays. The codes are those of the program, X1 to X17.
+ *
+ * Versions. Until 1.0 each minor version may change calls, and its library has another name (libreroute.so.0 is 0.1).
+ */
+#ifndef REROUTE_H
+#define REROUTE_H
+#include <stdbool.h>
+#include <stddef.h>
+#include <stdint.h>
+#include <stdlib.h>
+#ifdef __cplusplus
+extern "C" {
+#endif
+
+#define REROUTE_VERSION 256u /* major * 65536 + minor * 256 + patch */
+/* The version that the library was built as. */
+uint32_t reroute_version(void);
+
+enum {
+    REROUTE_OK = 0,
+    REROUTE_SYNTAX = 1,             /* what is asked for has no form, as a pin without a direction */
+    REROUTE_NO_TRANSACTION = 2,     /* an edit, a commit or an abort, and no transaction is open */
+    REROUTE_ALREADY_OPEN = 3,       /* a begin, an undo or a redo, and a transaction is open; or reroute_open on an open session */
+    REROUTE_UNKNOWN_NODE = 4,       /* no box has the id; value: the id */
+    REROUTE_UNKNOWN_EDGE = 5,       /* no connector has the number; value: the number */
+    REROUTE_NODE_EXISTS = 6,        /* a box has the id already; value: the id */
+    REROUTE_NODE_IN_USE = 7,        /* a connector ends at the box; value: its number */
+    REROUTE_SAME_NODE = 8,          /* a connector from a box to itself; value: the id */
+    REROUTE_OUT_OF_RANGE = 9,       /* a number is beyond its limits; value: its place among the parameters, from 1; 3 for a setting */
+    REROUTE_PIN_OUTSIDE = 10,       /* a pin would be outside its box; value: the place of the pin, from 1 */
+    REROUTE_UNKNOWN_PIN_CLASS = 11, /* the box has no pin of the class; value: the class */
+    REROUTE_NO_SUCH_PLACE = 12,     /* nothing has the place; value: the place */
+    REROUTE_TOO_MANY = 13,          /* value: the limit: 256 boxes, 256 pins, 512 connectors, 256 checkpoints, 4 of one connector */
+    REROUTE_NOTHING_TO_UNDO = 14,
+    REROUTE_NOTHING_TO_REDO = 15,
+    REROUTE_PIN_IN_USE = 17,        /* a connector uses the last pin of the class; value: its number */
+    REROUTE_NO_SESSION = 98,        /* no session is open here */
+    REROUTE_MEMORY = 99             /* memory ran out */
+};
+
+typedef struct reroute_fault { uint32_t code; int64_t value; } reroute_fault;
+
+/* The handle of a session: where its room is. Only the calls below read or write it. */
+typedef struct reroute_session { void *held; } reroute_session;
+
+/* --- Open and close ---------------------------------------------------------------------------------------------- */
+/* How many bytes a session's room takes. */
+size_t reroute_size(void);
+/* Makes the room, of reroute_size() bytes, that of a closed session. Call it once for a room, before any other call. */
+void reroute_ready(void *room);
+/* Opens the empty scene: penalty 50000, buffer 4000, nudge 4000. If the session is open, it stays: REROUTE_ALREADY_OPEN. */
+reroute_fault reroute_open(reroute_session *session);
+/* Closes the session and gives its memory back, all but the room. Does nothing if it is closed. */
+void reroute_close(reroute_session *session);
+
+/* --- Transactions ------------------------------------------------------------------------------------------------ */
+/* Opens a transaction. Its edits are seen by its later edits, and by no line before the commit. */
+reroute_fault reroute_begin(reroute_session *session);
+/* Closes it: the scene is that after its edits, and each connector has the first of its cheapest legal routes there, or
+ * none if no route is legal. Only connectors that the edits may affect are searched. The scene before can be undone to, at
+ * most 100 of them; what was undone before can no longer be redone. */
+reroute_fault reroute_commit(reroute_session *session);
+/* Drops it. Takes no memory. */
+reroute_fault reroute_abort(reroute_session *session);
+/* The scene before the last commit that is not undone, with the routes that it had. Nothing is searched. */
+reroute_fault reroute_undo(reroute_session *session);
+/* The scene before the last undo, with the routes that it had. Nothing is searched. */
+reroute_fault reroute_redo(reroute_session *session);
+
+/* --- Edits of the open transaction -------------------------------------------------------------------------------- */
+/* A box by its centre and its whole width and height. */
+reroute_fault reroute_add_box(reroute_session *session, int64_t id, int64_t x, int64_t y, int64_t w, int64_t h);
+reroute_fault reroute_move_box(reroute_session *session, int64_t id, int64_t x, int64_t y);
+reroute_fault reroute_size_box(reroute_session *session, int64_t id, int64_t w, int64_t h);
+reroute_fault reroute_drop_box(reroute_session *session, int64_t id);
+/* The directions in which lines may leave a pin. */
+typedef struct reroute_directions { bool east, south, west, north; } reroute_directions;
+/* A pin of a class from 1 to 65535 at an offset from the box's centre. Class 0 is the centre itself, in all directions.
+ * Without a direction: REROUTE_SYNTAX, and the transaction is dropped. */
+reroute_fault reroute_add_pin(reroute_session *session, int64_t id, uint32_t pin_class, int64_t dx, int64_t dy, reroute_directions directions);
+/* Removes the pin at a place of the box, from 1. */
+reroute_fault reroute_drop_pin(reroute_session *session, int64_t id, uint32_t place);
+/* A connector between any pins of the two classes. *number becomes its number; if the call is refused, it stays. */
+reroute_fault reroute_connect(reroute_session *session, int64_t from, uint32_t from_class, int64_t to, uint32_t to_class, uint32_t *number);
+/* The number that the next connector gets; 0 if the session is closed. */
+uint32_t reroute_next(reroute_session *session);
+reroute_fault reroute_cut(reroute_session *session, uint32_t number);
+reroute_fault reroute_set_classes(reroute_session *session, uint32_t number, uint32_t from_class, uint32_t to_class);
+/* A checkpoint that the line passes through, before the one that has the place now, from 1. */
+reroute_fault reroute_add_checkpoint(reroute_session *session, uint32_t number, uint32_t place, int64_t x, int64_t y);
+reroute_fault reroute_drop_checkpoint(reroute_session *session, uint32_t number, uint32_t place);
+/* What a bend costs, as a length: 1 to 10^9. */
+reroute_fault reroute_set_penalty(reroute_session *session, int64_t value);
+/* How far lines keep from boxes: 1 to 10^6. */
+reroute_fault reroute_set_buffer(reroute_session *session, int64_t value);
+/* How far lines side by side are kept apart where there is room: 0 to 10^6. */
+reroute_fault reroute_set_nudge(reroute_session *session, int64_t value);
+
+/* --- Lines of the present scene; an open transaction makes no difference ------------------------------------------- */
+/* Nudges the lines and sets *count to how many connectors have one; they are in the order of their numbers, and can be read
+ * by the next two calls, by their places from 0, until this is called again. The faults are REROUTE_NO_SESSION and
+ * REROUTE_MEMORY; after one, the lines that could be read before and *count are as they were. */
+reroute_fault reroute_lines(reroute_session *session, size_t *count);
+/* The connector of a line, how many corners it has, and whether it is none of the lines before the last reroute_lines. */
+typedef struct reroute_line_info { uint32_t connector; size_t corners; bool changed; } reroute_line_info;
+/* The line at a place. If there is none, or the session is closed: connector 0, no corners, not changed. */
+reroute_line_info reroute_line(reroute_session *session, size_t place);
+typedef struct reroute_point { int64_t x, y; } reroute_point;
+/* Writes the corner at a place, from 0, of the line at a place. False, and nothing is written, if there is none. */
+bool reroute_corner(reroute_session *session, size_t place, size_t at, reroute_point *corner);
+/* Writes what a connector's route costs: its length and the penalty for each bend, before nudging. False, and nothing is
+ * written, if the connector has no route. */
+bool reroute_cost(reroute_session *session, uint32_t number, uint64_t *cost);
+/* How many searches the session has made; 0 if it is closed. */
+uint64_t reroute_searched(reroute_session *session);
+
+/* --- In C, over the calls above: not part of the library ----------------------------------------------------------- */
+/* Takes a room by malloc and opens the empty scene in it. After a fault nothing is to be ended. */
+static inline reroute_fault reroute_start(reroute_session *session) {
+    reroute_fault fault = { REROUTE_MEMORY, 0 };
+    session->held = malloc(reroute_size());
+    if (!session->held) return fault;
+    reroute_ready(session->held);
+    fault = reroute_open(session);
+    if (fault.code != REROUTE_OK) {
+        free(session->held);
+        session->held = NULL;
+    }
+    return fault;
+}
+/* Closes the session and gives its room back. */
+static inline void reroute_end(reroute_session *session) {
+    if (!session->held) return;
+    reroute_close(session);
+    free(session->held);
+    session->held = NULL;
+}
+/* Writes the first corners of the line at a place, as many as there is room for, and returns how many were written. */
+static inline size_t reroute_corners(reroute_session *session, size_t place, reroute_point *out, size_t room) {
+    size_t at = 0;
+    while (at < room && reroute_corner(session, place, at, &out[at])) at++;
+    return at;
+}
+/* Calls back for each line that changed since the last call, in place of libavoid's callback of a connector. */
+static inline reroute_fault reroute_for_changed(reroute_session *session, void (*changed)(void *context, reroute_line_info line, size_t place), void *context) {
+    size_t count = 0;
+    reroute_fault fault = reroute_lines(session, &count);
+    for (size_t place = 0; fault.code == REROUTE_OK && place < count; place++) {
+        reroute_line_info line = reroute_line(session, place);
+        if (line.changed) changed(context, line, place);
+    }
+    return fault;
+}
+
+#ifdef __cplusplus
+}
+#endif
+#endif

@@ -1,0 +1,107 @@
+// reroute.hpp: the library for C as one C++11 class. Lengths are doubles in units, kept to thousandths.
+#pragma once
+#include "reroute.h"
+#include <cmath>
+#include <cstddef>
+#include <cstdint>
+#include <new>
+#include <stdexcept>
+#include <string>
+#include <vector>
+
+namespace reroute {
+
+struct Point { double x, y; };
+
+// A call that was refused. No transaction is open after it, and nothing else changed.
+struct Refused : std::runtime_error {
+    reroute_fault fault;
+    explicit Refused(reroute_fault f)
+        : std::runtime_error("reroute: X" + std::to_string(f.code) + " " + std::to_string(f.value)), fault(f) {}
+};
+
+class Session {
+    reroute_session session_;
+    static int64_t milli(double value) { return std::llround(value * 1000); }
+    static void done(reroute_fault fault) {
+        if (fault.code == REROUTE_MEMORY) throw std::bad_alloc();
+        if (fault.code != REROUTE_OK) throw Refused(fault);
+    }
+
+public:
+    Session() { done(reroute_start(&session_)); }
+    ~Session() { reroute_end(&session_); }
+    Session(const Session &) = delete;
+    Session &operator=(const Session &) = delete;
+
+    // Makes edits in one transaction; an exception drops all of them.
+    template <typename Edits> void transaction(Edits edits) {
+        done(reroute_begin(&session_));
+        try {
+            edits(*this);
+        } catch (...) {
+            reroute_abort(&session_);
+            throw;
+        }
+        done(reroute_commit(&session_));
+    }
+    void undo() { done(reroute_undo(&session_)); }
+    void redo() { done(reroute_redo(&session_)); }
+
+    void addBox(int64_t id, double x, double y, double w, double h) {
+        done(reroute_add_box(&session_, id, milli(x), milli(y), milli(w), milli(h)));
+    }
+    void moveBox(int64_t id, double x, double y) { done(reroute_move_box(&session_, id, milli(x), milli(y))); }
+    void sizeBox(int64_t id, double w, double h) { done(reroute_size_box(&session_, id, milli(w), milli(h))); }
+    void dropBox(int64_t id) { done(reroute_drop_box(&session_, id)); }
+    void addPin(int64_t id, uint32_t pinClass, double dx, double dy, reroute_directions directions = {true, true, true, true}) {
+        done(reroute_add_pin(&session_, id, pinClass, milli(dx), milli(dy), directions));
+    }
+    void dropPin(int64_t id, uint32_t place) { done(reroute_drop_pin(&session_, id, place)); }
+    // Connects two boxes, and returns the number of the connector.
+    uint32_t connect(int64_t from, int64_t to, uint32_t fromClass = 0, uint32_t toClass = 0) {
+        uint32_t number = 0;
+        done(reroute_connect(&session_, from, fromClass, to, toClass, &number));
+        return number;
+    }
+    void cut(uint32_t connector) { done(reroute_cut(&session_, connector)); }
+    void setClasses(uint32_t connector, uint32_t fromClass, uint32_t toClass) {
+        done(reroute_set_classes(&session_, connector, fromClass, toClass));
+    }
+    void addCheckpoint(uint32_t connector, uint32_t place, double x, double y) {
+        done(reroute_add_checkpoint(&session_, connector, place, milli(x), milli(y)));
+    }
+    void dropCheckpoint(uint32_t connector, uint32_t place) { done(reroute_drop_checkpoint(&session_, connector, place)); }
+    void setPenalty(double value) { done(reroute_set_penalty(&session_, milli(value))); }
+    void setBuffer(double value) { done(reroute_set_buffer(&session_, milli(value))); }
+    void setNudge(double value) { done(reroute_set_nudge(&session_, milli(value))); }
+
+    // Calls changed(connector, points) for each line that is none of those of the last time.
+    template <typename Changed> void forChanged(Changed changed) {
+        std::size_t count = 0;
+        done(reroute_lines(&session_, &count));
+        for (std::size_t place = 0; place < count; place++) {
+            reroute_line_info line = reroute_line(&session_, place);
+            if (line.changed) changed(line.connector, points(place, line.corners));
+        }
+    }
+    // Whether the connector has a route, and what it costs.
+    bool cost(uint32_t connector, double &cost) {
+        uint64_t milli = 0;
+        if (!reroute_cost(&session_, connector, &milli)) return false;
+        cost = milli / 1000.0;
+        return true;
+    }
+    uint64_t searched() { return reroute_searched(&session_); }
+
+private:
+    std::vector<Point> points(std::size_t place, std::size_t corners) {
+        std::vector<Point> points;
+        reroute_point corner;
+        for (std::size_t at = 0; at < corners && reroute_corner(&session_, place, at, &corner); at++)
+            points.push_back({corner.x / 1000.0, corner.y / 1000.0});
+        return points;
+    }
+};
+
+}

@@ -1,0 +1,2 @@
+-- The definitions of the lines of an editor.
+pub mod Lines

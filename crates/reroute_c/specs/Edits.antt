@@ -1,0 +1,31 @@
+-- What edits from C ask for, and the number of the connector that is added next.
+use Rattle.std.specs.Prelude.{◌≡◌, ◌||◌, ℕ, Bool, Option, None, Some}
+use Rattle.scene_model.specs.declared.pin.Dirs.{Dirs}
+use Rattle.scene_model.specs.Scene.{Scene}
+use Rattle.scene_model.specs.World.{World, given_up}
+use Rattle.editor_session.specs.declared.editor.Editor.{Editor}
+use Rattle.reroute_c.specs.declared.edits.Directions.{Directions}
+use Rattle.reroute_c.specs.declared.fault.Fault.{Fault}
+use Rattle.reroute_c.specs.Codes.{syntax_fault}
+
+-- the directions of a pin
+abbrev pub dirs_of : Directions → Dirs
+dirs_of d = record { east = d.east; south = d.south; west = d.west; north = d.north }
+
+-- it is at least one
+abbrev pub has_direction : Directions → Bool
+has_direction d = d.east || d.south || d.west || d.north
+
+-- the scene that the next edit changes
+abbrev pub edited_scene : Option Scene → Scene → Scene
+edited_scene None present = present
+edited_scene (Some working) present = working
+
+-- the number that the next connector gets
+abbrev pub next_edge : World → ℕ
+next_edge w = (edited_scene w.working w.present).next_edge
+
+-- what was asked for has no form, and the transaction is dropped
+pub record IsGivenUp (fault : Fault) (old new : Editor) : Type 0 where
+  pub fault_is : fault ≡ syntax_fault
+  pub world : new.session.world ≡ given_up old.session.world

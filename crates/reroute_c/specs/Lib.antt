@@ -1,0 +1,6 @@
+-- The definitions of the exports to C.
+pub mod Codes
+pub mod Edits
+pub mod Lines
+pub mod Open
+pub mod Owned

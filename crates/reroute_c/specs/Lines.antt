@@ -1,0 +1,59 @@
+-- The lines as C is told of them.
+use Rattle.std.specs.Prelude.{◌≡◌, ℕ, Bool, true, false, not, length, Option, None, Some, slice_get}
+use Rattle.std.specs.List.{list_any}
+use Rattle.plane_geom.specs.declared.point.Point.{Point}
+use Rattle.walk_model.specs.declared.route.Answer.{Answer}
+use Rattle.walk_model.specs.declared.route.Route.{Route}
+use Rattle.walk_model.specs.declared.route.WrittenRoute.{WrittenRoute}
+use Rattle.editor_session.specs.declared.editor.Editor.{Editor}
+use Rattle.editor_session.specs.Lines.{is_same_line}
+use Rattle.reroute_c.specs.declared.lines.Corner.{Corner}
+use Rattle.reroute_c.specs.declared.lines.Line.{Line}
+
+-- no line: numbers of connectors begin with 1
+abbrev pub no_line : Line
+no_line = record { connector = 0; corners = 0; changed = false }
+
+-- a line, and whether it is none of these
+abbrev pub told_line : Editor → WrittenRoute → Line
+told_line e l = record {
+  connector = l.edge;
+  corners = length l.points;
+  changed = not (list_any (λ m. is_same_line m l) e.lines_before.items);
+}
+
+-- the line that was found, if one was
+abbrev pub found_line : Editor → Option WrittenRoute → Line
+found_line e None = no_line
+found_line e (Some l) = told_line e l
+
+-- the line at a place, from 0, of those that were asked for last
+abbrev pub line_at : Editor → ℕ → Line
+line_at e place = found_line e (slice_get e.lines.items place)
+
+-- the corner at a place of a line, from 0
+abbrev pub corner_of : Option WrittenRoute → ℕ → Option Point
+corner_of None at = None
+corner_of (Some l) at = slice_get l.points at
+
+abbrev pub corner_at : Editor → ℕ → ℕ → Option Point
+corner_at e place at = corner_of (slice_get e.lines.items place) at
+
+-- the corner is written if there is one; otherwise nothing is
+abbrev pub IsWritten : Option Point → Bool → Corner → Corner → Type 0
+IsWritten None there old new = (there ≡ false) × (new ≡ old)
+IsWritten (Some p) there old new = (there ≡ true) × (new ≡ record { x = p.x; y = p.y })
+
+-- the cost of an answer's route, if it has one
+abbrev pub cost_of_route : Option Route → Option ℕ
+cost_of_route None = None
+cost_of_route (Some route) = Some route.cost
+
+abbrev pub cost_of : Option Answer → Option ℕ
+cost_of None = None
+cost_of (Some answer) = cost_of_route answer.route
+
+-- the cost is written if there is one; otherwise nothing is
+abbrev pub IsCost : Option ℕ → Bool → ℕ → ℕ → Type 0
+IsCost None there old new = (there ≡ false) × (new ≡ old)
+IsCost (Some cost) there old new = (there ≡ true) × (new ≡ cost)

@@ -1,0 +1,10 @@
+//! Exports to C: a session of the engine behind a handle that lies in its caller's room.
+//!
+//! The header has the contracts in plain words. Lengths are whole thousandths of a GML unit.
+#![tactic(auto)]
+
+mod calls;
+mod edits;
+mod fault;
+mod handle;
+mod lines;

@@ -1,0 +1,183 @@
+/* Every call of reroute.h, with what it has to answer: prints ok, or the first line of this file that is wrong.
+ *     cc calls.c $(pkg-config --cflags --libs reroute) -o calls
+ */
+#include "reroute.h"
+#include <stdio.h>
+
+#define WANT(condition) do { if (!(condition)) { printf("wrong: line %d\n", __LINE__); exit(1); } } while (0)
+#define REFUSES(call, wanted, named) do { \
+    reroute_fault fault_ = call; \
+    WANT(fault_.code == (wanted) && fault_.value == (named)); \
+} while (0)
+#define DONE(call) REFUSES(call, REROUTE_OK, 0)
+
+static void costs(reroute_session *s, uint32_t connector, uint64_t wanted) {
+    uint64_t cost = 7;
+    WANT(reroute_cost(s, connector, &cost) && cost == wanted);
+}
+
+/* A closed session refuses everything. */
+static void closed(reroute_session *s) {
+    size_t count = 7;
+    uint32_t number = 7;
+    uint64_t cost = 7;
+    reroute_point corner = { 7, 7 };
+    reroute_line_info line = reroute_line(s, 0);
+    REFUSES(reroute_begin(s), REROUTE_NO_SESSION, 0);
+    REFUSES(reroute_commit(s), REROUTE_NO_SESSION, 0);
+    REFUSES(reroute_abort(s), REROUTE_NO_SESSION, 0);
+    REFUSES(reroute_undo(s), REROUTE_NO_SESSION, 0);
+    REFUSES(reroute_redo(s), REROUTE_NO_SESSION, 0);
+    REFUSES(reroute_add_box(s, 1, 0, 0, 20000, 20000), REROUTE_NO_SESSION, 0);
+    REFUSES(reroute_connect(s, 1, 0, 2, 0, &number), REROUTE_NO_SESSION, 0);
+    REFUSES(reroute_lines(s, &count), REROUTE_NO_SESSION, 0);
+    WANT(line.connector == 0 && line.corners == 0 && !line.changed);
+    WANT(!reroute_corner(s, 0, 0, &corner) && !reroute_cost(s, 1, &cost));
+    WANT(reroute_searched(s) == 0 && reroute_next(s) == 0);
+    WANT(count == 7 && number == 7 && cost == 7 && corner.x == 7 && corner.y == 7);
+}
+
+/* Two boxes with a connector, and a third box below them. */
+static void draw(reroute_session *s) {
+    uint32_t number = 0;
+    DONE(reroute_begin(s));
+    DONE(reroute_add_box(s, 1, 0, 0, 20000, 20000));
+    DONE(reroute_add_box(s, 2, 100000, 0, 20000, 20000));
+    DONE(reroute_add_box(s, 3, 50000, 80000, 20000, 20000));
+    DONE(reroute_size_box(s, 3, 20000, 40000));
+    WANT(reroute_next(s) == 1);
+    DONE(reroute_connect(s, 1, 0, 2, 0, &number));
+    WANT(number == 1 && reroute_next(s) == 2);
+    DONE(reroute_commit(s));
+    costs(s, 1, 100000);
+}
+
+static void transactions(reroute_session *s) {
+    REFUSES(reroute_commit(s), REROUTE_NO_TRANSACTION, 0);
+    REFUSES(reroute_abort(s), REROUTE_NO_TRANSACTION, 0);
+    REFUSES(reroute_undo(s), REROUTE_NOTHING_TO_UNDO, 0);
+    REFUSES(reroute_redo(s), REROUTE_NOTHING_TO_REDO, 0);
+    DONE(reroute_begin(s));
+    REFUSES(reroute_begin(s), REROUTE_ALREADY_OPEN, 0);
+    REFUSES(reroute_move_box(s, 1, 0, 0), REROUTE_NO_TRANSACTION, 0);
+    DONE(reroute_begin(s));
+    REFUSES(reroute_undo(s), REROUTE_ALREADY_OPEN, 0);
+    DONE(reroute_begin(s));
+    DONE(reroute_abort(s));
+}
+
+/* Each of these edits drops its transaction. */
+static void refusals(reroute_session *s) {
+    uint32_t number = 7;
+    reroute_directions none = { false, false, false, false };
+    DONE(reroute_begin(s));
+    REFUSES(reroute_move_box(s, 9, 0, 0), REROUTE_UNKNOWN_NODE, 9);
+    DONE(reroute_begin(s));
+    REFUSES(reroute_cut(s, 9), REROUTE_UNKNOWN_EDGE, 9);
+    DONE(reroute_begin(s));
+    REFUSES(reroute_add_box(s, 2, 0, 0, 20000, 20000), REROUTE_NODE_EXISTS, 2);
+    DONE(reroute_begin(s));
+    REFUSES(reroute_drop_box(s, 2), REROUTE_NODE_IN_USE, 1);
+    DONE(reroute_begin(s));
+    REFUSES(reroute_connect(s, 3, 0, 3, 0, &number), REROUTE_SAME_NODE, 3);
+    WANT(number == 7);
+    DONE(reroute_begin(s));
+    WANT(reroute_set_penalty(s, 0).code == REROUTE_OUT_OF_RANGE);
+    DONE(reroute_begin(s));
+    REFUSES(reroute_set_classes(s, 1, 5, 0), REROUTE_UNKNOWN_PIN_CLASS, 5);
+    DONE(reroute_begin(s));
+    REFUSES(reroute_drop_checkpoint(s, 1, 2), REROUTE_NO_SUCH_PLACE, 2);
+    DONE(reroute_begin(s));
+    REFUSES(reroute_add_pin(s, 1, 1, 0, 0, none), REROUTE_SYNTAX, 0);
+    REFUSES(reroute_commit(s), REROUTE_NO_TRANSACTION, 0);
+}
+
+/* The line of a present scene; which of them changed is said once. */
+static void lines(reroute_session *s) {
+    size_t count = 0;
+    reroute_point corners[9];
+    reroute_line_info line;
+    DONE(reroute_lines(s, &count));
+    line = reroute_line(s, 0);
+    WANT(count == 1 && line.connector == 1 && line.corners == 2 && line.changed);
+    WANT(reroute_corners(s, 0, corners, 9) == 2 && reroute_corners(s, 1, corners, 9) == 0);
+    WANT(corners[0].x == 0 && corners[0].y == 0 && corners[1].x == 100000 && corners[1].y == 0);
+    DONE(reroute_lines(s, &count));
+    line = reroute_line(s, 0);
+    WANT(count == 1 && line.connector == 1 && !line.changed);
+    WANT(reroute_line(s, 1).connector == 0);
+}
+
+static void move_and_undo(reroute_session *s) {
+    DONE(reroute_begin(s));
+    DONE(reroute_move_box(s, 3, 50000, 0));
+    costs(s, 1, 100000);
+    DONE(reroute_commit(s));
+    costs(s, 1, 248000);
+    WANT(reroute_searched(s) == 2);
+    DONE(reroute_undo(s));
+    costs(s, 1, 100000);
+    DONE(reroute_redo(s));
+    costs(s, 1, 248000);
+    DONE(reroute_undo(s));
+    WANT(reroute_searched(s) == 2);
+}
+
+static void pins_and_checkpoints(reroute_session *s) {
+    reroute_directions east = { true, false, false, false };
+    DONE(reroute_begin(s));
+    DONE(reroute_add_pin(s, 1, 1, 10000, 0, east));
+    DONE(reroute_set_classes(s, 1, 1, 0));
+    DONE(reroute_commit(s));
+    costs(s, 1, 90000);
+    DONE(reroute_begin(s));
+    REFUSES(reroute_drop_pin(s, 1, 1), REROUTE_PIN_IN_USE, 1);
+    DONE(reroute_begin(s));
+    DONE(reroute_set_classes(s, 1, 0, 0));
+    DONE(reroute_drop_pin(s, 1, 1));
+    DONE(reroute_add_checkpoint(s, 1, 1, 50000, 30000));
+    DONE(reroute_commit(s));
+    costs(s, 1, 260000);
+    DONE(reroute_begin(s));
+    DONE(reroute_drop_checkpoint(s, 1, 1));
+    DONE(reroute_set_penalty(s, 60000));
+    DONE(reroute_set_buffer(s, 5000));
+    DONE(reroute_set_nudge(s, 5000));
+    DONE(reroute_move_box(s, 3, 50000, 0));
+    DONE(reroute_commit(s));
+    costs(s, 1, 270000);
+}
+
+static void cut(reroute_session *s) {
+    uint64_t cost = 7;
+    size_t count = 7;
+    DONE(reroute_begin(s));
+    DONE(reroute_cut(s, 1));
+    DONE(reroute_drop_box(s, 1));
+    DONE(reroute_commit(s));
+    WANT(!reroute_cost(s, 1, &cost) && cost == 7);
+    DONE(reroute_lines(s, &count));
+    WANT(count == 0);
+}
+
+int main(void) {
+    reroute_session session = { malloc(reroute_size()) };
+    WANT(session.held && reroute_version() == REROUTE_VERSION);
+    reroute_ready(session.held);
+    closed(&session);
+    DONE(reroute_open(&session));
+    REFUSES(reroute_open(&session), REROUTE_ALREADY_OPEN, 0);
+    transactions(&session);
+    draw(&session);
+    lines(&session);
+    refusals(&session);
+    move_and_undo(&session);
+    pins_and_checkpoints(&session);
+    cut(&session);
+    reroute_close(&session);
+    closed(&session);
+    reroute_close(&session);
+    free(session.held);
+    puts("ok");
+    return 0;
+}
