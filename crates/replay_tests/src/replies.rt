@@ -120,7 +120,9 @@ fn replayed(
     let mut scene = Scene::new(alloc);
     assert!(rt; fill(&mut scene).is_ok());
     let Replayed {
-        session, replies, ..
+        session,
+        replies,
+        ..
     } = replay(rt, alloc, scene, commands, workers, &OpenGate)?;
     let is_open = session.is_open();
     let tally = session.into_tally();

@@ -143,12 +143,7 @@ fn bound_at(problem: &Problem<'_>, row: Bounded) -> Option<u64>
 }
 
 /// The same for a task and its graph.
-fn bound_in(
-    alloc: Global,
-    graph: &Graph,
-    task: &Task,
-    row: Bounded,
-) -> Result<Option<u64>, Fail>
+fn bound_in(alloc: Global, graph: &Graph, task: &Task, row: Bounded) -> Result<Option<u64>, Fail>
     requires floor { IsFloor graph.now.floor }
     requires task { IsTask task.now }
     requires floor_of { IsFloorOf graph.now.floor task.now }
