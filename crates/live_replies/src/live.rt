@@ -84,8 +84,7 @@ impl Live {
         ensures world { IfOk result (λ l. l.session.world ≡ opened scene) }
         ensures told { IfOk result (λ l. l.told ≡ []) }
     {
-        // That the scene is valid is known from here.
-        let _settings = scene.settings();
+        scene.valid();
         let session = Session::open(rt, alloc, scene, workers, gate)?;
         Ok(Live {
             alloc,

@@ -7,4 +7,4 @@ use Rattle.live_replies.proofs.live.Live.open.Goals as goal
 
 pub invariant_of-result : goal.invariant_of-result
 invariant_of-result g c =
-    opened_from (tree c.args.doc) c.args.scene c.new.result.world (ap (λ (s : State). s.world) c.new.ensures ∙ c.in_ok-session.ensures.world) c.requires.source c.requires.printable c.settings-settings.ensures.valid
+    opened_from (tree c.args.doc) c.args.scene c.new.result.world (ap (λ (s : State). s.world) c.new.ensures ∙ c.in_ok-session.ensures.world) c.requires.source c.requires.printable c.valid.ensures
