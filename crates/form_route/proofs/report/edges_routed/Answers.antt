@@ -22,5 +22,7 @@ pub returns : goal.returns
 returns c =
     let f : Edge → EdgeRouted = λ d. record { edge = d.number; routed = routed_by c.args.book.now d } in
     let read = c.edges-edge-items in
-    let kept : c.loop-edge.edges.items ≡ map f (take c.loop-edge.edge-index read.result.now) = c.loop-edge.invariant in
-    kept ∙ ap (map f) (all_items read.result.now c.args.scene.now.edges c.loop-edge.edge-index read.ensures.value c.loop-edge-test.false)
+    let k = c.loop-edge.edge-index in
+    let kept : c.loop-edge.edges.items ≡ map f (take k read.result.now) = c.loop-edge.invariant in
+    kept ∙ ap (λ (es : List Edge). map f (take k es)) read.ensures.value ∙
+    ap (map f) (all_items read.result.now c.args.scene.now.edges k read.ensures.value c.loop-edge-test.false)
