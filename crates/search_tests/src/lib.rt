@@ -20,6 +20,8 @@ mod stretches;
 #[cfg(test)]
 mod ties;
 #[cfg(test)]
+mod touches;
+#[cfg(test)]
 mod verdicts;
 #[cfg(test)]
 mod walks;
