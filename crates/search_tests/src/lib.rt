@@ -10,6 +10,8 @@ mod found;
 #[cfg(test)]
 mod labels;
 #[cfg(test)]
+mod lists;
+#[cfg(test)]
 mod pieces;
 #[cfg(test)]
 mod scenes;
