@@ -1,0 +1,13 @@
+//! What a search for a first walk keeps of the lines: where walks leave them, and what is ahead
+//! there.
+//!
+//! Lengths and costs are in thousandths of a GML unit.
+#![tactic(auto)]
+
+mod exit;
+mod queue;
+mod rows;
+
+pub use exit::{Exit, Kept, reach};
+pub use queue::{Candidate, Exits};
+pub use rows::Rows;
