@@ -20,8 +20,8 @@ use walk_model::Task;
 
 /// A crossing with its number, and a number that is greater than all numbers.
 #[derive(Clone, Copy)]
-struct Numbered {
-    crossing: CrossId,
+pub struct Numbered {
+    pub crossing: CrossId,
     number: usize,
     places: usize,
 }
@@ -40,7 +40,7 @@ fn crossing_in(arena: &LineArena, at: Point) -> Result<Numbered, Fail>
 }
 
 /// The one crossing of a graph with one anchor.
-fn crossed(alloc: Global) -> Result<Numbered, Fail>
+pub fn crossed(alloc: Global) -> Result<Numbered, Fail>
     ensures number { IfOk result (λ n. n.number ≡ n.crossing) }
     ensures within { IfOk result (λ n. n.number < n.places) }
 {

@@ -4,6 +4,8 @@
 #[cfg(test)]
 mod choices;
 #[cfg(test)]
+mod exits;
+#[cfg(test)]
 mod floors;
 #[cfg(test)]
 mod found;
