@@ -19,11 +19,12 @@ use std::test::Fail;
 struct Row(i8, i8, Option<Dir>, u8, u8);
 
 /// The exits of the line.
-const KEPT: [Row; 4] = [
+const KEPT: [Row; 5] = [
     Row(-100, 50, Some(Dir::South), 10, 1),
     Row(0, 20, None, 100, 1),
     Row(20, 90, Some(Dir::North), 0, 1),
     Row(-100, 50, Some(Dir::North), 10, 2),
+    Row(95, 110, None, 30, 1),
 ];
 
 /// The exit of the row.
@@ -103,17 +104,21 @@ fn the_least_that_is_ahead(rt: HostRuntime) -> Result<(), Fail> {
     assert_eq!(rt; least(&rows, 50), Some((40, 1)));
     assert_eq!(rt; least(&rows, 89), Some((1, 1)));
     assert_eq!(rt; least(&rows, 90), None);
+    assert_eq!(rt; least(&rows, 95), Some((45, 1)));
     rows.clear();
     assert_eq!(rt; least(&rows, 10), None);
     Ok(())
 }
 
 /// Exits that are judged, with whether they are late, and where they stop.
-const JUDGED: [(Row, bool, i64); 9] = [
+const JUDGED: [(Row, bool, i64); 11] = [
     // As much ahead as by the exit at 50, and both go on alike; they do not; one run more.
     (Row(0, 40, Some(Dir::South), 20, 1), true, 0),
     (Row(0, 40, None, 20, 1), false, 0),
     (Row(0, 40, None, 20, 2), true, 0),
+    // The same beside the one at 110, behind which a walk ends or turns back.
+    (Row(95, 100, None, 40, 1), true, 95),
+    (Row(95, 100, Some(Dir::South), 40, 1), false, 95),
     // Less ahead, and more.
     (Row(0, 40, Some(Dir::South), 19, 1), false, 0),
     (Row(0, 40, None, 21, 1), true, 0),
