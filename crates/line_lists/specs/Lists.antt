@@ -52,8 +52,8 @@ LeadsAcross a lists way s = (pair : Pair) → get a.crossings s.crossing ≡ Som
 
 -- the lists are those of the arena: each line has one number and its stops, and each crossing has the numbers of its lines
 pub record AreListsOf (a : Arena) (lists : Lists) : Type 0 where
-  pub of_number : (n : ℕ) (line : Line) → slice_get lists.lines n ≡ Some line → (id : ℕ) × (get a.lines id ≡ Some line)
-  pub of_line : (id : ℕ) (line : Line) → get a.lines id ≡ Some line → (n : ℕ) × (slice_get lists.lines n ≡ Some line)
+  pub of_number : (n : ℕ) (line : Line) → slice_get lists.lines n ≡ Some line → ∥ ((id : ℕ) × (get a.lines id ≡ Some line)) ∥₁
+  pub of_line : (id : ℕ) (line : Line) → get a.lines id ≡ Some line → ∥ ((n : ℕ) × (slice_get lists.lines n ≡ Some line)) ∥₁
   pub once : (n m : ℕ) (line : Line) → slice_get lists.lines n ≡ Some line → slice_get lists.lines m ≡ Some line → n ≡ m
   pub stops : (id n : ℕ) (line : Line) → IsNumbered a lists id n line → AreStopsOf a id line (stops_of lists n)
   pub across : (id n : ℕ) (line : Line) → IsNumbered a lists id n line → All (LeadsAcross a lists line.way) (stops_of lists n)
