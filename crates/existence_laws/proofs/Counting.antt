@@ -37,7 +37,7 @@ contains_below part (suc n) i x l has = elim (cases_lt i n) as (λ _. Contains (
 ]
 
 -- how many elements have a decided property
-tally : {P : Type 0} → Decided P → ℕ
+unfoldable pub tally : {P : Type 0} → Decided P → ℕ
 tally (holds p) = 1
 tally (fails n) = 0
 
@@ -46,7 +46,7 @@ unfolding tally
 tally_most (holds p) = omega arith
 tally_most (fails n) = omega arith
 
-tally_grows : {P Q : Type 0} (d : Decided P) (e : Decided Q) → (P → Q) → tally d ≤ tally e
+pub tally_grows : {P Q : Type 0} (d : Decided P) (e : Decided Q) → (P → Q) → tally d ≤ tally e
 unfolding tally
 tally_grows (holds p) (holds q) f = omega arith
 tally_grows (holds p) (fails n) f = absurd (n (f p))

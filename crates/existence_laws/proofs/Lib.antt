@@ -13,3 +13,9 @@ pub mod Audits
 pub mod Counting
 pub mod Reaching
 pub mod Labelling
+pub mod Flows
+pub mod Links
+pub mod Pulled
+pub mod Classes
+pub mod Multipliers
+pub mod Solved

@@ -2,3 +2,4 @@
 pub mod Answers
 pub mod Readings
 pub mod Audits
+pub mod Solutions

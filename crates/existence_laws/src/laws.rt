@@ -2,6 +2,7 @@
 ghost use Rattle.existence_laws.specs.Answers.{HaveAnswers, HaveStaleLists, HaveVerdicts, TasksHaveAnswers};
 ghost use Rattle.existence_laws.specs.Audits.{HaveLeastProofs, ScenesAreAudited};
 ghost use Rattle.existence_laws.specs.Readings.{HaveProofReadings, HaveReadings};
+ghost use Rattle.existence_laws.specs.Solutions.{HaveSolutions};
 
 /// Each task on a floor within the limits has an answer: the route of a first walk, or that no walk
 /// is legal.
@@ -42,4 +43,10 @@ pub fn some_audit()
 /// Each connector of a valid scene has a least proof.
 pub fn some_least_proofs()
     ensures { HaveLeastProofs }
+{}
+
+/// Each bundle that calls accept has a solution: least positions for its widest gap, with
+/// multipliers that show it.
+pub fn some_solution()
+    ensures { HaveSolutions }
 {}
