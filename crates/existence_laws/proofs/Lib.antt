@@ -1,21 +1,8 @@
 -- The lemmas on what exists, callees first.
-pub mod Decided
-pub mod Alike
-pub mod Lines
-pub mod Walks
-pub mod Answered
-pub mod Stale
-pub mod Verdicts
+pub mod Deciding
+pub mod Walking
+pub mod Answering
+pub mod Auditing
+pub mod LeastLabels
 pub mod Readings
-pub mod Floors
-pub mod Places
-pub mod Audits
-pub mod Counting
-pub mod Reaching
-pub mod Labelling
-pub mod Flows
-pub mod Links
-pub mod Pulled
-pub mod Classes
-pub mod Multipliers
-pub mod Solved
+pub mod Solving

@@ -12,7 +12,7 @@ use Rattle.proof_text.specs.Lines.{IsOneLine, newline}
 use Rattle.proof_text.specs.Reading.{BeginsWith, GoesOn, IsStuck, State as Lines, after_line, bad_line, no_line, proofs_of}
 use Rattle.proof_text.proofs.Parting as parting
 use Rattle.existence_laws.specs.Readings.{HaveProofReadings, HaveReadings, IsRead}
-use Rattle.existence_laws.proofs.Decided.{Decided, holds, fails, same_nat}
+use Rattle.existence_laws.proofs.Deciding.Decided.{Decided, holds, fails, same_nat}
 
 -- ---- trees
 

@@ -1,14 +1,5 @@
 -- The lemmas on paths that routes share, callees first.
 pub mod Counting
-pub mod Stretches
-pub mod Orders
-pub mod Dirs
-pub mod Leads
-pub mod Keeps
-pub mod Steps
-pub mod Sides
-pub mod Ahead
-pub mod Begins
-pub mod Starting
-pub mod OneList
-pub mod Gathered
+pub mod Rays
+pub mod AlongPaths
+pub mod AllPaths

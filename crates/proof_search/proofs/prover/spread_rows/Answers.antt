@@ -7,7 +7,7 @@ use Rattle.proof_search.specs.Provers.{AreLeastOn}
 use Rattle.proof_search.specs.Rows.{rows_upto}
 use Rattle.proof_search.specs.Scopes.{claim_of}
 use Rattle.proof_search.specs.Spots.{AreSpots}
-use Rattle.proof_search.proofs.LeastRows.{least_rows, ok_is}
+use Rattle.proof_search.proofs.RowsInOrder.LeastRows.{least_rows, ok_is}
 use Rattle.proof_search.proofs.prover.spread_rows.Goals as goal
 
 pub returns-clause-least : goal.returns-clause-least

@@ -9,7 +9,7 @@ use Rattle.scene_model.specs.Scene.{connectors}
 use Rattle.scene_model.specs.declared.edge.Edge.{Edge}
 use Rattle.scene_store.proofs.Tasks.{is_connector}
 use Rattle.proof_search.specs.Provers.{IsLeastFor}
-use Rattle.proof_search.proofs.Connectors.{is_problem, least_proof}
+use Rattle.proof_search.proofs.WholeScenes.Connectors.{is_problem, least_proof}
 use Rattle.proof_search.proofs.scene.proof_of.Goals as goal
 use Rattle.proof_search.proofs.scene.proof_of.Goals.{In_ok-task}
 

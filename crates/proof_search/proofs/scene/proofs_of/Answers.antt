@@ -6,7 +6,7 @@ use Rattle.scene_model.specs.declared.edge.Edge.{Edge}
 use Rattle.scene_store.proofs.Items.{all_items, item_at}
 use Rattle.proof_model.specs.LeastLabels.{IsLeastProof}
 use Rattle.proof_search.specs.declared.prover.Prover.{Prover}
-use Rattle.proof_search.proofs.Connectors.{IsProvedUpto, at_place, connects, edge_found, zipped_more, zipped_past}
+use Rattle.proof_search.proofs.WholeScenes.Connectors.{IsProvedUpto, at_place, connects, edge_found, zipped_more, zipped_past}
 use Rattle.proof_search.proofs.scene.proofs_of.Goals as goal
 use Rattle.proof_search.proofs.scene.proofs_of.Goals.{then-edge+in_ok-proof+in_ok-push, else-edge}
 

@@ -1,5 +1,5 @@
 -- The connectors so far have one proof each.
-use Rattle.proof_search.proofs.Connectors.{IsProvedUpto}
+use Rattle.proof_search.proofs.WholeScenes.Connectors.{IsProvedUpto}
 use Rattle.proof_search.proofs.scene.proofs_of.Given as goal
 
 abbrev pub invariant-loop-edge : goal.invariant-loop-edge

@@ -3,8 +3,8 @@ use Rattle.std.proofs.Common.{subst}
 use Rattle.plane_geom.specs.declared.floor.Floor.{Floor}
 use Rattle.line_arena.specs.Stands.{StandsFor}
 use Rattle.scene_model.specs.Routing.{floor_of}
-use Rattle.proof_search.proofs.Connectors.{all_prove}
-use Rattle.proof_search.proofs.Writable.{proofs_writable}
+use Rattle.proof_search.proofs.WholeScenes.Connectors.{all_prove}
+use Rattle.proof_search.proofs.WholeScenes.Writable.{proofs_writable}
 use Rattle.proof_search.proofs.scene.prove.Goals as goal
 use Rattle.proof_search.proofs.scene.prove.Goals.{After-laws}
 

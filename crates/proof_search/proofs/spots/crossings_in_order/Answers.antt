@@ -3,7 +3,7 @@ use Rattle.std.proofs.Common.{◌+◌, take, refl, sym, subst}
 use Rattle.std.proofs.lemmas.Bool.{false≢true}
 use Rattle.std.proofs.lemmas.List.{take_all}
 use Rattle.proof_search.specs.Spots.{AreOfLines}
-use Rattle.proof_search.proofs.Lines.{all_spots, line_is, no_spots, spots_before, spots_more, spots_past}
+use Rattle.proof_search.proofs.RowsInOrder.Lines.{all_spots, line_is, no_spots, spots_before, spots_more, spots_past}
 use Rattle.proof_search.proofs.spots.crossings_in_order.Goals as goal
 use Rattle.proof_search.proofs.spots.crossings_in_order.Goals.{then-is_horizontal+in_ok-push_line, else-is_horizontal}
 

@@ -1,7 +1,7 @@
 -- Crossing by crossing, from the first one on the line to the east.
 use Rattle.std.proofs.Common.{◌<◌, ◌++◌, ◌∷◌, [], List, Option, Some, sym, subst, inl}
 use Rattle.proof_search.specs.declared.spots.Spot.{Spot}
-use Rattle.proof_search.proofs.Listing.{IsRest, Listing, first_rest, left_on, less_left, more, next_rest}
+use Rattle.proof_search.proofs.RowsInOrder.Listing.{IsRest, Listing, first_rest, left_on, less_left, more, next_rest}
 use Rattle.proof_search.proofs.spots.push_line.Goals as goal
 use Rattle.proof_search.proofs.spots.push_line.Goals.{In-Some, In_default, After-next_spot-next}
 

@@ -1,5 +1,5 @@
 -- The line is listed up to the next crossing, and less of it is left each time.
-use Rattle.proof_search.proofs.Listing.{Listing, left_on}
+use Rattle.proof_search.proofs.RowsInOrder.Listing.{Listing, left_on}
 use Rattle.proof_search.proofs.spots.push_line.Given as goal
 
 abbrev pub invariant-loop-next : goal.invariant-loop-next

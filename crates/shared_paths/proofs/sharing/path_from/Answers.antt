@@ -7,8 +7,8 @@ use Rattle.shared_paths.specs.Paths.{end_at, side_of}
 use Rattle.shared_paths.specs.Listed.{no_route, path_of, route_at}
 use Rattle.shared_paths.specs.Starts.{paired_from, pair_of}
 use Rattle.shared_paths.specs.Views.{view}
-use Rattle.shared_paths.proofs.Begins.{along_routes, end_along, few_runs, is_paired, same_path}
-use Rattle.shared_paths.proofs.Stretches.{any_default}
+use Rattle.shared_paths.proofs.AlongPaths.Begins.{along_routes, end_along, few_runs, is_paired, same_path}
+use Rattle.shared_paths.proofs.AllPaths.Stretches.{any_default}
 use Rattle.shared_paths.proofs.sharing.path_from.Goals as goal
 
 pub run_number-requires : goal.run_number-requires

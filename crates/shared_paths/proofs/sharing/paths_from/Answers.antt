@@ -5,7 +5,7 @@ use Rattle.std.specs.Map.Iter.{deref}
 use Rattle.std.proofs.lemmas.List.{map-append}
 use Rattle.std.proofs.lemmas.Map.Iter.{iter_end}
 use Rattle.shared_paths.specs.Starts.{IsPathFrom}
-use Rattle.shared_paths.proofs.Gathered.{are_shared_paths, zip_push}
+use Rattle.shared_paths.proofs.AllPaths.Gathered.{are_shared_paths, zip_push}
 use Rattle.shared_paths.proofs.sharing.paths_from.Goals as goal
 
 pub loop-start-preserved : goal.loop-start-preserved

@@ -2,7 +2,7 @@
 use Rattle.std.proofs.Common.{All}
 use Rattle.std.proofs.lemmas.Result.{IfOk-weaker}
 use Rattle.shared_paths.specs.Listed.{AreSharedPaths, KeepsItsSide}
-use Rattle.shared_paths.proofs.Gathered.{all_keep}
+use Rattle.shared_paths.proofs.AllPaths.Gathered.{all_keep}
 use Rattle.shared_paths.proofs.sharing.shared.Goals as goal
 
 pub returns-clause-sides : goal.returns-clause-sides

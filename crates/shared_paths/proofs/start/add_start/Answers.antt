@@ -6,7 +6,7 @@ use Rattle.std.proofs.lemmas.Map.Views.{All-insert_key}
 use Rattle.shared_paths.specs.Listed.{route_at}
 use Rattle.shared_paths.specs.Pairs.{GoesOn}
 use Rattle.shared_paths.specs.Starts.{IsStart, pair_of, start_of}
-use Rattle.shared_paths.proofs.Starting.{begins_there, exact_start, in_inserted, start_cmp}
+use Rattle.shared_paths.proofs.AllPaths.Starting.{begins_there, exact_start, in_inserted, start_cmp}
 use Rattle.shared_paths.proofs.start.add_start.Goals as goal
 
 pub returns-in_ok-insert-clause-each : goal.returns-in_ok-insert-clause-each

@@ -2,8 +2,8 @@
 use Rattle.std.proofs.Common.{inl, inr, sym, ◌∙◌, suc, arith}
 use Rattle.std.specs.Prelude.{Contains}
 use Rattle.std.proofs.lemmas.Bool.{cases_lt, false≢true}
-use Rattle.shared_paths.proofs.Starting.{one_more, stop_here}
-use Rattle.shared_paths.proofs.Stretches.{any_stretch}
+use Rattle.shared_paths.proofs.AllPaths.Starting.{one_more, stop_here}
+use Rattle.shared_paths.proofs.AllPaths.Stretches.{any_stretch}
 use Rattle.shared_paths.proofs.start.add_starts.Goals as goal
 
 pub returns-then-not-reaches-clause-all : goal.returns-then-not-reaches-clause-all

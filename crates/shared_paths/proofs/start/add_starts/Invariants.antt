@@ -1,5 +1,5 @@
 -- The starts at the one stretch and those before this one are added.
-use Rattle.shared_paths.proofs.Starting.{AreAdded}
+use Rattle.shared_paths.proofs.AllPaths.Starting.{AreAdded}
 use Rattle.shared_paths.proofs.start.add_starts.Given as goal
 
 abbrev pub invariant-loop-other : goal.invariant-loop-other

@@ -5,7 +5,7 @@ use Rattle.std.proofs.lemmas.Result.{IfOk-weaker}
 use Rattle.shared_paths.specs.declared.start.Start.{Start}
 use Rattle.shared_paths.specs.Listed.{route_at}
 use Rattle.shared_paths.specs.Starts.{IsStart, stretch_of}
-use Rattle.shared_paths.proofs.Starting.{StartAtTwo, all_found}
+use Rattle.shared_paths.proofs.AllPaths.Starting.{StartAtTwo, all_found}
 use Rattle.shared_paths.proofs.start.starts.Goals as goal
 
 pub returns-clause-all : goal.returns-clause-all

@@ -1,6 +1,6 @@
 -- The stretches after one are in order with it, and its starts are found.
-use Rattle.shared_paths.proofs.Starting.{one_more_place, rest_in_order}
-use Rattle.shared_paths.proofs.Stretches.{any_stretch}
+use Rattle.shared_paths.proofs.AllPaths.Starting.{one_more_place, rest_in_order}
+use Rattle.shared_paths.proofs.AllPaths.Stretches.{any_stretch}
 use Rattle.shared_paths.proofs.start.starts_among.Goals as goal
 
 pub add_starts-requires-clause-order : goal.add_starts-requires-clause-order

@@ -7,7 +7,7 @@ use Rattle.shared_paths.specs.declared.path.EdgeRuns.{EdgeRuns}
 use Rattle.shared_paths.specs.declared.stretch.Stretch.{Stretch}
 use Rattle.shared_paths.specs.Listed.{no_route, route_at}
 use Rattle.shared_paths.specs.Starts.{as_stretch}
-use Rattle.shared_paths.proofs.Stretches.{any_default, is_stretch_of, one_more}
+use Rattle.shared_paths.proofs.AllPaths.Stretches.{any_default, is_stretch_of, one_more}
 use Rattle.shared_paths.proofs.stretch.add_stretches.Goals as goal
 
 -- what the generated proof reads past the end

@@ -4,7 +4,7 @@ use Rattle.std.specs.Prelude.{Contains}
 use Rattle.std.proofs.lemmas.List.Elements.{All-nil, All-same}
 use Rattle.shared_paths.specs.Listed.{route_at}
 use Rattle.shared_paths.specs.Starts.{IsStretch, stretch_of}
-use Rattle.shared_paths.proofs.Stretches.{below_or_at}
+use Rattle.shared_paths.proofs.AllPaths.Stretches.{below_or_at}
 use Rattle.shared_paths.proofs.stretch.all_stretches.Goals as goal
 
 pub loop-route-init : goal.loop-route-init

@@ -1,5 +1,5 @@
 -- The runs of the routes before this one are found.
-use Rattle.shared_paths.proofs.Stretches.{AreFound}
+use Rattle.shared_paths.proofs.AllPaths.Stretches.{AreFound}
 use Rattle.shared_paths.proofs.stretch.all_stretches.Given as goal
 
 abbrev pub invariant-loop-route : goal.invariant-loop-route

@@ -1,7 +1,7 @@
 -- A sort only moves stretches, and leaves them in order.
 use Rattle.std.proofs.lemmas.List.Sorted.{All-permutation, Contains-permutation}
 use Rattle.shared_paths.specs.Starts.{IsStretch, stretch_of}
-use Rattle.shared_paths.proofs.Stretches.{in_order}
+use Rattle.shared_paths.proofs.AllPaths.Stretches.{in_order}
 use Rattle.shared_paths.proofs.stretch.stretches.Goals as goal
 
 pub returns : goal.returns

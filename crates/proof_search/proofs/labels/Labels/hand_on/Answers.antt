@@ -4,7 +4,7 @@ use Rattle.line_arena.proofs.Arenas.ArenaLaws.{one_point}
 use Rattle.route_search.proofs.Moving.Directions.{directions}
 use Rattle.proof_search.specs.Scopes.{ComesBy}
 use Rattle.proof_search.specs.Search.{OnFloors, place_at}
-use Rattle.proof_search.proofs.Handing.{all_handed, handing_begins, handing_more}
+use Rattle.proof_search.proofs.Offers.Handing.{all_handed, handing_begins, handing_more}
 use Rattle.proof_search.proofs.labels.Labels.hand_on.Goals as goal
 
 pub loop-dir-init : goal.loop-dir-init

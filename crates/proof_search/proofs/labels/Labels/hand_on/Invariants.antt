@@ -1,5 +1,5 @@
 -- The moves in the directions so far were offered.
-use Rattle.proof_search.proofs.Handing.{Handing}
+use Rattle.proof_search.proofs.Offers.Handing.{Handing}
 use Rattle.proof_search.proofs.labels.Labels.hand_on.Given as goal
 
 abbrev pub invariant-loop-dir : goal.invariant-loop-dir

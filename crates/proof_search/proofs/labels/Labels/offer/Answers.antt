@@ -16,9 +16,9 @@ use Rattle.route_search.proofs.Offers.Queues.{All-only, push_has, push_keeps, pu
 use Rattle.proof_search.specs.Scopes.{claim_of, label_for}
 use Rattle.proof_search.specs.Search.{IsPlace, IsReachedAt, cost_at, cost_in, label_at, label_weight, row_weight}
 use Rattle.proof_search.specs.declared.labels.Labels.{Labels}
-use Rattle.proof_search.proofs.Offering.{opened, opened_spreads}
-use Rattle.proof_search.proofs.Scopes.{known_suffices, none_suffices, reached_by, small_label}
-use Rattle.proof_search.proofs.Weights.{lighter_label, lighter_rows}
+use Rattle.proof_search.proofs.Offers.Offering.{opened, opened_spreads}
+use Rattle.proof_search.proofs.Offers.Scopes.{known_suffices, none_suffices, reached_by, small_label}
+use Rattle.proof_search.proofs.Offers.Weights.{lighter_label, lighter_rows}
 use Rattle.proof_search.proofs.labels.Labels.offer.Goals as goal
 use Rattle.proof_search.proofs.labels.Labels.offer.Goals.{In_ok-put}
 

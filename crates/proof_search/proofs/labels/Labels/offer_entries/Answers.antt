@@ -5,8 +5,8 @@ use Rattle.std.proofs.lemmas.List.{take_all, take_more}
 use Rattle.std.proofs.lemmas.List.Elements.{All-push}
 use Rattle.search_labels.specs.declared.ends.Entry.{Entry}
 use Rattle.proof_search.specs.Search.{IsEntryOffered}
-use Rattle.proof_search.proofs.Entering.{entering}
-use Rattle.proof_search.proofs.Spreading.{entries_still}
+use Rattle.proof_search.proofs.Offers.Entering.{entering}
+use Rattle.proof_search.proofs.Searching.Spreading.{entries_still}
 use Rattle.proof_search.proofs.labels.Labels.offer_entries.Goals as goal
 
 pub offer-requires-clause-coming : goal.offer-requires-clause-coming

@@ -1,7 +1,7 @@
 -- The next place is offered what it costs to come there; where there is none, nothing is offered.
 use Rattle.std.proofs.Common.{ℕ, ◌+◌, ◌*◌, None, Some, refl, sym, subst}
 use Rattle.proof_search.specs.Search.{IsComing, IsOffered}
-use Rattle.proof_search.proofs.Handing.{moved}
+use Rattle.proof_search.proofs.Offers.Handing.{moved}
 use Rattle.proof_search.proofs.labels.Labels.offer_move.Goals as goal
 
 pub returns-in_default-clause-handed : goal.returns-in_default-clause-handed

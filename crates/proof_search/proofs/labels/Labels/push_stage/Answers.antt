@@ -2,7 +2,7 @@
 use Rattle.std.proofs.Common.{◌≡◌, ◌+◌, ◌++◌, take, sym, ap, ◌∙◌}
 use Rattle.std.proofs.lemmas.List.{take_all}
 use Rattle.proof_search.specs.Rows.{rows_in}
-use Rattle.proof_search.proofs.Written.{row_comes_in, row_left_out}
+use Rattle.proof_search.proofs.RowsInOrder.Written.{row_comes_in, row_left_out}
 use Rattle.proof_search.proofs.labels.Labels.push_stage.Goals as goal
 use Rattle.proof_search.proofs.labels.Labels.push_stage.Goals.{then-has_label+in_ok-push, else-has_label}
 

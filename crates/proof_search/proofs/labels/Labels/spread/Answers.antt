@@ -1,7 +1,7 @@
 -- Candidate by candidate, until none is left.
 use Rattle.std.proofs.Common.{◌+◌, ◌≤◌, rules, arith}
 use Rattle.proof_search.specs.Search.{weight}
-use Rattle.proof_search.proofs.Spreading.{entries_still, lighter_queue, queue_falls, searching_begins, spread_at_end, taken_out, taken_place, with_queue}
+use Rattle.proof_search.proofs.Searching.Spreading.{entries_still, lighter_queue, queue_falls, searching_begins, spread_at_end, taken_out, taken_place, with_queue}
 use Rattle.proof_search.proofs.labels.Labels.spread.Goals as goal
 
 pub offer_entries-requires-clause-searching : goal.offer_entries-requires-clause-searching

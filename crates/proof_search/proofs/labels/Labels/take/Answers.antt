@@ -3,9 +3,9 @@ use Rattle.std.proofs.Common.{◌≡◌, None, Some, refl, sym, ap, ◌∙◌, a
 use Rattle.search_labels.specs.declared.label.Label.TheVariants.{Open}
 use Rattle.proof_search.specs.declared.labels.Labels.{Labels}
 use Rattle.proof_search.specs.Search.{IsReachedAt, IsSearching, cost_in, label_at}
-use Rattle.proof_search.proofs.Offering.{falls_both}
-use Rattle.proof_search.proofs.Scopes.{coming_by, small_label}
-use Rattle.proof_search.proofs.Taking.{closed_searching, closing_falls, handed_searching, none_open}
+use Rattle.proof_search.proofs.Offers.Offering.{falls_both}
+use Rattle.proof_search.proofs.Offers.Scopes.{coming_by, small_label}
+use Rattle.proof_search.proofs.Searching.Taking.{closed_searching, closing_falls, handed_searching, none_open}
 use Rattle.proof_search.proofs.labels.Labels.take.Goals as goal
 use Rattle.proof_search.proofs.labels.Labels.take.Goals.{In-Open, In_ok-put}
 

@@ -6,7 +6,7 @@ use Rattle.line_arena.specs.Arena.{Arena}
 use Rattle.proof_search.specs.Provers.{AreLeastOn}
 use Rattle.proof_search.specs.Scopes.{claim_of, most_of}
 use Rattle.proof_search.specs.declared.scope.Scope.{Scope}
-use Rattle.proof_search.proofs.LeastRows.{made_least, small_scope}
+use Rattle.proof_search.proofs.RowsInOrder.LeastRows.{made_least, small_scope}
 use Rattle.proof_search.proofs.prover.Prover.proof.Goals as goal
 
 pub rows-rows-requires-clause-small : goal.rows-rows-requires-clause-small

@@ -4,7 +4,7 @@ use Rattle.std.specs.Prelude.{IsTrue}
 use Rattle.std.proofs.lemmas.Bool.{false≢true}
 use Rattle.shared_paths.specs.Pairs.{GoesOn, IsPair, Pair, next_pair}
 use Rattle.shared_paths.specs.Views.{view}
-use Rattle.shared_paths.proofs.Ahead.{Reaches, ends, goes_ahead, one_more, reach_more}
+use Rattle.shared_paths.proofs.AlongPaths.Ahead.{Reaches, ends, goes_ahead, one_more, reach_more}
 use Rattle.shared_paths.proofs.pair.Routes.last.Goals as goal
 
 pub returns-then-not-goes_on-clause-path : goal.returns-then-not-goes_on-clause-path

@@ -2,7 +2,7 @@
 use Rattle.std.proofs.Common.{◌≡◌}
 use Rattle.shared_paths.specs.Pairs.{IsPair}
 use Rattle.shared_paths.specs.Views.{view}
-use Rattle.shared_paths.proofs.Ahead.{Reaches}
+use Rattle.shared_paths.proofs.AlongPaths.Ahead.{Reaches}
 use Rattle.shared_paths.proofs.pair.Routes.last.Given as goal
 
 abbrev pub invariant-loop-run : goal.invariant-loop-run

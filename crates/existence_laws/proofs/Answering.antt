@@ -1,0 +1,4 @@
+-- What there is for a scene's connectors: answers, stale connectors and verdicts.
+pub mod Answered
+pub mod Stale
+pub mod Verdicts

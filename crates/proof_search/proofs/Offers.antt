@@ -1,0 +1,6 @@
+-- Offers: what a label says of a walk, and what an offer does to the labels.
+pub mod Scopes
+pub mod Weights
+pub mod Offering
+pub mod Handing
+pub mod Entering
