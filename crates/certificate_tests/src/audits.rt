@@ -1,28 +1,9 @@
 //! Audits of the least labels of small scenes, and of certificates with one fault.
-ghost use Rattle.std.specs.Prelude.{◌≡◌, IfOk};
-ghost use Rattle.scene_model.specs.Routing.{floor_of};
-
+use crate::scenes::{Corner, Place, Plan, SOURCE, TARGET, fill, graph_of};
 use plane_geom::{Point, Points};
 use route_audit::{AuditFault, Claim, LabelRow, Proof, Rows, audit};
-use scene_store::{Edge, Scene, SceneFault, Via};
+use scene_store::Scene;
 use std::alloc::{AllocError, Global};
-use visibility_graph::Graph;
-
-/// A node by its id, its centre and its whole sizes.
-#[derive(Clone, Copy)]
-struct Place(i64, i64, i64, i64, i64);
-
-/// A point.
-#[derive(Clone, Copy)]
-struct Corner(i64, i64);
-
-/// The nodes of a scene, its edges by their ends, and a checkpoint of edge 1.
-#[derive(Clone, Copy)]
-struct Plan {
-    places: &'static [Place],
-    edges: &'static [(i64, i64)],
-    via: &'static [Corner],
-}
 
 /// A label, if there is one.
 type Label = Option<u64>;
@@ -66,10 +47,6 @@ struct Case {
     change: Change,
     no: Option<(u32, u32)>,
 }
-
-const SOURCE: Place = Place(1, 0, 0, 20_000, 20_000);
-
-const TARGET: Place = Place(2, 100_000, 0, 20_000, 20_000);
 
 const STRAIGHT: Plan = Plan {
     places: &[SOURCE, TARGET],
@@ -622,38 +599,6 @@ const CASES: [Case; 45] = [
     },
 ];
 
-/// Puts in an edge with the next number, which may be a loop.
-fn load_edge(alloc: Global, scene: &mut Scene, from: i64, to: i64) -> Result<(), SceneFault> {
-    let number = scene.next_edge();
-    if number == u32::MAX {
-        return Err(SceneFault::TooMany { limit: u32::MAX });
-    }
-    scene.load_edge(Edge {
-        number,
-        from,
-        to,
-        from_class: 0,
-        to_class: 0,
-        via: Via::new(alloc),
-        origin: None,
-        weight: 1,
-    })
-}
-
-/// Puts what the plan has into the scene.
-fn fill(alloc: Global, scene: &mut Scene, plan: Plan) -> Result<(), SceneFault> {
-    for Place(id, x, y, w, h) in plan.places {
-        scene.add_node(*id, *x, *y, *w, *h)?;
-    }
-    for (from, to) in plan.edges {
-        load_edge(alloc, scene, *from, *to)?;
-    }
-    for Corner(x, y) in plan.via {
-        scene.add_via(1, 1, *x, *y)?;
-    }
-    Ok(())
-}
-
 /// The row, for a cut with 0 for each label.
 fn label_row(row: Row, change: Change) -> LabelRow {
     let Row(stage, x, y, east, south, west, north) = row;
@@ -738,14 +683,6 @@ fn put_proofs(alloc: Global, proofs: &mut Vec<Proof>, case: Case) -> Result<(), 
         proofs.push(proof(alloc, *given, change)?)?;
     }
     Ok(())
-}
-
-/// The graph of the scene.
-fn graph_of(alloc: Global, scene: &Scene) -> Result<Graph, AllocError>
-    ensures { IfOk result (λ g. g.floor ≡ floor_of scene.now) }
-{
-    let floor = scene.floor()?;
-    Graph::build(alloc, &floor)
 }
 
 /// What an audit of the proofs answers.

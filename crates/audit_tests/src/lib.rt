@@ -1,5 +1,0 @@
-//! Tests of certificates: their rows, asked through public calls alone.
-#![tactic(auto)]
-
-#[cfg(test)]
-mod audits;
