@@ -31,7 +31,7 @@ after_from tree c w directed h = record {
   edges = after_keeps (AreEdgesOf h.was) (edges_kept h.was) c w directed h.edges;
 }
 
--- a world that gives up its transaction
+-- a world that rolls back its transaction
 pub given_up_from : (tree : Pairs) (w v : World) → v ≡ given_up w → IsFromDiagram tree w → IsFromDiagram tree v
 given_up_from tree w v is h = subst (IsFromDiagram tree) (sym is) (after_from tree Bad w tt h)
 

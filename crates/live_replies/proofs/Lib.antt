@@ -3,6 +3,6 @@ pub mod ChangeTexts
 pub mod Clients
 pub mod Diagrams
 pub mod Kept
-pub mod OpenEdits
 pub mod Previews
 pub mod Turns
+pub mod Working

@@ -14,7 +14,7 @@ use Rattle.live_replies.specs.Changes.{changes, changes_text}
 use Rattle.live_replies.specs.Live.{LiveState}
 use Rattle.live_replies.specs.Previews.{PreviewsAreCommits}
 use Rattle.live_replies.specs.Texts.{ok_line}
-use Rattle.live_replies.proofs.OpenEdits.{led_to}
+use Rattle.live_replies.proofs.Working.{led_to}
 
 module _ (one_answers : HaveOneList) (one_nudged : HaveOneNudged) where
   -- a valid scene has one list of lines

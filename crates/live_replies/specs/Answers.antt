@@ -123,7 +123,7 @@ Answers Gml old new said = TellsDiagram old new said ⊎ AnswersNoMemory old new
 Answers Next old new said = TellsNext old new said ⊎ AnswersNoMemory old new said
 Answers Quit old new said = (new ≡ old) × (said ≡ ok_line)
 
--- the reply to a line that was read so: one that is too long, and one that finds no memory, gives up the transaction
+-- the reply to a line that was read so: one that is too long, and one that finds no memory, rolls back the transaction
 abbrev pub AnswersRead : LineRead → List ℕ → LiveState → LiveState → List ℕ → Type 0
 AnswersRead Whole line old new said = Answers (request_of line) old new said ⊎ (GivesUp old new × (said ≡ no_memory_line))
 AnswersRead TooLong line old new said = GivesUp old new × (said ≡ too_long_line)

@@ -5,7 +5,6 @@ pub mod Requests
 pub mod Said
 pub mod Live
 pub mod Answers
-pub mod Edited
 pub mod Previews
 pub mod Client
 pub mod Serves

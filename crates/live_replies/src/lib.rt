@@ -1,8 +1,8 @@
 //! The engine of a session beside an editor: the reply to each line that the editor writes, and the loop that serves.
 #![tactic(auto)]
 
+mod calls;
 mod change;
-mod editing;
 mod laws;
 mod line;
 mod live;

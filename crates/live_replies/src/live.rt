@@ -1,5 +1,5 @@
 //! A session beside an editor: its diagram, its scenes, and the lines that the client was told.
-ghost use Rattle.std.specs.Prelude.{◌≡◌, ◌≢◌, ◌⊎◌, ◌≤◌, ◌++◌, ℕ, List, [], IfErr, IfOk, IsSome, OnErr, OnOk, Ok};
+ghost use Rattle.std.specs.Prelude.{◌≡◌, ◌≢◌, ◌⊎◌, ◌≤◌, ◌++◌, ℕ, List, [], IfErr, IfOk, OnErr, OnOk, Ok, Some};
 ghost use Rattle.gml_text.specs.Printed.{IsPrintable};
 ghost use Rattle.gml_text.specs.View.{tree};
 ghost use Rattle.diagram_read.specs.Scene.{scene_of};
@@ -16,7 +16,7 @@ ghost use Rattle.live_replies.specs.Texts.{drawn_texts, gml_text, next_text, no_
 ghost use Rattle.live_replies.specs.declared.request.Request.TheVariants as requests;
 ghost use Rattle.host_edge.specs.declared.line_source.LineRead.TheVariants as reads;
 
-use crate::editing::Editing;
+use crate::calls::{call, preview};
 use crate::reply::{Said, refused};
 use crate::request::{Request, is_quit, request_of};
 use crate::text::{changes_text, gml_text, lines_text, next_text};
@@ -41,7 +41,7 @@ use walk_model::WrittenRoute;
 pub struct Live {
     alloc: Global,
     doc: Doc,
-    session: Editing,
+    session: Session,
     told: Vec<WrittenRoute>,
 }
 
@@ -89,7 +89,7 @@ impl Live {
         Ok(Live {
             alloc,
             doc,
-            session: Editing::new(alloc, session),
+            session,
             told: Vec::new(alloc),
         })
     }
@@ -110,7 +110,7 @@ impl Live {
         ensures told { self.new.told ≡ self.old.told }
         ensures diagram { self.new.diagram ≡ self.old.diagram }
     {
-        self.session.call(rt, command, workers, gate)
+        call(rt, &mut self.session, command, workers, gate)
     }
 
     /// Drops the transaction if one is open.
@@ -124,9 +124,8 @@ impl Live {
     fn session_lines(&self) -> Result<Vec<WrittenRoute>, AllocError>
         ensures { IfOk result (λ lines. AreSessionLines self.now.session lines.items) }
     {
-        let session = self.session.session();
-        session.right();
-        let Nudged { routes, .. } = session.nudged()?;
+        self.session.right();
+        let Nudged { routes, .. } = self.session.nudged()?;
         Ok(routes)
     }
 
@@ -168,7 +167,7 @@ impl Live {
         }
     }
 
-    /// Does a command that has a form, and tells what came of it.
+    /// Does a command that has a form, and tells the result.
     fn do_command<R: Threads + Sync, G: Gate>(
         &mut self,
         rt: &R,
@@ -189,7 +188,7 @@ impl Live {
         }
     }
 
-    /// Tells that a line has no form, which gives up the transaction.
+    /// Tells that a line has no form, which rolls back the transaction.
     fn refuse_line(&mut self) -> Said
         ensures answer { AnswersCommand commands.Bad self.old self.new (said_bytes result) }
     {
@@ -197,19 +196,20 @@ impl Live {
         refused(self.alloc, &Refusal::Syntax)
     }
 
-    /// The text that tells what a commit of the open transaction would change.
+    /// The text that tells what a commit of the open transaction, whose working scene is given, would change.
     fn preview<R: Threads + Sync, G: Gate>(
         &self,
         rt: &R,
+        working: &Scene,
         workers: u32,
         gate: &G,
     ) -> Result<Vec<u8>, AllocError>
         requires some { 1 ≤ workers }
         requires few_workers { workers ≤ 4 }
-        requires transaction { IsSome self.now.session.world.working }
+        requires working { self.now.session.world.working ≡ Some working.now }
         ensures { IfOk result (λ text. TellsPreview self.now self.now text.items) }
     {
-        let lines = self.session.preview(rt, self.alloc, workers, gate)?;
+        let lines = preview(rt, self.alloc, &self.session, working, workers, gate)?;
         changes_text(self.alloc, &self.told, &lines)
     }
 
@@ -219,10 +219,9 @@ impl Live {
         requires few_workers { workers ≤ 4 }
         ensures { Answers requests.Preview self.now self.now (said_bytes result) }
     {
-        if self.session.session().is_open() {
-            Said::of(self.preview(rt, workers, gate))
-        } else {
-            refused(self.alloc, &Refusal::Command(SessionFault::NoTransaction))
+        match self.session.working() {
+            Some(working) => Said::of(self.preview(rt, working, workers, gate)),
+            None => refused(self.alloc, &Refusal::Command(SessionFault::NoTransaction)),
         }
     }
 
@@ -253,7 +252,7 @@ impl Live {
     fn diagram(&self) -> Result<Vec<u8>, AllocError>
         ensures { IfOk result (λ text. TellsDiagram self.now self.now text.items) }
     {
-        let diagram = printed_diagram(self.alloc, &self.doc, self.session.session())?;
+        let diagram = printed_diagram(self.alloc, &self.doc, &self.session)?;
         gml_text(self.alloc, &diagram)
     }
 
@@ -261,10 +260,10 @@ impl Live {
     fn next(&self) -> Result<Vec<u8>, AllocError>
         ensures { IfOk result (λ text. TellsNext self.now self.now text.items) }
     {
-        next_text(self.alloc, self.session.session().scene().next_edge())
+        next_text(self.alloc, self.session.scene().next_edge())
     }
 
-    /// Does what a request asks for, and tells what came of it.
+    /// Does what a request asks for, and tells the result.
     ///
     /// After a command that is refused no transaction is open. The other requests change no scene.
     fn answer<R: Threads + Sync, G: Gate>(
@@ -315,7 +314,7 @@ impl Live {
         }
     }
 
-    /// The reply to a line that is too long. It gives up the transaction.
+    /// The reply to a line that is too long. It rolls back the transaction.
     pub fn refuse_long_line(&mut self) -> Said
         ensures { (line : List ℕ) → AnswersRead reads.TooLong line self.old self.new (said_bytes result) }
     {
