@@ -1,5 +1,5 @@
 -- A scene has one certificate, and of given bytes an audit says one thing.
-use Rattle.std.proofs.Common.{◌≡◌, ℕ, Bool, List, [], ◌∷◌, Option, Some, None, Result, Ok, Err, refl, sym, ap, subst, ◌∙◌}
+use Rattle.std.proofs.Common.{◌≡◌, ℕ, Bool, List, [], ◌∷◌, Some, Result, Ok, Err, refl, sym, ap, subst, ◌∙◌}
 use Rattle.std.specs.Prelude.{true, false, OnOk}
 use Rattle.std.specs.List.{AllZip}
 use Rattle.std.proofs.lemmas.Bool.{false≢true}
@@ -25,7 +25,7 @@ use Rattle.route_audit.specs.declared.fault.AuditFault.TheVariants.{No, Memory}
 use Rattle.route_audit.specs.Audits.{IsAudited}
 use Rattle.form_certificate.specs.Proving.{HaveOneCertificate}
 use Rattle.form_certificate.specs.Auditing.{Audits, HasTrueClaims, HaveOneAudit, Says}
-use Rattle.form_certificate.specs.Auditing.Audits.{proves, fails, is_no_text}
+use Rattle.form_certificate.specs.Auditing.Audits.{proves, breaks_rule, is_no_text}
 
 -- ---- certificates
 
@@ -71,17 +71,17 @@ module _ (one_text : (bytes : List ℕ) (proofs others : List Proof) → IsText 
     (one_fault : (s : Scene) (proofs : List Proof) (d e q r : ℕ) → FailsFirst s (connectors s) proofs d q → FailsFirst s (connectors s) proofs e r → (d ≡ e) × (q ≡ r)) where
   pub one_audit : HaveOneAudit
   one_audit s bytes text other proved other_proved (proves ps a p e f) (proves qs b q g h) = record { same_text = e ∙ sym g; same_verdict = f ∙ sym h }
-  one_audit s bytes text other proved other_proved (proves ps a p e f) (fails qs edge rule b q g h) =
+  one_audit s bytes text other proved other_proved (proves ps a p e f) (breaks_rule qs edge rule b q g h) =
       absurd (never_both s qs edge rule (subst (ProveScene s) (one_text bytes ps qs a b) p) q)
   one_audit s bytes text other proved other_proved (proves ps a p e f) (is_no_text line b g h) = absurd (not_both bytes ps line a b)
-  one_audit s bytes text other proved other_proved (fails ps edge rule a p e f) (proves qs b q g h) =
+  one_audit s bytes text other proved other_proved (breaks_rule ps edge rule a p e f) (proves qs b q g h) =
       absurd (never_both s ps edge rule (subst (ProveScene s) (one_text bytes qs ps b a) q) p)
-  one_audit s bytes text other proved other_proved (fails ps edge rule a p e f) (fails qs last least b q g h) =
+  one_audit s bytes text other proved other_proved (breaks_rule ps edge rule a p e f) (breaks_rule qs last least b q g h) =
       let same = one_fault s qs edge last rule least (subst (λ (xs : List Proof). FailsFirst s (connectors s) xs edge rule) (one_text bytes ps qs a b) p) q in
       record { same_text = e ∙ (λ i. audit_rule_line (same.0 i) (same.1 i)) ∙ sym g; same_verdict = f ∙ sym h }
-  one_audit s bytes text other proved other_proved (fails ps edge rule a p e f) (is_no_text line b g h) = absurd (not_both bytes ps line a b)
+  one_audit s bytes text other proved other_proved (breaks_rule ps edge rule a p e f) (is_no_text line b g h) = absurd (not_both bytes ps line a b)
   one_audit s bytes text other proved other_proved (is_no_text line a e f) (proves qs b q g h) = absurd (not_both bytes qs line b a)
-  one_audit s bytes text other proved other_proved (is_no_text line a e f) (fails qs edge rule b q g h) = absurd (not_both bytes qs line b a)
+  one_audit s bytes text other proved other_proved (is_no_text line a e f) (breaks_rule qs edge rule b q g h) = absurd (not_both bytes qs line b a)
   one_audit s bytes text other proved other_proved (is_no_text line a e f) (is_no_text last b g h) =
       record { same_text = e ∙ ap audit_line_line (one_line bytes line last a b) ∙ sym g; same_verdict = f ∙ sym h }
 
@@ -90,7 +90,7 @@ module _ (one_text : (bytes : List ℕ) (proofs others : List Proof) → IsText 
 pub audit_said : (s : Scene) (bytes text : List ℕ) (proved : Bool) (proofs : List Proof) (r : Result (Unit {0}) AuditFault) → IsText bytes proofs → IsAudited s proofs r → Says r text proved
     → Audits s bytes text proved
 audit_said s bytes text proved proofs (Ok done) is audited said = proves proofs is audited said.0 said.1
-audit_said s bytes text proved proofs (Err (No edge rule)) is audited said = fails proofs edge rule is audited said.0 said.1
+audit_said s bytes text proved proofs (Err (No edge rule)) is audited said = breaks_rule proofs edge rule is audited said.0 said.1
 audit_said s bytes text proved proofs (Err Memory) is audited said = absurd said
 
 pub claims_said : (s : Scene) (bytes text : List ℕ) (proved : Bool) (proofs : List Proof) (r : Result (Unit {0}) AuditFault) → IsText bytes proofs

@@ -13,7 +13,7 @@ use Rattle.route_audit.specs.declared.fault.AuditFault.TheVariants.{No, Memory}
 -- the bytes are the text of proofs that prove the scene, or of which a rule fails first; or no text, with a first bad line
 pub data Audits (s : Scene) (bytes text : List ℕ) (proved : Bool) : Type 0 where
   proves : (proofs : List Proof) → IsText bytes proofs → ProveScene s proofs → text ≡ audit_yes_line → proved ≡ true → Audits s bytes text proved
-  fails : (proofs : List Proof) (edge rule : ℕ) → IsText bytes proofs → FailsFirst s (connectors s) proofs edge rule → text ≡ audit_rule_line edge rule
+  breaks_rule : (proofs : List Proof) (edge rule : ℕ) → IsText bytes proofs → FailsFirst s (connectors s) proofs edge rule → text ≡ audit_rule_line edge rule
       → proved ≡ false → Audits s bytes text proved
   is_no_text : (line : ℕ) → IsBadLine bytes line → text ≡ audit_line_line line → proved ≡ false → Audits s bytes text proved
 

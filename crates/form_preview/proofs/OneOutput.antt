@@ -7,7 +7,7 @@ use Rattle.scene_model.specs.Scene.{Scene}
 use Rattle.preview.specs.declared.answer.Previewed.{Previewed}
 use Rattle.preview.specs.declared.proposals.Proposal.{Proposal}
 use Rattle.preview.specs.Previews.{ArePreviews, HaveOnePreview}
-use Rattle.form_preview.specs.Blocks.{Blocks, proposals, refused, unfinished, blocks_of}
+use Rattle.form_preview.specs.Blocks.{Blocks, proposals, refused_at, unfinished, blocks_of}
 use Rattle.form_preview.specs.Proposes.{ComeToOne, IsSameOutput, ProposesBlocks, is_refusal, lines_from}
 
 module _ (one_preview : HaveOnePreview) (one_list : HaveOneList) where
@@ -31,7 +31,7 @@ module _ (one_preview : HaveOnePreview) (one_list : HaveOneList) where
         same_text = h.is_text ∙ ap (lines_from 1) previews ∙ sym k.is_text;
         same_verdict = h.refusal ∙ ap (list_any is_refusal) previews ∙ sym k.refusal;
       }
-  same_output s (refused line why) text other is_any_refused other_refused h k =
+  same_output s (refused_at line why) text other is_any_refused other_refused h k =
       record { same_text = h.0 ∙ sym k.0; same_verdict = h.1 ∙ sym k.1 }
   same_output s unfinished text other is_any_refused other_refused h k =
       record { same_text = h.0 ∙ sym k.0; same_verdict = h.1 ∙ sym k.1 }

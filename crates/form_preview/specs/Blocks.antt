@@ -17,7 +17,7 @@ pub record Read : Type 0 where
 -- a script has blocks alone, each a proposal; or the command on a line is refused; or the last block has no `commit`
 pub data Blocks : Type 0 where
   proposals : List Proposal → Blocks
-  refused : ℕ → Refusal → Blocks
+  refused_at : ℕ → Refusal → Blocks
   unfinished : Blocks
 
 -- the refusal of a 65th block
@@ -43,7 +43,7 @@ ended closed (Some edits) = unfinished
 -- the script goes on where the command on this line is not refused
 abbrev pub unless_refused : ℕ → (Read → Blocks) → Result Read Refusal → Blocks
 unless_refused line rest (Ok read) = rest read
-unless_refused line rest (Err why) = refused line why
+unless_refused line rest (Err why) = refused_at line why
 
 -- the blocks of the commands, each with its line, where this was read before them
 abbrev pub blocks_from : List (ℕ × Command) → Read → Blocks

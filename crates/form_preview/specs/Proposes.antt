@@ -13,7 +13,7 @@ use Rattle.preview.specs.declared.answer.Previewed.TheVariants.{Committed, Refus
 use Rattle.preview.specs.declared.proposals.Proposal.{Proposal}
 use Rattle.preview.specs.Previews.{ArePreviews}
 use Rattle.form_route.specs.Report.{edges_routed}
-use Rattle.form_preview.specs.Blocks.{Blocks, proposals, refused, unfinished, blocks_of}
+use Rattle.form_preview.specs.Blocks.{Blocks, proposals, refused_at, unfinished, blocks_of}
 
 -- the lines of the answer to the proposal with this number
 abbrev pub answer_lines : ℕ → Previewed → List ℕ
@@ -42,7 +42,7 @@ pub record Answers (s : Scene) (asked : List Proposal) (text : List ℕ) (is_any
 -- the output for these blocks, and whether something is refused; a refused line, or a block without `commit`, is the whole output
 abbrev pub ProposesBlocks : Scene → Blocks → List ℕ → Bool → Type 0
 ProposesBlocks s (proposals asked) text is_any_refused = Answers s asked text is_any_refused
-ProposesBlocks s (refused line why) text is_any_refused = (text ≡ reply_text false line (replies.Refused why)) × (is_any_refused ≡ true)
+ProposesBlocks s (refused_at line why) text is_any_refused = (text ≡ reply_text false line (replies.Refused why)) × (is_any_refused ≡ true)
 ProposesBlocks s unfinished text is_any_refused = (text ≡ end_line true) × (is_any_refused ≡ true)
 
 -- the output for the proposals of a script on the scene, and whether a proposal, a line or the end of the script is refused
@@ -52,7 +52,7 @@ Proposes s commands text is_any_refused = ProposesBlocks s (blocks_of commands) 
 -- how many connectors are searched for the scene itself, which is opened only where something is proposed
 abbrev pub opening_searches : Scene → Blocks → ℕ
 opening_searches s (proposals asked) = length (connectors s)
-opening_searches s (refused line why) = 0
+opening_searches s (refused_at line why) = 0
 opening_searches s unfinished = 0
 
 -- the law: the proposals of a script have at most one output, and one verdict

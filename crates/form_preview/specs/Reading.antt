@@ -5,7 +5,7 @@ use Rattle.report_text.specs.declared.refusal.Refusal.{Refusal}
 use Rattle.form_preview.specs.declared.blocks.Reader.{Reader}
 use Rattle.form_preview.specs.declared.blocks.Script.{Script}
 use Rattle.form_preview.specs.declared.blocks.Script.TheVariants.{Proposals, Refused, Unfinished}
-use Rattle.form_preview.specs.Blocks.{Blocks, Read, blocks_from, ended, proposals, read_on, refused, unfinished}
+use Rattle.form_preview.specs.Blocks.{Blocks, Read, blocks_from, ended, proposals, read_on, refused_at, unfinished}
 
 -- what a reader has read
 abbrev pub read_by : Reader → Read
@@ -19,10 +19,10 @@ ReadsOn command old new (Some why) = read_on command (read_by old).closed (read_
 -- the reader has read all commands, or the one on this line is refused
 abbrev pub ReadsAll : List (ℕ × Command) → Reader → Reader → Option (ℕ × Refusal) → Type 0
 ReadsAll commands old new None = blocks_from commands (read_by old) ≡ ended (read_by new).closed (read_by new).current
-ReadsAll commands old new (Some stop) = blocks_from commands (read_by old) ≡ refused stop.0 stop.1
+ReadsAll commands old new (Some stop) = blocks_from commands (read_by old) ≡ refused_at stop.0 stop.1
 
 -- the blocks that a script has
 abbrev pub blocks_in : Script → Blocks
 blocks_in (Proposals asked) = proposals asked.items
-blocks_in (Refused line why) = refused line why
+blocks_in (Refused line why) = refused_at line why
 blocks_in Unfinished = unfinished

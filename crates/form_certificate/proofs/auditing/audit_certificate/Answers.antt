@@ -1,7 +1,6 @@
 -- What is said of proofs that were read, and of bytes that are none.
 use Rattle.std.proofs.Common.{subst, sym}
 use Rattle.std.proofs.lemmas.Result.{IfOk-weaker}
-use Rattle.proof_text.specs.Fronts.{IsBadLine}
 use Rattle.proof_text.specs.Text.{IsText}
 use Rattle.form_certificate.specs.Auditing.Audits.{is_no_text}
 use Rattle.form_certificate.proofs.OneAnswer.{audit_said, claims_said}
