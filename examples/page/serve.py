@@ -56,7 +56,7 @@ class Live:
                 return lines
 
     def open(self, gml):
-        """Starts on these bytes, and answers the lines, or why they are no diagram."""
+        """Starts on these bytes, and answers the lines, or why they are not a diagram."""
         with tempfile.NamedTemporaryFile(suffix='.gml') as file:
             file.write(gml)
             file.flush()

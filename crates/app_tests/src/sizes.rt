@@ -25,7 +25,7 @@ const MOST: Sizes = Sizes {
     vias: 48,
 };
 
-/// One more of each, and the part that is told: the first of them in this order.
+/// One more of each, and the part that is reported: the first of them in this order.
 const REFUSED: [(Sizes, &str); 5] = [
     (Sizes { nodes: 49, ..MOST }, "diagram: TooMany node\n"),
     (Sizes { pins: 49, ..MOST }, "diagram: TooMany pin\n"),

@@ -196,7 +196,7 @@ fn proves_costs(rt: HostRuntime) -> Result<(), Fail> {
     Ok(())
 }
 
-/// Texts that are no certificate of the straight edge, and the answer of the audit.
+/// Texts that are not certificates of the straight edge, and the answer of the audit.
 const BAD_CERTIFICATES: [(&str, &str); 7] = [
     (CLAIM, "audit: no, edge 1 rule 4\n"),
     (

@@ -57,7 +57,7 @@ fn answer(alloc: Global, audited: Result<(), AuditFault>) -> Result<Audited, All
     }
 }
 
-/// What is said of a file that is no certificate.
+/// What is said of a file that is not a certificate.
 fn no_certificate(alloc: Global, line: u64) -> Result<Audited, AllocError>
     ensures { IfOk result (λ a. IsBad line a.text.items a.is_proved) }
 {

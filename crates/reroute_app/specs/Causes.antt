@@ -183,7 +183,7 @@ pub record FindsAudit (words : List (List ℕ)) (files : Option ToldFiles) (old 
   pub text : List ℕ
   pub audits : Audits scene bytes text proved
 
--- the file is no certificate, or does not prove the scene
+-- the file is not a certificate, or does not prove the scene
 abbrev pub FindsNoProof : List (List ℕ) → Option ToldFiles → List Note → List Note → Type 0
 FindsNoProof words files old new = FindsAudit words files old new false
 

@@ -22,7 +22,7 @@ pub enum Status {
     TooLong = 7,
     /// The line of an edge breaks a rule.
     BadLine = 8,
-    /// The file is no certificate, or it does not prove the scene.
+    /// The file is not a certificate, or it does not prove the scene.
     AuditNo = 9,
 }
 

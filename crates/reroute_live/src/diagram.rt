@@ -47,7 +47,7 @@ fn print_fault(rt: &HostRuntime, line: Vec<u8>) {
     }
 }
 
-/// Prints to standard error why the bytes are no document, and answers the exit status.
+/// Prints to standard error why the bytes are not valid GML, and answers the exit status.
 fn no_document(rt: &HostRuntime, alloc: Global, fault: &GmlFault) -> u8 {
     let mut text = Vec::new(alloc);
     if *fault == GmlFault::Memory || push_gml_fault_line(&mut text, fault).is_err() {
@@ -57,7 +57,7 @@ fn no_document(rt: &HostRuntime, alloc: Global, fault: &GmlFault) -> u8 {
     NO_DIAGRAM
 }
 
-/// Prints to standard error why the document is no diagram, and answers the exit status.
+/// Prints to standard error why the document is not a valid diagram, and answers the exit status.
 fn no_diagram(rt: &HostRuntime, alloc: Global, fault: &DiagramFault) -> u8 {
     let mut text = Vec::new(alloc);
     if *fault == DiagramFault::Memory || push_fault_line(&mut text, fault).is_err() {

@@ -54,7 +54,7 @@ module _ (floor : Floor) (task : Task) where
   Before : (Place → ℕ → Type 0) → Place → Type 0
   Before P x = (y : Place) × (cost : ℕ) × IsMove floor task y cost x × P y cost
 
-  -- the place from which so many steps lead to the place
+  -- the place from which n steps lead to the place
   abbrev behind : Place → ℕ → ℕ → Dir → Place
   behind x n stage h = stands stage (forward (opposite x.heading) n x.at) h
 
@@ -114,7 +114,7 @@ module _ (floor : Floor) (task : Task) where
       (some_in (λ c. Enters floor task c x.stage × (((x.at ≡ c.port) × (x.heading ≡ c.dir)) × (cost ≡ stub_length c + c.cost)))
       (λ c. both (enters_decided floor task c x.stage) (both (both (same_point x.at c.port) (same_dir x.heading c.dir)) (same_nat cost (stub_length c + c.cost)))) task.starts)
 
-  -- a walk of at most so many moves comes here at this cost
+  -- a walk of at most k moves comes here at this cost
   Within : ℕ → ℕ → Place → Type 0
   Within k cost x = (steps : List Step) × Comes floor task steps x cost × (length steps ≤ k)
 
@@ -152,7 +152,7 @@ module _ (floor : Floor) (task : Task) where
   unfolding Reaches Within
   reaches_decided x cost = decided_as (λ h. (h.0, h.1)) (λ h. (h.0, h.1, few_moves h.0 x cost h.1)) (within_decided cost cost x)
 
-  -- in at most so many moves, at whatever cost
+  -- a walk of at most this number of moves comes here, at whatever cost
   Grows : ℕ → Place → Type 0
   Grows zero x = (cost : ℕ) × IsEntry floor task x cost
   Grows (suc k) x = Grows k x ⊎ Before (λ y cost. Grows k y) x

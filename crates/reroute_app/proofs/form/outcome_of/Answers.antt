@@ -26,7 +26,7 @@ asks_route g c =
 route_crew : (g : given.Over) (c : In-Some-Route g) → IsCrew c.in-Some-Route.workers
 route_crew g c = crew_of (map string_bytes c.args.words.now) _ (asks_route g c)
 
--- the words ask for this preview, and so for one to four workers
+-- the arguments ask for this preview, and so for one to four workers
 asks_preview : (g : given.Over) (c : In-Some-Preview g) → let r = c.in-Some-Preview in Some (preview r.diagram.now r.script.now r.workers) ≡ form_of (map string_bytes c.args.words.now)
 asks_preview g c =
     let r = c.in-Some-Preview in
@@ -35,19 +35,19 @@ asks_preview g c =
 preview_crew : (g : given.Over) (c : In-Some-Preview g) → IsCrew c.in-Some-Preview.workers
 preview_crew g c = crew_of (map string_bytes c.args.words.now) _ (asks_preview g c)
 
--- the words ask for these shared paths
+-- the arguments ask for these shared paths
 asks_shared : (g : given.Over) (c : In-Some-Shared g) → Some (shared c.in-Some-Shared.diagram.now) ≡ form_of (map string_bytes c.args.words.now)
 asks_shared g c =
     let r = c.in-Some-Shared in
     told_form (map string_bytes c.args.words.now) c.in_ok-read_words.field-0 r.field-0 _ r.is r.field-0-is c.in_ok-read_words.ensures
 
--- the words ask for this certificate
+-- the arguments ask for this certificate
 asks_prove : (g : given.Over) (c : In-Some-Prove g) → Some (prove c.in-Some-Prove.diagram.now) ≡ form_of (map string_bytes c.args.words.now)
 asks_prove g c =
     let r = c.in-Some-Prove in
     told_form (map string_bytes c.args.words.now) c.in_ok-read_words.field-0 r.field-0 _ r.is r.field-0-is c.in_ok-read_words.ensures
 
--- the words ask for this audit
+-- the arguments ask for this audit
 asks_audit : (g : given.Over) (c : In-Some-Audit g) → let r = c.in-Some-Audit in Some (audit r.diagram.now r.certificate.now) ≡ form_of (map string_bytes c.args.words.now)
 asks_audit g c =
     let r = c.in-Some-Audit in
