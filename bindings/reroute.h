@@ -130,6 +130,15 @@ bool reroute_corner(reroute_session *session, size_t place, size_t at, reroute_p
 bool reroute_cost(reroute_session *session, uint32_t number, uint64_t *cost);
 /* How many searches the session has made; 0 if it is closed. */
 uint64_t reroute_searched(reroute_session *session);
+/* How many boxes and how many connectors the present scene has; 0 if the session is closed. */
+size_t reroute_box_count(reroute_session *session);
+size_t reroute_connector_count(reroute_session *session);
+
+/* --- A preview of the open transaction ----------------------------------------------------------------------------- */
+/* As reroute_lines, for the lines that a commit of the open transaction would give: reroute_line and reroute_corner then read
+ * these. The transaction stays open, and scene, routes and history stay. If none is open: REROUTE_NO_TRANSACTION. After a
+ * fault, the lines that could be read before and *count are as they were. */
+reroute_fault reroute_preview(reroute_session *session, size_t *count);
 
 /* --- In C, over the calls above: not part of the library ----------------------------------------------------------- */
 /* Takes a room by malloc and opens the empty scene in it. After a fault nothing is to be ended. */

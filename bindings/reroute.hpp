@@ -80,10 +80,22 @@ public:
     template <typename Changed> void forChanged(Changed changed) {
         std::size_t count = 0;
         done(reroute_lines(&session_, &count));
-        for (std::size_t place = 0; place < count; place++) {
-            reroute_line_info line = reroute_line(&session_, place);
-            if (line.changed) changed(line.connector, points(place, line.corners));
+        tellChanged(count, changed);
+    }
+    // The same for the lines that these edits would give. They are dropped again, and nothing but the lines that were told
+    // changes.
+    template <typename Edits, typename Changed> void preview(Edits edits, Changed changed) {
+        std::size_t count = 0;
+        done(reroute_begin(&session_));
+        try {
+            edits(*this);
+            done(reroute_preview(&session_, &count));
+        } catch (...) {
+            reroute_abort(&session_);
+            throw;
         }
+        done(reroute_abort(&session_));
+        tellChanged(count, changed);
     }
     // Whether the connector has a route, and what it costs.
     bool cost(uint32_t connector, double &cost) {
@@ -93,8 +105,16 @@ public:
         return true;
     }
     uint64_t searched() { return reroute_searched(&session_); }
+    std::size_t boxCount() { return reroute_box_count(&session_); }
+    std::size_t connectorCount() { return reroute_connector_count(&session_); }
 
 private:
+    template <typename Changed> void tellChanged(std::size_t count, Changed changed) {
+        for (std::size_t place = 0; place < count; place++) {
+            reroute_line_info line = reroute_line(&session_, place);
+            if (line.changed) changed(line.connector, points(place, line.corners));
+        }
+    }
     std::vector<Point> points(std::size_t place, std::size_t corners) {
         std::vector<Point> points;
         reroute_point corner;

@@ -56,7 +56,7 @@ CALLS = {
     'add_checkpoint': (Fault, U, U, I, I), 'drop_checkpoint': (Fault, U, U), 'set_penalty': (Fault, I),
     'set_buffer': (Fault, I), 'set_nudge': (Fault, I), 'lines': (Fault, c.POINTER(Z)), 'line': (Line, Z),
     'corner': (c.c_bool, Z, Z, c.POINTER(Point)), 'cost': (c.c_bool, U, c.POINTER(c.c_uint64)),
-    'searched': (c.c_uint64,)}
+    'searched': (c.c_uint64,), 'box_count': (Z,), 'connector_count': (Z,), 'preview': (Fault, c.POINTER(Z))}
 
 
 def loaded(path):
@@ -111,6 +111,15 @@ class Session:
             self.library.reroute_abort(self.handle)
             raise
         self._call('commit')
+
+    @contextlib.contextmanager
+    def proposal(self):
+        """Edits that are dropped at the end; `preview` says within what lines they would give."""
+        self._call('begin')
+        try:
+            yield self
+        finally:
+            self.library.reroute_abort(self.handle)
 
     def undo(self):
         self._call('undo')
@@ -170,8 +179,15 @@ class Session:
     def lines(self, changed_only=False):
         """The corners of each connector that has a route, by its number, nudged; only of lines that are none of those of
         the last time, if so asked."""
+        return self._lines('lines', changed_only)
+
+    def preview(self, changed_only=False):
+        """The lines that a commit of the open transaction would give, as `lines` gives those of the present scene."""
+        return self._lines('preview', changed_only)
+
+    def _lines(self, call, changed_only):
         count, found = Z(), {}
-        self._call('lines', count)
+        self._call(call, count)
         for place in range(count.value):
             line = self.library.reroute_line(self.handle, place)
             if line.changed or not changed_only:
@@ -191,3 +207,11 @@ class Session:
     @property
     def searched(self):
         return self.library.reroute_searched(self.handle)
+
+    @property
+    def box_count(self):
+        return self.library.reroute_box_count(self.handle)
+
+    @property
+    def connector_count(self):
+        return self.library.reroute_connector_count(self.handle)

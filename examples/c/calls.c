@@ -31,6 +31,8 @@ static void closed(reroute_session *s) {
     REFUSES(reroute_add_box(s, 1, 0, 0, 20000, 20000), REROUTE_NO_SESSION, 0);
     REFUSES(reroute_connect(s, 1, 0, 2, 0, &number), REROUTE_NO_SESSION, 0);
     REFUSES(reroute_lines(s, &count), REROUTE_NO_SESSION, 0);
+    REFUSES(reroute_preview(s, &count), REROUTE_NO_SESSION, 0);
+    WANT(reroute_box_count(s) == 0 && reroute_connector_count(s) == 0);
     WANT(line.connector == 0 && line.corners == 0 && !line.changed);
     WANT(!reroute_corner(s, 0, 0, &corner) && !reroute_cost(s, 1, &cost));
     WANT(reroute_searched(s) == 0 && reroute_next(s) == 0);
@@ -48,7 +50,9 @@ static void draw(reroute_session *s) {
     WANT(reroute_next(s) == 1);
     DONE(reroute_connect(s, 1, 0, 2, 0, &number));
     WANT(number == 1 && reroute_next(s) == 2);
+    WANT(reroute_box_count(s) == 0 && reroute_connector_count(s) == 0);
     DONE(reroute_commit(s));
+    WANT(reroute_box_count(s) == 3 && reroute_connector_count(s) == 1);
     costs(s, 1, 100000);
 }
 
@@ -106,6 +110,29 @@ static void lines(reroute_session *s) {
     line = reroute_line(s, 0);
     WANT(count == 1 && line.connector == 1 && !line.changed);
     WANT(reroute_line(s, 1).connector == 0);
+}
+
+/* What a move would give, of which nothing stays but that its line can be read. */
+static void preview(reroute_session *s) {
+    size_t count = 7;
+    reroute_point corners[9];
+    reroute_line_info line;
+    REFUSES(reroute_preview(s, &count), REROUTE_NO_TRANSACTION, 0);
+    WANT(count == 7);
+    DONE(reroute_begin(s));
+    DONE(reroute_move_box(s, 3, 50000, 0));
+    DONE(reroute_preview(s, &count));
+    line = reroute_line(s, 0);
+    WANT(count == 1 && line.connector == 1 && line.corners == 4 && line.changed);
+    WANT(reroute_corners(s, 0, corners, 9) == 4 && corners[1].x == 0 && corners[1].y == -24000);
+    DONE(reroute_preview(s, &count));
+    WANT(count == 1 && !reroute_line(s, 0).changed);
+    DONE(reroute_drop_box(s, 3));
+    DONE(reroute_preview(s, &count));
+    WANT(count == 1 && reroute_line(s, 0).corners == 2 && reroute_line(s, 0).changed);
+    DONE(reroute_abort(s));
+    costs(s, 1, 100000);
+    WANT(reroute_searched(s) == 1 && reroute_box_count(s) == 3);
 }
 
 static void move_and_undo(reroute_session *s) {
@@ -171,6 +198,7 @@ int main(void) {
     draw(&session);
     lines(&session);
     refusals(&session);
+    preview(&session);
     move_and_undo(&session);
     pins_and_checkpoints(&session);
     cut(&session);

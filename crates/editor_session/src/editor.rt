@@ -1,14 +1,16 @@
 //! The session of an editor, with the lines that the editor asked for.
-ghost use Rattle.std.specs.Prelude.{◌≡◌, [], IfOk, OnErr, OnOk, length, not, option_copied, slice_get};
+ghost use Rattle.std.specs.Prelude.{◌≡◌, [], IfErr, IfOk, OnErr, OnOk, length, not, option_copied, slice_get};
 ghost use Rattle.std.specs.List.{list_any};
-ghost use Rattle.editor_session.specs.Lines.{AreDrawn, is_same_line};
+ghost use Rattle.editor_session.specs.Lines.{AreDrawn, AreProposed, IsUnproposed, is_same_line};
 ghost use Rattle.scene_model.specs.Answers.{AreAnswers};
 ghost use Rattle.scene_model.specs.Scene.{connectors};
 ghost use Rattle.scene_model.specs.World.{opened};
 
 use crate::corners::is_among;
+use crate::proposed::lines_after;
 use nudge_phases::Nudged;
 use route_session::Session;
+use scene_model::SessionFault;
 use scene_store::Scene;
 use std::alloc::{AllocError, Global};
 use std::mem;
@@ -53,6 +55,29 @@ impl Editor {
         let Nudged { routes, .. } = self.session.nudged()?;
         self.lines_before = mem::replace(&mut self.lines, routes);
         Ok(())
+    }
+
+    /// Asks for the lines that a commit of the open transaction would give, nudged. The transaction stays open.
+    ///
+    /// The error is `NoTransaction` exactly if none is open, otherwise only out of memory. It leaves everything as it was.
+    pub fn update_proposed(&mut self, alloc: Global) -> Result<(), SessionFault>
+        ensures session { self.new.session ≡ self.old.session }
+        ensures lines { OnOk result (AreProposed self.new.session self.new.lines.items) }
+        ensures lines_before { OnOk result (self.new.lines_before ≡ self.old.lines) }
+        ensures fault { IfErr result (IsUnproposed self.old.session) }
+        ensures err_lines { OnErr result (self.new.lines ≡ self.old.lines) }
+        ensures err_lines_before { OnErr result (self.new.lines_before ≡ self.old.lines_before) }
+    {
+        let Some(working) = self.session.working() else {
+            return Err(SessionFault::NoTransaction);
+        };
+        match lines_after(alloc, &self.session, working) {
+            Ok(lines) => {
+                self.lines_before = mem::replace(&mut self.lines, lines);
+                Ok(())
+            }
+            Err(AllocError) => Err(SessionFault::Memory),
+        }
     }
 
     /// The line at the place, from 0, of those that were asked for last.

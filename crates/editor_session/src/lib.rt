@@ -5,5 +5,6 @@
 
 mod corners;
 mod editor;
+mod proposed;
 
 pub use editor::Editor;

@@ -6,9 +6,17 @@ use Rattle.walk_model.specs.declared.route.Answer.{Answer}
 use Rattle.walk_model.specs.declared.route.Route.{Route}
 use Rattle.walk_model.specs.declared.route.WrittenRoute.{WrittenRoute}
 use Rattle.editor_session.specs.declared.editor.Editor.{Editor}
-use Rattle.editor_session.specs.Lines.{is_same_line}
+use Rattle.scene_model.specs.declared.fault.SessionFault.{SessionFault}
+use Rattle.session_laws.specs.State.{State}
+use Rattle.editor_session.specs.Lines.{IsUnproposed, is_same_line}
+use Rattle.reroute_c.specs.declared.fault.Fault.{Fault}
+use Rattle.reroute_c.specs.Codes.{call_fault}
 use Rattle.reroute_c.specs.declared.lines.Corner.{Corner}
 use Rattle.reroute_c.specs.declared.lines.Line.{Line}
+
+-- a preview is refused with this fault
+abbrev pub IsUnpreviewed : State → Fault → Type 0
+IsUnpreviewed s fault = (why : SessionFault) × IsUnproposed s why × (fault ≡ call_fault why)
 
 -- no line: numbers of connectors begin with 1
 abbrev pub no_line : Line

@@ -4,6 +4,7 @@
 #![tactic(auto)]
 
 mod calls;
+mod counts;
 mod edits;
 mod fault;
 mod handle;

@@ -1,14 +1,15 @@
 //! The lines of the present scene: how many there are, their corners, their costs, and which changed.
 ghost use Rattle.std.specs.Prelude.{◌≡◌, ◌≢◌, IfSome, IsNone, IsSome, false, length};
-ghost use Rattle.editor_session.specs.Lines.{AreDrawn};
+ghost use Rattle.editor_session.specs.Lines.{AreDrawn, AreProposed};
 ghost use Rattle.reroute_c.specs.Codes.{memory_fault};
-ghost use Rattle.reroute_c.specs.Lines.{IsCost, IsWritten, corner_at, cost_of, line_at, no_line};
+ghost use Rattle.reroute_c.specs.Lines.{IsCost, IsUnpreviewed, IsWritten, corner_at, cost_of, line_at, no_line};
 ghost use Rattle.reroute_c.specs.Open.{IfOpen, IsRefusedClosed, KeepsLines};
 ghost use Rattle.scene_model.specs.Stale.{answer_of};
 
 use crate::fault::Fault;
 use crate::handle::Handle;
 use editor_session::Editor;
+use std::alloc::Global;
 
 /// A corner of a line.
 #[repr(C)]
@@ -56,6 +57,33 @@ pub extern "C" fn reroute_lines(handle: &mut Handle, count: &mut usize) -> Fault
         }
         Err(_) => Fault::memory(),
     }
+}
+
+/// Nudges the lines that a commit of the open transaction would give, and says how many there are.
+///
+/// They can be read as those of `reroute_lines`, and the transaction stays open. The fault is 2 exactly if none is open;
+/// after a fault all is as before.
+#[unsafe(no_mangle)]
+pub extern "C" fn reroute_preview(alloc: Global, handle: &mut Handle, count: &mut usize) -> Fault
+    ensures closed { IsNone handle.old.editor → IsRefusedClosed result handle.new.editor }
+    ensures open { IsSome handle.old.editor → IsSome handle.new.editor }
+    ensures session { IfOpen handle.old.editor handle.new.editor (λ s n. n.session ≡ s.session) }
+    ensures lines { result.code ≡ 0 → IfSome handle.new.editor (λ n. AreProposed n.session n.lines.items) }
+    ensures lines_before { result.code ≡ 0 → IfOpen handle.old.editor handle.new.editor (λ s n. n.lines_before ≡ s.lines) }
+    ensures count { result.code ≡ 0 → IfSome handle.new.editor (λ n. count.new ≡ length n.lines.items) }
+    ensures fault { result.code ≢ 0 → IfSome handle.old.editor (λ s. IsUnpreviewed s.session result) }
+    ensures refused { result.code ≢ 0 → IfOpen handle.old.editor handle.new.editor KeepsLines }
+    ensures kept { result.code ≢ 0 → count.new ≡ count.old }
+{
+    let Some(mut editor) = handle.replace(None) else {
+        return Fault::closed();
+    };
+    let answer = editor.update_proposed(alloc);
+    if answer.is_ok() {
+        *count = editor.lines.len();
+    }
+    handle.replace(Some(editor));
+    Fault::of(answer)
 }
 
 /// The line at the place, from 0, of those that were asked for last.
