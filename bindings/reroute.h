@@ -15,7 +15,8 @@
  * Refusals. Most calls return a reroute_fault: a code, REROUTE_OK if nothing is refused, and a value, which is what the
  * refusal names. After a refused begin, edit, commit, abort, undo or redo no transaction is open: the edits of the one that
  * was open are dropped together, and scene, routes and history are as they were before it. It is the same when memory runs
- * out. Of the other calls each says what stays. The codes are those of the program, X1 to X17.
+ * out. Of the other calls each says what stays. The codes are those of the program: X1 to X17, and from 101 on what it says of
+ * a diagram that it does not take.
  *
  * Versions. Until 1.0 each minor version may change calls, and its library has another name (libreroute.so.0 is 0.1).
  */
@@ -52,7 +53,28 @@ enum {
     REROUTE_NOTHING_TO_REDO = 15,
     REROUTE_PIN_IN_USE = 17,        /* a connector uses the last pin of the class; value: its number */
     REROUTE_NO_SESSION = 98,        /* no session is open here */
-    REROUTE_MEMORY = 99             /* memory ran out */
+    REROUTE_MEMORY = 99,            /* memory ran out */
+
+    /* A diagram in GML is not taken. The value is an offset in bytes, from 0, or the place of the node or the edge in the file,
+     * from 1; for the router and for a limit it is 0. */
+    REROUTE_GML_SYNTAX = 101,       /* the bytes before the offset begin a document, and no more do */
+    REROUTE_GML_TOO_DEEP = 102,     /* a 65th list opens at the offset */
+    REROUTE_NO_GRAPH = 103,
+    REROUTE_BAD_ID = 104,
+    REROUTE_SAME_ID = 105,
+    REROUTE_NO_PLACE = 106,
+    REROUTE_BAD_PIN = 107,
+    REROUTE_BAD_END = 108,
+    REROUTE_BAD_VIA = 109,
+    REROUTE_BAD_WEIGHT = 110,
+    REROUTE_ROUTER_BAD_NUMBER = 111,
+    REROUTE_NODE_BAD_NUMBER = 112,
+    REROUTE_ROUTER_OUT_OF_RANGE = 121,
+    REROUTE_NODE_OUT_OF_RANGE = 122,
+    REROUTE_TOO_MANY_NODES = 132,
+    REROUTE_TOO_MANY_EDGES = 133,
+    REROUTE_TOO_MANY_PINS = 134,
+    REROUTE_TOO_MANY_VIAS = 135
 };
 
 typedef struct reroute_fault { uint32_t code; int64_t value; } reroute_fault;
@@ -67,6 +89,9 @@ size_t reroute_size(void);
 void reroute_ready(void *room);
 /* Opens the empty scene: penalty 50000, buffer 4000, nudge 4000. If the session is open, it stays: REROUTE_ALREADY_OPEN. */
 reroute_fault reroute_open(reroute_session *session);
+/* Opens the scene of a diagram in GML, with its boxes, pins, connectors, checkpoints and settings, as the program reads it.
+ * The text is not NULL. If the session is open, it stays: REROUTE_ALREADY_OPEN; after any other fault it is closed. */
+reroute_fault reroute_open_gml(reroute_session *session, const uint8_t *text, size_t length);
 /* Closes the session and gives its memory back, all but the room. Does nothing if it is closed. */
 void reroute_close(reroute_session *session);
 
@@ -140,19 +165,60 @@ size_t reroute_connector_count(reroute_session *session);
  * fault, the lines that could be read before and *count are as they were. */
 reroute_fault reroute_preview(reroute_session *session, size_t *count);
 
+/* --- Texts ----------------------------------------------------------------------------------------------------------- */
+/* Writes the diagram that was opened, with the present scene and its lines put in, as the program writes it; reroute_open
+ * opens `graph [ ]`. It writes the first bytes, as many as there is room for, and sets *length to how many there are in all:
+ * ask with a room of 0 first. out is not NULL. After a fault nothing is written. */
+reroute_fault reroute_write_gml(reroute_session *session, uint8_t *out, size_t room, size_t *length);
+/* Plays the lines of a script, as the program does, up to the first that is refused: the fault is that of the line, and *line
+ * becomes its number, from 1; 0 if none is refused, or if memory runs out before the first. The lines before it are done. The
+ * script is not NULL. A transaction that is open at the end stays open. */
+reroute_fault reroute_play(reroute_session *session, const uint8_t *script, size_t length, size_t *line);
+
 /* --- In C, over the calls above: not part of the library ----------------------------------------------------------- */
-/* Takes a room by malloc and opens the empty scene in it. After a fault nothing is to be ended. */
-static inline reroute_fault reroute_start(reroute_session *session) {
+/* The name of a fault, as the program prints it before the value; "" if the code is none. */
+static inline const char *reroute_fault_name(uint32_t code) {
+    static const char *const names[] = {
+        "", "X1 Syntax", "X2 NoTransaction", "X3 AlreadyOpen", "X4 UnknownNode", "X5 UnknownEdge", "X6 NodeExists",
+        "X7 NodeInUse", "X8 SameNode", "X9 OutOfRange", "X10 PinOutside", "X11 UnknownPinClass", "X12 NoSuchPlace",
+        "X13 TooMany", "X14 NothingToUndo", "X15 NothingToRedo", "", "X17 PinInUse"
+    };
+    static const char *const diagram_names[] = {
+        "", "Syntax at", "TooDeep at", "NoGraph", "BadId node", "SameId node", "NoPlace node", "BadPin node", "BadEnd edge",
+        "BadVia edge", "BadWeight edge", "BadNumber router", "BadNumber node"
+    };
+    switch (code) {
+    case REROUTE_ROUTER_OUT_OF_RANGE: return "OutOfRange router";
+    case REROUTE_NODE_OUT_OF_RANGE: return "OutOfRange node";
+    case REROUTE_TOO_MANY_NODES: return "TooMany node";
+    case REROUTE_TOO_MANY_EDGES: return "TooMany edge";
+    case REROUTE_TOO_MANY_PINS: return "TooMany pin";
+    case REROUTE_TOO_MANY_VIAS: return "TooMany via";
+    case REROUTE_NO_SESSION: return "NoSession";
+    case REROUTE_MEMORY: return "NoMemory";
+    default: break;
+    }
+    if (code <= REROUTE_PIN_IN_USE) return names[code];
+    if (code >= 100 && code <= REROUTE_NODE_BAD_NUMBER) return diagram_names[code - 100];
+    return "";
+}
+/* Takes a room by malloc, and opens in it the empty scene, or the scene of a diagram if the text is not NULL. After a fault
+ * nothing is to be ended. */
+static inline reroute_fault reroute_start_gml(reroute_session *session, const uint8_t *text, size_t length) {
     reroute_fault fault = { REROUTE_MEMORY, 0 };
     session->held = malloc(reroute_size());
     if (!session->held) return fault;
     reroute_ready(session->held);
-    fault = reroute_open(session);
+    fault = text ? reroute_open_gml(session, text, length) : reroute_open(session);
     if (fault.code != REROUTE_OK) {
         free(session->held);
         session->held = NULL;
     }
     return fault;
+}
+/* The same for the empty scene. */
+static inline reroute_fault reroute_start(reroute_session *session) {
+    return reroute_start_gml(session, NULL, 0);
 }
 /* Closes the session and gives its room back. */
 static inline void reroute_end(reroute_session *session) {

@@ -16,13 +16,16 @@ struct Point { double x, y; };
 // A call that was refused. No transaction is open after it, and nothing else changed.
 struct Refused : std::runtime_error {
     reroute_fault fault;
-    explicit Refused(reroute_fault f)
-        : std::runtime_error("reroute: X" + std::to_string(f.code) + " " + std::to_string(f.value)), fault(f) {}
+    std::size_t line; // of a script, from 1; otherwise 0
+    explicit Refused(reroute_fault f, std::size_t l = 0)
+        : std::runtime_error(std::string("reroute: ") + reroute_fault_name(f.code) + " " + std::to_string(f.value)), fault(f),
+          line(l) {}
 };
 
 class Session {
     reroute_session session_;
     static int64_t milli(double value) { return std::llround(value * 1000); }
+    static const uint8_t *bytes(const std::string &text) { return reinterpret_cast<const uint8_t *>(text.data()); }
     static void done(reroute_fault fault) {
         if (fault.code == REROUTE_MEMORY) throw std::bad_alloc();
         if (fault.code != REROUTE_OK) throw Refused(fault);
@@ -30,6 +33,8 @@ class Session {
 
 public:
     Session() { done(reroute_start(&session_)); }
+    // Opens a diagram in GML.
+    explicit Session(const std::string &gml) { done(reroute_start_gml(&session_, bytes(gml), gml.size())); }
     ~Session() { reroute_end(&session_); }
     Session(const Session &) = delete;
     Session &operator=(const Session &) = delete;
@@ -105,6 +110,22 @@ public:
         return true;
     }
     uint64_t searched() { return reroute_searched(&session_); }
+    // The diagram in GML, with the present scene and its lines put in.
+    std::string gml() {
+        std::size_t length = 0;
+        uint8_t none = 0;
+        done(reroute_write_gml(&session_, &none, 0, &length));
+        std::string text(length, '\0');
+        if (length) done(reroute_write_gml(&session_, reinterpret_cast<uint8_t *>(&text[0]), length, &length));
+        return text;
+    }
+    // Plays a script up to its first line that is refused; an exception tells which that is.
+    void play(const std::string &script) {
+        std::size_t line = 0;
+        reroute_fault fault = reroute_play(&session_, bytes(script), script.size(), &line);
+        if (fault.code != REROUTE_OK && fault.code != REROUTE_MEMORY) throw Refused(fault, line);
+        done(fault);
+    }
     std::size_t boxCount() { return reroute_box_count(&session_); }
     std::size_t connectorCount() { return reroute_connector_count(&session_); }
 

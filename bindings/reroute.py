@@ -15,15 +15,21 @@ import os
 
 NAMES = {1: 'Syntax', 2: 'NoTransaction', 3: 'AlreadyOpen', 4: 'UnknownNode', 5: 'UnknownEdge', 6: 'NodeExists',
          7: 'NodeInUse', 8: 'SameNode', 9: 'OutOfRange', 10: 'PinOutside', 11: 'UnknownPinClass', 12: 'NoSuchPlace',
-         13: 'TooMany', 14: 'NothingToUndo', 15: 'NothingToRedo', 17: 'PinInUse', 98: 'NoSession'}
+         13: 'TooMany', 14: 'NothingToUndo', 15: 'NothingToRedo', 17: 'PinInUse', 98: 'NoSession', 101: 'Syntax at',
+         102: 'TooDeep at', 103: 'NoGraph', 104: 'BadId node', 105: 'SameId node', 106: 'NoPlace node', 107: 'BadPin node',
+         108: 'BadEnd edge', 109: 'BadVia edge', 110: 'BadWeight edge'}
+PARTS = {1: 'router', 2: 'node', 3: 'edge', 4: 'pin', 5: 'via'}
+NAMES.update((base + part, f'{name} {PARTS[part]}')
+             for base, name in ((110, 'BadNumber'), (120, 'OutOfRange'), (130, 'TooMany')) for part in PARTS)
 
 
 class Refused(Exception):
     """A call that was refused. No transaction is open after it, and nothing else changed."""
 
-    def __init__(self, code, value):
-        super().__init__(f'X{code} {NAMES.get(code)} {value}')
-        self.code, self.value = code, value
+    def __init__(self, code, value, line=0):
+        where = f'line {line}: ' if line else ''
+        super().__init__(f'{where}{NAMES.get(code)} {value}' if code > 100 else f'{where}X{code} {NAMES.get(code)} {value}')
+        self.code, self.value, self.line = code, value, line
 
 
 class Fault(c.Structure):
@@ -56,7 +62,9 @@ CALLS = {
     'add_checkpoint': (Fault, U, U, I, I), 'drop_checkpoint': (Fault, U, U), 'set_penalty': (Fault, I),
     'set_buffer': (Fault, I), 'set_nudge': (Fault, I), 'lines': (Fault, c.POINTER(Z)), 'line': (Line, Z),
     'corner': (c.c_bool, Z, Z, c.POINTER(Point)), 'cost': (c.c_bool, U, c.POINTER(c.c_uint64)),
-    'searched': (c.c_uint64,), 'box_count': (Z,), 'connector_count': (Z,), 'preview': (Fault, c.POINTER(Z))}
+    'searched': (c.c_uint64,), 'box_count': (Z,), 'connector_count': (Z,), 'preview': (Fault, c.POINTER(Z)),
+    'open_gml': (Fault, c.c_char_p, Z), 'write_gml': (Fault, c.c_char_p, Z, c.POINTER(Z)),
+    'play': (Fault, c.c_char_p, Z, c.POINTER(Z))}
 
 
 def loaded(path):
@@ -75,7 +83,9 @@ def milli(value):
 
 
 class Session:
-    def __init__(self, library=None):
+    """A session on the empty scene, or on the scene of a diagram, whose bytes are GML."""
+
+    def __init__(self, library=None, gml=None):
         self.library = loaded(library or os.environ.get('REROUTE_LIBRARY', 'libreroute.so.0'))
         # (words of 16 bytes, since the room is aligned to 16)
         size = self.library.reroute_size()
@@ -83,7 +93,10 @@ class Session:
         start = c.addressof(self.room)
         self.handle = Handle(start + -start % 16)
         self.library.reroute_ready(self.handle.held)
-        self._call('open')
+        if gml is None:
+            self._call('open')
+        else:
+            self._call('open_gml', gml, len(gml))
 
     def __enter__(self):
         return self
@@ -203,6 +216,23 @@ class Session:
         """What the connector's route costs, or None if it has none."""
         cost = c.c_uint64()
         return cost.value / 1000 if self.library.reroute_cost(self.handle, connector, cost) else None
+
+    def gml(self):
+        """The bytes of the diagram, with the present scene and its lines put in."""
+        length = Z()
+        self._call('write_gml', c.create_string_buffer(1), 0, length)
+        text = c.create_string_buffer(length.value)
+        self._call('write_gml', text, length.value, length)
+        return text.raw
+
+    def play(self, script):
+        """Plays the bytes of a script, up to its first line that is refused; `line` of the exception is its number."""
+        line = Z()
+        fault = self.library.reroute_play(self.handle, script, len(script), line)
+        if fault.code == 99:
+            raise MemoryError
+        if fault.code:
+            raise Refused(fault.code, fault.value, line.value)
 
     @property
     def searched(self):

@@ -3,6 +3,7 @@
  */
 #include "reroute.h"
 #include <stdio.h>
+#include <string.h>
 
 #define WANT(condition) do { if (!(condition)) { printf("wrong: line %d\n", __LINE__); exit(1); } } while (0)
 #define REFUSES(call, wanted, named) do { \
@@ -187,6 +188,85 @@ static void cut(reroute_session *s) {
     WANT(count == 0);
 }
 
+/* Two boxes with a connector, a script that puts a third one between them, and what is then written. */
+static const char *diagram =
+    "graph [\n"
+    "  node [ id 1 graphics [ x 0 y 0 w 20 h 20 ] ]\n"
+    "  node [ id 2 label \"two\" graphics [ x 100 y 0 w 20 h 20 ] ]\n"
+    "  edge [ source 1 target 2 ]\n"
+    "]\n";
+static const char *script = "begin\nnode 3 50 0 20 40\ncommit\n";
+static const char *written =
+    "graph [\n"
+    "  node [\n    id 1\n    graphics [\n      x 0\n      y 0\n      w 20\n      h 20\n    ]\n  ]\n"
+    "  node [\n    id 2\n    label \"two\"\n    graphics [\n      x 100\n      y 0\n      w 20\n      h 20\n    ]\n  ]\n"
+    "  edge [\n    source 1\n    target 2\n    graphics [\n      Line [\n"
+    "        point [\n          x 0.000\n          y 0.000\n        ]\n"
+    "        point [\n          x 0.000\n          y -24.000\n        ]\n"
+    "        point [\n          x 100.000\n          y -24.000\n        ]\n"
+    "        point [\n          x 100.000\n          y 0.000\n        ]\n"
+    "      ]\n    ]\n  ]\n"
+    "  node [\n    id 3\n    graphics [\n      x 50.000\n      y 0.000\n      w 20.000\n      h 40.000\n    ]\n  ]\n"
+    "]\n";
+
+static reroute_fault opened(reroute_session *s, const char *text) {
+    return reroute_open_gml(s, (const uint8_t *)text, strlen(text));
+}
+
+static reroute_fault played(reroute_session *s, const char *text, size_t *line) {
+    return reroute_play(s, (const uint8_t *)text, strlen(text), line);
+}
+
+/* Texts that open nothing. */
+static void no_diagrams(reroute_session *s) {
+    char deep[131] = "";
+    int lists;
+    for (lists = 0; lists < 65; lists++) strcat(deep, "a[");
+    REFUSES(opened(s, "graph [ label \"ab"), REROUTE_GML_SYNTAX, 17);
+    REFUSES(opened(s, deep), REROUTE_GML_TOO_DEEP, 129);
+    REFUSES(opened(s, ""), REROUTE_NO_GRAPH, 0);
+    REFUSES(opened(s, "graph [ node [ id 1 ] ]"), REROUTE_NO_PLACE, 1);
+    REFUSES(opened(s, "graph [ router [ nudge \"a\" ] ]"), REROUTE_ROUTER_BAD_NUMBER, 0);
+    REFUSES(opened(s, "graph [ node [ id 1 graphics [ x 0 y 0 w -1 ] ] ]"), REROUTE_NODE_OUT_OF_RANGE, 1);
+    REFUSES(opened(s, "graph [ edge [ source 1 target 2 ] ]"), REROUTE_BAD_END, 1);
+    WANT(!strcmp(reroute_fault_name(REROUTE_BAD_END), "BadEnd edge"));
+    WANT(!strcmp(reroute_fault_name(REROUTE_NODE_BAD_NUMBER), "BadNumber node"));
+    WANT(!strcmp(reroute_fault_name(REROUTE_PIN_IN_USE), "X17 PinInUse"));
+}
+
+/* A diagram is opened, a script is played on it, and it is written back. */
+static void texts(reroute_session *s) {
+    uint8_t out[2000];
+    size_t length = 7, line = 7;
+    REFUSES(reroute_write_gml(s, out, 0, &length), REROUTE_NO_SESSION, 0);
+    REFUSES(played(s, script, &line), REROUTE_NO_SESSION, 0);
+    WANT(length == 7 && line == 7);
+    no_diagrams(s);
+    DONE(opened(s, diagram));
+    REFUSES(opened(s, diagram), REROUTE_ALREADY_OPEN, 0);
+    costs(s, 1, 100000);
+    DONE(played(s, script, &line));
+    WANT(line == 0 && reroute_box_count(s) == 3);
+    costs(s, 1, 248000);
+    DONE(reroute_write_gml(s, out, 0, &length));
+    WANT(length == strlen(written));
+    memset(out, '#', sizeof out);
+    DONE(reroute_write_gml(s, out, 9, &length));
+    WANT(length == strlen(written) && !memcmp(out, "graph [\n #", 10));
+    DONE(reroute_write_gml(s, out, sizeof out, &length));
+    WANT(length == strlen(written) && !memcmp(out, written, length) && out[length] == '#');
+    REFUSES(played(s, "# two edits\nbegin\nmove 3 50 80\ndrop 9\nundo\n", &line), REROUTE_UNKNOWN_NODE, 9);
+    WANT(line == 4);
+    costs(s, 1, 248000);
+    REFUSES(played(s, "begin\nmove 3 here\ncommit\n", &line), REROUTE_SYNTAX, 0);
+    WANT(line == 2);
+    DONE(played(s, "undo\nbegin\nmove 2 200 0\n", &line));
+    WANT(line == 0);
+    DONE(reroute_commit(s));
+    costs(s, 1, 200000);
+    reroute_close(s);
+}
+
 int main(void) {
     reroute_session session = { malloc(reroute_size()) };
     WANT(session.held && reroute_version() == REROUTE_VERSION);
@@ -203,6 +283,8 @@ int main(void) {
     pins_and_checkpoints(&session);
     cut(&session);
     reroute_close(&session);
+    closed(&session);
+    texts(&session);
     closed(&session);
     reroute_close(&session);
     free(session.held);

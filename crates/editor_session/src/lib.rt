@@ -1,4 +1,4 @@
-//! A session with the lines that an editor asked for: what a handle of the C library holds.
+//! A session with the lines that an editor asked for, for the library for C.
 //!
 //! Coordinates are whole thousandths of a GML unit.
 #![tactic(auto)]

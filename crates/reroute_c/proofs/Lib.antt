@@ -1,2 +1,3 @@
--- The lemma of the counts.
+-- The lemmas of the exports.
 mod Answered
+mod Unpreviewed

@@ -5,8 +5,7 @@ use Rattle.scene_model.specs.declared.fault.SceneFault.TheVariants as scenes
 use Rattle.scene_model.specs.declared.fault.SessionFault.{SessionFault}
 use Rattle.scene_model.specs.declared.fault.SessionFault.TheVariants as faults
 use Rattle.scene_model.specs.declared.edit.Command.{Command}
-use Rattle.session_laws.specs.Calls.{IsCall}
-use Rattle.session_laws.specs.State.{State}
+use Rattle.editor_files.specs.Drawing.{DrawingState, IsDrawingCall}
 use Rattle.reroute_c.specs.declared.fault.Fault.{Fault}
 
 -- nothing is refused; what is asked for has no form; a session is open; there is no session; there is no memory
@@ -58,6 +57,6 @@ abbrev pub fault_of : Result Unit SessionFault → Fault
 fault_of (Ok done) = no_fault
 fault_of (Err fault) = call_fault fault
 
--- the session's call of the command has an answer with this fault, and did what the session's calls do
-abbrev pub IsAnswered : Command → Fault → State → State → Type 0
-IsAnswered c fault old new = (answer : Result Unit SessionFault) × (fault ≡ fault_of answer) × IsCall c answer old new
+-- the session's call of the command has an answer with this fault
+abbrev pub IsAnswered : Command → Fault → DrawingState → DrawingState → Type 0
+IsAnswered c fault old new = (answer : Result Unit SessionFault) × (fault ≡ fault_of answer) × IsDrawingCall c answer old new

@@ -2,8 +2,8 @@
 use Rattle.std.specs.Prelude.{◌≡◌, ◌||◌, ℕ, Bool, Option, None, Some}
 use Rattle.scene_model.specs.declared.pin.Dirs.{Dirs}
 use Rattle.scene_model.specs.Scene.{Scene}
-use Rattle.scene_model.specs.World.{World, given_up}
-use Rattle.editor_session.specs.declared.editor.Editor.{Editor}
+use Rattle.scene_model.specs.World.{World}
+use Rattle.editor_files.specs.Drawing.{DrawingState, GivesUp}
 use Rattle.reroute_c.specs.declared.edits.Directions.{Directions}
 use Rattle.reroute_c.specs.declared.fault.Fault.{Fault}
 use Rattle.reroute_c.specs.Codes.{syntax_fault}
@@ -26,6 +26,5 @@ abbrev pub next_edge : World → ℕ
 next_edge w = (edited_scene w.working w.present).next_edge
 
 -- what was asked for has no form, and the transaction is dropped
-pub record IsGivenUp (fault : Fault) (old new : Editor) : Type 0 where
-  pub fault_is : fault ≡ syntax_fault
-  pub world : new.session.world ≡ given_up old.session.world
+abbrev pub IsGivenUp : Fault → DrawingState → DrawingState → Type 0
+IsGivenUp fault old new = (fault ≡ syntax_fault) × GivesUp old new

@@ -1,6 +1,7 @@
 -- The definitions of the exports to C.
 pub mod Codes
 pub mod Edits
+pub mod Files
 pub mod Lines
 pub mod Open
 pub mod Owned

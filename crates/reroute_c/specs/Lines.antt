@@ -5,7 +5,7 @@ use Rattle.plane_geom.specs.declared.point.Point.{Point}
 use Rattle.walk_model.specs.declared.route.Answer.{Answer}
 use Rattle.walk_model.specs.declared.route.Route.{Route}
 use Rattle.walk_model.specs.declared.route.WrittenRoute.{WrittenRoute}
-use Rattle.editor_session.specs.declared.editor.Editor.{Editor}
+use Rattle.editor_files.specs.Drawing.{DrawingState}
 use Rattle.scene_model.specs.declared.fault.SessionFault.{SessionFault}
 use Rattle.session_laws.specs.State.{State}
 use Rattle.editor_session.specs.Lines.{IsUnproposed, is_same_line}
@@ -23,29 +23,29 @@ abbrev pub no_line : Line
 no_line = record { connector = 0; corners = 0; changed = false }
 
 -- a line, and whether it is none of these
-abbrev pub told_line : Editor → WrittenRoute → Line
-told_line e l = record {
+abbrev pub told_line : DrawingState → WrittenRoute → Line
+told_line d l = record {
   connector = l.edge;
   corners = length l.points;
-  changed = not (list_any (λ m. is_same_line m l) e.lines_before.items);
+  changed = not (list_any (λ m. is_same_line m l) d.lines_before);
 }
 
 -- the line that was found, if one was
-abbrev pub found_line : Editor → Option WrittenRoute → Line
-found_line e None = no_line
-found_line e (Some l) = told_line e l
+abbrev pub found_line : DrawingState → Option WrittenRoute → Line
+found_line d None = no_line
+found_line d (Some l) = told_line d l
 
 -- the line at a place, from 0, of those that were asked for last
-abbrev pub line_at : Editor → ℕ → Line
-line_at e place = found_line e (slice_get e.lines.items place)
+abbrev pub line_at : DrawingState → ℕ → Line
+line_at d place = found_line d (slice_get d.lines place)
 
 -- the corner at a place of a line, from 0
 abbrev pub corner_of : Option WrittenRoute → ℕ → Option Point
 corner_of None at = None
 corner_of (Some l) at = slice_get l.points at
 
-abbrev pub corner_at : Editor → ℕ → ℕ → Option Point
-corner_at e place at = corner_of (slice_get e.lines.items place) at
+abbrev pub corner_at : DrawingState → ℕ → ℕ → Option Point
+corner_at d place at = corner_of (slice_get d.lines place) at
 
 -- the corner is written if there is one; otherwise nothing is
 abbrev pub IsWritten : Option Point → Bool → Corner → Corner → Type 0

@@ -5,15 +5,15 @@ use base.Fml.{Fml}
 use denote.RattleType.{RattleType}
 use denote.RawPtr.{Ptr, lies_at, room_at}
 use Rattle.std.specs.contracts.option.Option as option
-use Rattle.editor_session.specs.contracts.editor.Editor as editor
-use Rattle.editor_session.specs.declared.editor.Editor.{Editor}
+use Rattle.editor_files.specs.contracts.drawing.Drawing as drawing
+use Rattle.editor_files.specs.Drawing.{DrawingState}
 
--- an editor or none, as a type of the logic
+-- a drawing or none, as a type of the logic
 abbrev pub Held : RattleType
-Held = option.the_row editor.the_row
+Held = option.the_row drawing.the_row
 
--- what lies in the caller's room: an editor, or none
-abbrev pub owned : Ptr → Option Editor → Fml
+-- what lies in the caller's room: a drawing, or none
+abbrev pub owned : Ptr → Option DrawingState → Fml
 owned at held = lies_at Held full_share at held
 
 -- the room by itself

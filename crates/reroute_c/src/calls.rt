@@ -1,16 +1,15 @@
 //! The calls of a session: open, close, transactions, undo and redo.
 ghost use Rattle.std.specs.Prelude.{◌≡◌, ◌≢◌, ◌⊎◌, IfSome, IsNone, IsSome, None};
 ghost use Rattle.reroute_c.specs.Codes.{IsAnswered, already_open_fault, memory_fault, no_fault};
-ghost use Rattle.reroute_c.specs.Open.{IfOpen, IsOpened, IsRefusedClosed, KeepsAnswers, KeepsLines};
-ghost use Rattle.route_book.specs.Exchange.{CountsStale};
+ghost use Rattle.reroute_c.specs.Open.{IfOpen, IsOpenedEmpty, IsRefusedClosed};
+ghost use Rattle.scene_model.specs.World.{IsDirectedCommand};
 ghost use Rattle.scene_model.specs.declared.edit.Command.TheVariants as commands;
 
 use crate::fault::Fault;
 use crate::handle::Handle;
-use editor_session::Editor;
-use scene_model::SessionFault;
-use scene_store::Scene;
-use std::alloc::Global;
+use editor_files::Drawing;
+use scene_model::{Command, SessionFault};
+use std::alloc::{AllocError, Global};
 
 /// The version of the interface: the major number times 65,536, the minor one times 256, and the patch.
 #[unsafe(no_mangle)]
@@ -25,15 +24,15 @@ pub extern "C" fn reroute_version() -> u32
 /// The fault is 3 exactly if one is open, which stays as it is; otherwise only 99.
 #[unsafe(no_mangle)]
 pub extern "C" fn reroute_open(alloc: Global, handle: &mut Handle) -> Fault
-    ensures open { IsSome handle.old.editor → (result ≡ already_open_fault) × (handle.new.editor ≡ handle.old.editor) }
-    ensures closed { IsNone handle.old.editor → (result ≡ no_fault) ⊎ (result ≡ memory_fault) }
-    ensures opened { result.code ≡ 0 → IfSome handle.new.editor IsOpened }
-    ensures there { result.code ≡ 0 → IsSome handle.new.editor }
-    ensures memory { result.code ≡ 99 → IsNone handle.new.editor }
+    ensures open { IsSome handle.old.drawing → (result ≡ already_open_fault) × (handle.new.drawing ≡ handle.old.drawing) }
+    ensures closed { IsNone handle.old.drawing → (result ≡ no_fault) ⊎ (result ≡ memory_fault) }
+    ensures opened { result.code ≡ 0 → IfSome handle.new.drawing IsOpenedEmpty }
+    ensures there { result.code ≡ 0 → IsSome handle.new.drawing }
+    ensures memory { result.code ≡ 99 → IsNone handle.new.drawing }
 {
     match handle.replace(None) {
-        Some(editor) => {
-            handle.replace(Some(editor));
+        Some(drawing) => {
+            handle.replace(Some(drawing));
             Fault::of(Err(SessionFault::AlreadyOpen))
         }
         None => open_in(alloc, handle),
@@ -42,114 +41,91 @@ pub extern "C" fn reroute_open(alloc: Global, handle: &mut Handle) -> Fault
 
 /// Opens a session on the empty scene where none is open. The only fault is 99.
 fn open_in(alloc: Global, handle: &mut Handle) -> Fault
-    requires { IsNone handle.old.editor }
+    requires { IsNone handle.old.drawing }
     ensures faults { (result ≡ no_fault) ⊎ (result ≡ memory_fault) }
-    ensures opened { result.code ≡ 0 → IfSome handle.new.editor IsOpened }
-    ensures there { result.code ≡ 0 → IsSome handle.new.editor }
-    ensures memory { result.code ≡ 99 → IsNone handle.new.editor }
+    ensures opened { result.code ≡ 0 → IfSome handle.new.drawing IsOpenedEmpty }
+    ensures there { result.code ≡ 0 → IsSome handle.new.drawing }
+    ensures memory { result.code ≡ 99 → IsNone handle.new.drawing }
 {
-    match Editor::open(alloc, Scene::new(alloc)) {
-        Ok(editor) => {
-            handle.replace(Some(editor));
+    match Drawing::new(alloc) {
+        Ok(drawing) => {
+            handle.replace(Some(drawing));
             Fault::none()
         }
-        Err(_) => Fault::memory(),
+        Err(AllocError) => Fault::memory(),
     }
 }
 
 /// Closes the session and gives its memory back. Does nothing if none is open.
 #[unsafe(no_mangle)]
 pub extern "C" fn reroute_close(handle: &mut Handle)
-    ensures { handle.new.editor ≡ None }
+    ensures { handle.new.drawing ≡ None }
 {
     drop(handle.replace(None));
+}
+
+/// Calls the session as a command says.
+pub(crate) fn call(handle: &mut Handle, command: &Command) -> Fault
+    requires directed { IsDirectedCommand command.now }
+    requires form { command.now ≢ commands.Bad }
+    ensures closed { IsNone handle.old.drawing → IsRefusedClosed result handle.new.drawing }
+    ensures open { IsSome handle.old.drawing → IsSome handle.new.drawing }
+    ensures call { IfOpen handle.old.drawing handle.new.drawing (IsAnswered command.now result) }
+{
+    let Some(mut drawing) = handle.replace(None) else {
+        return Fault::closed();
+    };
+    let answer = drawing.call(command);
+    handle.replace(Some(drawing));
+    Fault::of(answer)
 }
 
 /// Opens a transaction.
 #[unsafe(no_mangle)]
 pub extern "C" fn reroute_begin(handle: &mut Handle) -> Fault
-    ensures closed { IsNone handle.old.editor → IsRefusedClosed result handle.new.editor }
-    ensures open { IsSome handle.old.editor → IsSome handle.new.editor }
-    ensures call { IfOpen handle.old.editor handle.new.editor (λ s n. IsAnswered commands.Begin result s.session n.session) }
-    ensures keeps { IfOpen handle.old.editor handle.new.editor KeepsAnswers }
+    ensures closed { IsNone handle.old.drawing → IsRefusedClosed result handle.new.drawing }
+    ensures open { IsSome handle.old.drawing → IsSome handle.new.drawing }
+    ensures call { IfOpen handle.old.drawing handle.new.drawing (IsAnswered commands.Begin result) }
 {
-    let Some(mut editor) = handle.replace(None) else {
-        return Fault::closed();
-    };
-    let answer = editor.session.begin();
-    editor.session.right();
-    handle.replace(Some(editor));
-    Fault::of(answer)
+    call(handle, &Command::Begin)
 }
 
 /// Closes the transaction, with right routes. Only the stale connectors are searched, by this thread alone.
 #[unsafe(no_mangle)]
 pub extern "C" fn reroute_commit(handle: &mut Handle) -> Fault
-    ensures closed { IsNone handle.old.editor → IsRefusedClosed result handle.new.editor }
-    ensures open { IsSome handle.old.editor → IsSome handle.new.editor }
-    ensures call { IfOpen handle.old.editor handle.new.editor (λ s n. IsAnswered commands.Commit result s.session n.session) }
-    ensures book { result.code ≢ 0 → IfOpen handle.old.editor handle.new.editor (λ s n. n.session.book ≡ s.session.book) }
-    ensures searched { result.code ≡ 0 → IfOpen handle.old.editor handle.new.editor (λ s n.
-        CountsStale s.session.world.present s.session.book n.session.world.present s.session.searched n.session.searched) }
-    ensures lines { IfOpen handle.old.editor handle.new.editor KeepsLines }
+    ensures closed { IsNone handle.old.drawing → IsRefusedClosed result handle.new.drawing }
+    ensures open { IsSome handle.old.drawing → IsSome handle.new.drawing }
+    ensures call { IfOpen handle.old.drawing handle.new.drawing (IsAnswered commands.Commit result) }
 {
-    let Some(mut editor) = handle.replace(None) else {
-        return Fault::closed();
-    };
-    let answer = editor.session.commit_alone();
-    handle.replace(Some(editor));
-    Fault::of(answer)
+    call(handle, &Command::Commit)
 }
 
 /// Drops the transaction. Takes no memory.
 #[unsafe(no_mangle)]
 pub extern "C" fn reroute_abort(handle: &mut Handle) -> Fault
-    ensures closed { IsNone handle.old.editor → IsRefusedClosed result handle.new.editor }
-    ensures open { IsSome handle.old.editor → IsSome handle.new.editor }
-    ensures call { IfOpen handle.old.editor handle.new.editor (λ s n. IsAnswered commands.Abort result s.session n.session) }
-    ensures keeps { IfOpen handle.old.editor handle.new.editor KeepsAnswers }
+    ensures closed { IsNone handle.old.drawing → IsRefusedClosed result handle.new.drawing }
+    ensures open { IsSome handle.old.drawing → IsSome handle.new.drawing }
+    ensures call { IfOpen handle.old.drawing handle.new.drawing (IsAnswered commands.Abort result) }
 {
-    let Some(mut editor) = handle.replace(None) else {
-        return Fault::closed();
-    };
-    let answer = editor.session.abort();
-    editor.session.right();
-    handle.replace(Some(editor));
-    Fault::of(answer)
+    call(handle, &Command::Abort)
 }
 
 /// Goes one scene back, with its routes, without a search.
 #[unsafe(no_mangle)]
 pub extern "C" fn reroute_undo(handle: &mut Handle) -> Fault
-    ensures closed { IsNone handle.old.editor → IsRefusedClosed result handle.new.editor }
-    ensures open { IsSome handle.old.editor → IsSome handle.new.editor }
-    ensures call { IfOpen handle.old.editor handle.new.editor (λ s n. IsAnswered commands.Undo result s.session n.session) }
-    ensures book { result.code ≢ 0 → IfOpen handle.old.editor handle.new.editor (λ s n. n.session.book ≡ s.session.book) }
-    ensures searched { IfOpen handle.old.editor handle.new.editor (λ s n. n.session.searched ≡ s.session.searched) }
-    ensures lines { IfOpen handle.old.editor handle.new.editor KeepsLines }
+    ensures closed { IsNone handle.old.drawing → IsRefusedClosed result handle.new.drawing }
+    ensures open { IsSome handle.old.drawing → IsSome handle.new.drawing }
+    ensures call { IfOpen handle.old.drawing handle.new.drawing (IsAnswered commands.Undo result) }
 {
-    let Some(mut editor) = handle.replace(None) else {
-        return Fault::closed();
-    };
-    let answer = editor.session.undo();
-    handle.replace(Some(editor));
-    Fault::of(answer)
+    call(handle, &Command::Undo)
 }
 
 /// Goes one scene forward, with its routes, without a search.
 #[unsafe(no_mangle)]
 pub extern "C" fn reroute_redo(handle: &mut Handle) -> Fault
-    ensures closed { IsNone handle.old.editor → IsRefusedClosed result handle.new.editor }
-    ensures open { IsSome handle.old.editor → IsSome handle.new.editor }
-    ensures call { IfOpen handle.old.editor handle.new.editor (λ s n. IsAnswered commands.Redo result s.session n.session) }
-    ensures book { result.code ≢ 0 → IfOpen handle.old.editor handle.new.editor (λ s n. n.session.book ≡ s.session.book) }
-    ensures searched { IfOpen handle.old.editor handle.new.editor (λ s n. n.session.searched ≡ s.session.searched) }
-    ensures lines { IfOpen handle.old.editor handle.new.editor KeepsLines }
+    ensures closed { IsNone handle.old.drawing → IsRefusedClosed result handle.new.drawing }
+    ensures open { IsSome handle.old.drawing → IsSome handle.new.drawing }
+    ensures call { IfOpen handle.old.drawing handle.new.drawing (IsAnswered commands.Redo result) }
 {
-    let Some(mut editor) = handle.replace(None) else {
-        return Fault::closed();
-    };
-    let answer = editor.session.redo();
-    handle.replace(Some(editor));
-    Fault::of(answer)
+    call(handle, &Command::Redo)
 }

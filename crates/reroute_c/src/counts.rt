@@ -3,42 +3,42 @@ ghost use Rattle.std.specs.Prelude.{◌≡◌, IfSome, IsNone, length};
 ghost use Rattle.scene_model.specs.Scene.{connectors};
 
 use crate::handle::Handle;
-use editor_session::Editor;
+use editor_files::Drawing;
 
 /// The number of boxes of the present scene; 0 if no session is open.
 #[unsafe(no_mangle)]
 pub extern "C" fn reroute_box_count(handle: &mut Handle) -> usize
-    ensures closed { IsNone handle.old.editor → result ≡ 0 }
-    ensures count { IfSome handle.old.editor (λ s. result ≡ length s.session.world.present.nodes) }
-    ensures kept { handle.new.editor ≡ handle.old.editor }
+    ensures closed { IsNone handle.old.drawing → result ≡ 0 }
+    ensures count { IfSome handle.old.drawing (λ s. result ≡ length s.session.world.present.nodes) }
+    ensures kept { handle.new.drawing ≡ handle.old.drawing }
 {
-    let Some(editor) = handle.replace(None) else {
+    let Some(drawing) = handle.replace(None) else {
         return 0;
     };
-    let count = editor.session.scene().nodes().len();
-    handle.replace(Some(editor));
+    let count = drawing.editor().session.scene().nodes().len();
+    handle.replace(Some(drawing));
     count
 }
 
 /// The number of connectors of the present scene: there is one answer for each.
 #[tactic(auto, using(crate::proofs::Answered::one_each))]
-fn connector_count(editor: &Editor) -> usize
-    ensures { result ≡ length (connectors editor.now.session.world.present) }
+fn connector_count(drawing: &Drawing) -> usize
+    ensures { result ≡ length (connectors drawing.now.session.world.present) }
 {
-    editor.session.book().answers().len()
+    drawing.editor().session.book().answers().len()
 }
 
 /// The number of connectors of the present scene; 0 if no session is open.
 #[unsafe(no_mangle)]
 pub extern "C" fn reroute_connector_count(handle: &mut Handle) -> usize
-    ensures closed { IsNone handle.old.editor → result ≡ 0 }
-    ensures count { IfSome handle.old.editor (λ s. result ≡ length (connectors s.session.world.present)) }
-    ensures kept { handle.new.editor ≡ handle.old.editor }
+    ensures closed { IsNone handle.old.drawing → result ≡ 0 }
+    ensures count { IfSome handle.old.drawing (λ s. result ≡ length (connectors s.session.world.present)) }
+    ensures kept { handle.new.drawing ≡ handle.old.drawing }
 {
-    let Some(editor) = handle.replace(None) else {
+    let Some(drawing) = handle.replace(None) else {
         return 0;
     };
-    let count = connector_count(&editor);
-    handle.replace(Some(editor));
+    let count = connector_count(&drawing);
+    handle.replace(Some(drawing));
     count
 }

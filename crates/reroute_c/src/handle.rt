@@ -1,33 +1,33 @@
 //! The handle: the place of a session in its caller's room.
 ghost use Rattle.std.specs.Prelude.{◌≡◌, None, Option};
 ghost use Rattle.std.specs.Borrow.{sem};
-ghost use Rattle.editor_session.specs.declared.editor.Editor.{Editor as HeldEditor};
-ghost use Rattle.reroute_c.specs.Owned.{owned, room};
+ghost use Rattle.editor_files.specs.Drawing.{DrawingState};
+ghost use Rattle.reroute_c.specs.Owned.{Held, owned, room};
 
-use editor_session::Editor;
+use editor_files::Drawing;
 use std::marker::Model;
 
 /// A session's handle in C: the place of a session, with the lines that were asked for, or of none.
 #[repr(C)]
 pub struct Handle {
     held: *mut u8,
-    pub ghost editor: { Option HeldEditor },
+    pub ghost drawing: { Option DrawingState } by { Held.coded },
 }
 
 impl Model for Handle {
-    ghost also_owns = { λ h. owned h.held h.editor };
+    ghost also_owns = { λ h. owned h.held h.drawing };
 }
 
 impl Handle {
     /// What was there, with this in its place.
-    pub(crate) fn replace(&mut self, editor: Option<Editor>) -> Option<Editor>
-        ensures was { result ≡ self.old.editor }
-        ensures now { self.new.editor ≡ editor }
+    pub(crate) fn replace(&mut self, drawing: Option<Drawing>) -> Option<Drawing>
+        ensures was { result ≡ self.old.drawing }
+        ensures now { self.new.drawing ≡ drawing }
     {
-        let at = self.held as *mut Option<Editor>;
+        let at = self.held as *mut Option<Drawing>;
         unsafe {
             let old = at.read();
-            at.write(editor);
+            at.write(drawing);
             old
         }
     }
@@ -39,12 +39,12 @@ pub unsafe extern "C" fn reroute_ready(at: *mut u8)
     requires* { sem 𝓛 (room at) }
     ensures* { sem 𝓛 (owned at None) }
 {
-    let place = at as *mut Option<Editor>;
+    let place = at as *mut Option<Drawing>;
     place.write(None);
 }
 
 /// The number of bytes of a room.
 #[unsafe(no_mangle)]
 pub extern "C" fn reroute_size() -> usize {
-    std::mem::size_of::<Option<Editor>>()
+    std::mem::size_of::<Option<Drawing>>()
 }

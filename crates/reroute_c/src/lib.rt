@@ -7,5 +7,6 @@ mod calls;
 mod counts;
 mod edits;
 mod fault;
+mod files;
 mod handle;
 mod lines;

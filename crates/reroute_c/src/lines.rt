@@ -1,14 +1,15 @@
 //! The lines of the present scene: how many there are, their corners, their costs, and which changed.
 ghost use Rattle.std.specs.Prelude.{◌≡◌, ◌≢◌, IfSome, IsNone, IsSome, false, length};
+ghost use Rattle.editor_files.specs.Drawing.{Keeps};
 ghost use Rattle.editor_session.specs.Lines.{AreDrawn, AreProposed};
 ghost use Rattle.reroute_c.specs.Codes.{memory_fault};
 ghost use Rattle.reroute_c.specs.Lines.{IsCost, IsUnpreviewed, IsWritten, corner_at, cost_of, line_at, no_line};
-ghost use Rattle.reroute_c.specs.Open.{IfOpen, IsRefusedClosed, KeepsLines};
+ghost use Rattle.reroute_c.specs.Open.{IfOpen, IsRefusedClosed};
 ghost use Rattle.scene_model.specs.Stale.{answer_of};
 
 use crate::fault::Fault;
 use crate::handle::Handle;
-use editor_session::Editor;
+use editor_files::Drawing;
 use std::alloc::Global;
 
 /// A corner of a line.
@@ -34,22 +35,23 @@ pub struct Line {
 /// They can be read until this is called again. After a fault, which is 99 or 98, all is as before.
 #[unsafe(no_mangle)]
 pub extern "C" fn reroute_lines(handle: &mut Handle, count: &mut usize) -> Fault
-    ensures closed { IsNone handle.old.editor → IsRefusedClosed result handle.new.editor }
-    ensures open { IsSome handle.old.editor → IsSome handle.new.editor }
-    ensures session { IfOpen handle.old.editor handle.new.editor (λ s n. n.session ≡ s.session) }
-    ensures lines { result.code ≡ 0 → IfSome handle.new.editor (λ n. AreDrawn n.session n.lines.items) }
-    ensures lines_before { result.code ≡ 0 → IfOpen handle.old.editor handle.new.editor (λ s n. n.lines_before ≡ s.lines) }
-    ensures count { result.code ≡ 0 → IfSome handle.new.editor (λ n. count.new ≡ length n.lines.items) }
-    ensures refused { result.code ≢ 0 → IfOpen handle.old.editor handle.new.editor KeepsLines }
+    ensures closed { IsNone handle.old.drawing → IsRefusedClosed result handle.new.drawing }
+    ensures open { IsSome handle.old.drawing → IsSome handle.new.drawing }
+    ensures session { IfOpen handle.old.drawing handle.new.drawing (λ s n. n.session ≡ s.session) }
+    ensures document { IfOpen handle.old.drawing handle.new.drawing (λ s n. n.document ≡ s.document) }
+    ensures lines { result.code ≡ 0 → IfSome handle.new.drawing (λ n. AreDrawn n.session n.lines) }
+    ensures lines_before { result.code ≡ 0 → IfOpen handle.old.drawing handle.new.drawing (λ s n. n.lines_before ≡ s.lines) }
+    ensures count { result.code ≡ 0 → IfSome handle.new.drawing (λ n. count.new ≡ length n.lines) }
+    ensures refused { result.code ≢ 0 → IfOpen handle.old.drawing handle.new.drawing Keeps }
     ensures kept { result.code ≢ 0 → count.new ≡ count.old }
-    ensures memory { IsSome handle.old.editor → result.code ≢ 0 → result ≡ memory_fault }
+    ensures memory { IsSome handle.old.drawing → result.code ≢ 0 → result ≡ memory_fault }
 {
-    let Some(mut editor) = handle.replace(None) else {
+    let Some(mut drawing) = handle.replace(None) else {
         return Fault::closed();
     };
-    let answer = editor.update_lines();
-    let there = editor.lines.len();
-    handle.replace(Some(editor));
+    let answer = drawing.update_lines();
+    let there = drawing.editor().lines.len();
+    handle.replace(Some(drawing));
     match answer {
         Ok(()) => {
             *count = there;
@@ -65,31 +67,33 @@ pub extern "C" fn reroute_lines(handle: &mut Handle, count: &mut usize) -> Fault
 /// after a fault all is as before.
 #[unsafe(no_mangle)]
 pub extern "C" fn reroute_preview(alloc: Global, handle: &mut Handle, count: &mut usize) -> Fault
-    ensures closed { IsNone handle.old.editor → IsRefusedClosed result handle.new.editor }
-    ensures open { IsSome handle.old.editor → IsSome handle.new.editor }
-    ensures session { IfOpen handle.old.editor handle.new.editor (λ s n. n.session ≡ s.session) }
-    ensures lines { result.code ≡ 0 → IfSome handle.new.editor (λ n. AreProposed n.session n.lines.items) }
-    ensures lines_before { result.code ≡ 0 → IfOpen handle.old.editor handle.new.editor (λ s n. n.lines_before ≡ s.lines) }
-    ensures count { result.code ≡ 0 → IfSome handle.new.editor (λ n. count.new ≡ length n.lines.items) }
-    ensures fault { result.code ≢ 0 → IfSome handle.old.editor (λ s. IsUnpreviewed s.session result) }
-    ensures refused { result.code ≢ 0 → IfOpen handle.old.editor handle.new.editor KeepsLines }
+    ensures closed { IsNone handle.old.drawing → IsRefusedClosed result handle.new.drawing }
+    ensures open { IsSome handle.old.drawing → IsSome handle.new.drawing }
+    ensures session { IfOpen handle.old.drawing handle.new.drawing (λ s n. n.session ≡ s.session) }
+    ensures document { IfOpen handle.old.drawing handle.new.drawing (λ s n. n.document ≡ s.document) }
+    ensures lines { result.code ≡ 0 → IfSome handle.new.drawing (λ n. AreProposed n.session n.lines) }
+    ensures lines_before { result.code ≡ 0 → IfOpen handle.old.drawing handle.new.drawing (λ s n. n.lines_before ≡ s.lines) }
+    ensures count { result.code ≡ 0 → IfSome handle.new.drawing (λ n. count.new ≡ length n.lines) }
+    ensures fault { result.code ≢ 0 → IfSome handle.old.drawing (λ s. IsUnpreviewed s.session result) }
+    ensures refused { result.code ≢ 0 → IfOpen handle.old.drawing handle.new.drawing Keeps }
     ensures kept { result.code ≢ 0 → count.new ≡ count.old }
 {
-    let Some(mut editor) = handle.replace(None) else {
+    let Some(mut drawing) = handle.replace(None) else {
         return Fault::closed();
     };
-    let answer = editor.update_proposed(alloc);
+    let answer = drawing.update_proposed(alloc);
     if answer.is_ok() {
-        *count = editor.lines.len();
+        *count = drawing.editor().lines.len();
     }
-    handle.replace(Some(editor));
+    handle.replace(Some(drawing));
     Fault::of(answer)
 }
 
 /// The line at the place, from 0, of those that were asked for last.
-fn line_of(editor: &Editor, place: usize) -> Line
-    ensures { result ≡ line_at editor.now place }
+fn line_of(drawing: &Drawing, place: usize) -> Line
+    ensures { result ≡ line_at drawing.now place }
 {
+    let editor = drawing.editor();
     match editor.line(place) {
         Some(line) => Line {
             connector: line.edge,
@@ -107,27 +111,27 @@ fn line_of(editor: &Editor, place: usize) -> Line
 /// The line at the place, from 0, of those that were asked for last.
 #[unsafe(no_mangle)]
 pub extern "C" fn reroute_line(handle: &mut Handle, place: usize) -> Line
-    ensures closed { IsNone handle.old.editor → result ≡ no_line }
-    ensures line { IfSome handle.old.editor (λ s. result ≡ line_at s place) }
-    ensures kept { handle.new.editor ≡ handle.old.editor }
+    ensures closed { IsNone handle.old.drawing → result ≡ no_line }
+    ensures line { IfSome handle.old.drawing (λ s. result ≡ line_at s place) }
+    ensures kept { handle.new.drawing ≡ handle.old.drawing }
 {
-    let Some(editor) = handle.replace(None) else {
+    let Some(drawing) = handle.replace(None) else {
         return Line {
             connector: 0,
             corners: 0,
             changed: false,
         };
     };
-    let line = line_of(&editor, place);
-    handle.replace(Some(editor));
+    let line = line_of(&drawing, place);
+    handle.replace(Some(drawing));
     line
 }
 
 /// Writes a corner of a line, if there is one.
-fn write_corner(editor: &Editor, place: usize, at: usize, corner: &mut Corner) -> bool
-    ensures { IsWritten (corner_at editor.now place at) result corner.old corner.new }
+fn write_corner(drawing: &Drawing, place: usize, at: usize, corner: &mut Corner) -> bool
+    ensures { IsWritten (corner_at drawing.now place at) result corner.old corner.new }
 {
-    let Some(line) = editor.line(place) else {
+    let Some(line) = drawing.editor().line(place) else {
         return false;
     };
     let Some(point) = line.points.as_slice().get(at) else {
@@ -146,24 +150,24 @@ pub extern "C" fn reroute_corner(
     at: usize,
     corner: &mut Corner,
 ) -> bool
-    ensures closed { IsNone handle.old.editor → result ≡ false }
-    ensures closed_kept { IsNone handle.old.editor → corner.new ≡ corner.old }
-    ensures corner { IfSome handle.old.editor (λ s. IsWritten (corner_at s place at) result corner.old corner.new) }
-    ensures kept { handle.new.editor ≡ handle.old.editor }
+    ensures closed { IsNone handle.old.drawing → result ≡ false }
+    ensures closed_kept { IsNone handle.old.drawing → corner.new ≡ corner.old }
+    ensures corner { IfSome handle.old.drawing (λ s. IsWritten (corner_at s place at) result corner.old corner.new) }
+    ensures kept { handle.new.drawing ≡ handle.old.drawing }
 {
-    let Some(editor) = handle.replace(None) else {
+    let Some(drawing) = handle.replace(None) else {
         return false;
     };
-    let there = write_corner(&editor, place, at, corner);
-    handle.replace(Some(editor));
+    let there = write_corner(&drawing, place, at, corner);
+    handle.replace(Some(drawing));
     there
 }
 
 /// Writes the cost of a connector's route, if it has one.
-fn write_cost(editor: &Editor, connector: u32, cost: &mut u64) -> bool
-    ensures { IsCost (cost_of (answer_of editor.now.session.book connector)) result cost.old cost.new }
+fn write_cost(drawing: &Drawing, connector: u32, cost: &mut u64) -> bool
+    ensures { IsCost (cost_of (answer_of drawing.now.session.book connector)) result cost.old cost.new }
 {
-    let Some(answer) = editor.session.book().answer(connector) else {
+    let Some(answer) = drawing.editor().session.book().answer(connector) else {
         return false;
     };
     let Some(route) = &answer.route else {
@@ -176,30 +180,30 @@ fn write_cost(editor: &Editor, connector: u32, cost: &mut u64) -> bool
 /// Writes what a connector's route costs before nudging, length and bends; whether it has one.
 #[unsafe(no_mangle)]
 pub extern "C" fn reroute_cost(handle: &mut Handle, connector: u32, cost: &mut u64) -> bool
-    ensures closed { IsNone handle.old.editor → result ≡ false }
-    ensures closed_kept { IsNone handle.old.editor → cost.new ≡ cost.old }
-    ensures cost { IfSome handle.old.editor (λ s. IsCost (cost_of (answer_of s.session.book connector)) result cost.old cost.new) }
-    ensures kept { handle.new.editor ≡ handle.old.editor }
+    ensures closed { IsNone handle.old.drawing → result ≡ false }
+    ensures closed_kept { IsNone handle.old.drawing → cost.new ≡ cost.old }
+    ensures cost { IfSome handle.old.drawing (λ s. IsCost (cost_of (answer_of s.session.book connector)) result cost.old cost.new) }
+    ensures kept { handle.new.drawing ≡ handle.old.drawing }
 {
-    let Some(editor) = handle.replace(None) else {
+    let Some(drawing) = handle.replace(None) else {
         return false;
     };
-    let there = write_cost(&editor, connector, cost);
-    handle.replace(Some(editor));
+    let there = write_cost(&drawing, connector, cost);
+    handle.replace(Some(drawing));
     there
 }
 
 /// The number of searches; 0 if no session is open.
 #[unsafe(no_mangle)]
 pub extern "C" fn reroute_searched(handle: &mut Handle) -> u64
-    ensures closed { IsNone handle.old.editor → result ≡ 0 }
-    ensures searched { IfSome handle.old.editor (λ s. result ≡ s.session.searched) }
-    ensures kept { handle.new.editor ≡ handle.old.editor }
+    ensures closed { IsNone handle.old.drawing → result ≡ 0 }
+    ensures searched { IfSome handle.old.drawing (λ s. result ≡ s.session.searched) }
+    ensures kept { handle.new.drawing ≡ handle.old.drawing }
 {
-    let Some(editor) = handle.replace(None) else {
+    let Some(drawing) = handle.replace(None) else {
         return 0;
     };
-    let searched = editor.session.searched();
-    handle.replace(Some(editor));
+    let searched = drawing.editor().session.searched();
+    handle.replace(Some(drawing));
     searched
 }

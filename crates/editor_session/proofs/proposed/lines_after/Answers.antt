@@ -7,7 +7,7 @@ use Rattle.scene_model.specs.Scene.{Scene}
 use Rattle.scene_model.specs.World.{taken}
 use Rattle.session_laws.specs.State.{State}
 use Rattle.session_laws.specs.Calls.{IsCall}
-use Rattle.editor_session.specs.Lines.{AreDrawn, AreProposed}
+use Rattle.editor_session.specs.Lines.{AreDrawn}
 use Rattle.editor_session.proofs.proposed.lines_after.Goals as goal
 
 -- the session after a commit of its open transaction, with this working scene and its right answers

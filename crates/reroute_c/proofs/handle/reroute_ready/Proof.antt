@@ -1,4 +1,4 @@
--- `reroute_ready` writes into a room that there is no editor.
+-- `reroute_ready` writes into a room that there is no drawing.
 use Rattle.std.proofs.Common.{None, [], ◌∷◌, refl, lit<}
 use mir.Val.{vunit, vnil}
 use types.Match.{live}
@@ -21,7 +21,7 @@ use denote.Triple.Walked.{Stays, walk_of, stay_dropped, Goes-dropped, ends_at}
 use borrow.Table.OneValue.{part_in}
 use Rattle.std.proofs.option.Made.{none_of}
 use Rattle.std.proofs.raw_atomic.Walks.{proved}
-use Rattle.editor_session.specs.contracts.editor.Editor as editor
+use Rattle.editor_files.specs.contracts.drawing.Drawing as drawing
 use Rattle.reroute_c.specs.Owned.{Held, room}
 use Rattle.reroute_c.specs.contracts.handle.reroute_ready as f
 use Rattle.reroute_c.proofs.handle.reroute_ready.Statement.{statement}
@@ -48,7 +48,7 @@ reroute_ready_spec 𝓤 𝓛 𝓜 𝓡 wired =
     assigns ! (of_opd ! (get ! refl)) (through ! refl (stop !)) (init ! 0 refl (tt, (record { fits = lit< tt }, tt))) $
     sets ! (of_opd ! (unit_lit !)) refl (tt, tt) $
     returns ! (look_at ! 0 refl) $ free_all ! refl $
-    use0 𝓛 (‵ (Held.own_val None (live 0 vnil ∷ []))) (none_of 𝓛 editor.the_row) $
+    use0 𝓛 (‵ (Held.own_val None (live 0 vnil ∷ []))) (none_of 𝓛 drawing.the_row) $
     move ! (1 ∷ 0 ∷ []) $ use2 𝓛 (‵ (lies_at Held full_share (block_ptr b o) None)) (part_in 𝓛 Held refl full_share None b o (live 0 vnil)) $
     suffices ! _ (ends_at 𝓛 f.ended stayed c (y (block_ptr b o)) vunit tt (tt, tt) (tt, tt)) $
     feq_i ! _ (vunit ∷ []) _ refl $ nothing ! $ nothing ! $ join ! $ nothing ! $ group ! 3 $ done !)))

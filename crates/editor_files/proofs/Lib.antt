@@ -1,0 +1,3 @@
+-- The lemmas of drawings.
+mod Playing
+mod Sources
