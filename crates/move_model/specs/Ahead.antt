@@ -34,7 +34,7 @@ with_stretch penalty heading s v = record {
   lean = (if turn heading s.dir == 0 then pos 0 else across (way_of s.dir) s.from) +ℤ v.lean;
 }
 
--- the same after so many steps straight on
+-- the same with n steps straight on in front
 abbrev pub with_steps : ℕ → Ahead → Ahead
 with_steps n v = record { cost = v.cost + n; runs = v.runs; lean = v.lean }
 

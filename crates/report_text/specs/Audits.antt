@@ -6,7 +6,7 @@ use Rattle.report_text.specs.Lines.{line}
 abbrev pub audit_yes_line : List ℕ
 audit_yes_line = line (codes "audit: yes")
 
--- this is the first line at which the file is no certificate
+-- this is the first line at which the file is not a certificate
 abbrev pub audit_line_line : ℕ → List ℕ
 audit_line_line number = line (codes "audit: no, line " ++ decimal number)
 

@@ -12,7 +12,7 @@ pub fn push_audit_yes_line(out: &mut Vec<u8>) -> Result<(), AllocError>
     out.extend_from_slice(b"audit: yes\n")
 }
 
-/// Appends the line of a file that is no certificate, with the number of its first bad line.
+/// Appends the line of a file that is not a certificate, with the number of its first bad line.
 pub fn push_audit_line_line(out: &mut Vec<u8>, line: u64) -> Result<(), AllocError>
     ensures { OnOk result (out.new.items ≡ out.old.items ++ audit_line_line line) }
 {

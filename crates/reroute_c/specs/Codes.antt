@@ -1,4 +1,4 @@
--- The code and the value that tell C why a call is refused, and what a call that answers so did.
+-- The code and the value by which C learns why a call is refused, and what such a call did.
 use Rattle.std.specs.Prelude.{◌≡◌, ℕ, pos, Result, Ok, Err}
 use Rattle.scene_model.specs.declared.fault.SceneFault.{SceneFault}
 use Rattle.scene_model.specs.declared.fault.SceneFault.TheVariants as scenes

@@ -1,4 +1,4 @@
--- The lines as C is told of them.
+-- The lines as C reads them.
 use Rattle.std.specs.Prelude.{◌≡◌, ℕ, Bool, true, false, not, length, Option, None, Some, slice_get}
 use Rattle.std.specs.List.{list_any}
 use Rattle.plane_geom.specs.declared.point.Point.{Point}

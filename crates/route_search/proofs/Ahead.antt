@@ -1,6 +1,4 @@
--- What lies ahead of a place: its order, its bound, and the entries where walks begin.
-pub mod AheadOrder
-pub mod Bounding
-pub mod Known
+-- What lies ahead of a place: what is known of it, and the entries where walks begin.
+pub mod Knowing
 pub mod Starting
 pub mod LeastEntries

@@ -1,5 +1,5 @@
 -- The lemmas on searches, callees first.
+pub mod Matching
 pub mod Ahead
 pub mod Moving
-pub mod Offers
 pub mod Tracing

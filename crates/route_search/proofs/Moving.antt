@@ -1,4 +1,3 @@
 -- The next crossing in a direction, and how large what is added can be.
-pub mod Sizes
 pub mod TheMoves
 pub mod Directions

@@ -1,4 +1,5 @@
--- The invariants of the labels of a search, and the results of its calls.
-pub mod Labels
+-- What a finder keeps, what it knows at places, and how the first walk is followed.
+pub mod Matching
+pub mod Known
 pub mod Starting
 pub mod Following

@@ -1,55 +1,103 @@
 //! Searches over one arena.
-ghost use Rattle.std.specs.Prelude.{◌≡◌, IfOk};
+ghost use Rattle.std.specs.Prelude.{◌≡◌, All, IfOk, IfSome, IsSome, OnOk};
 ghost use Rattle.std.proofs.Props.{props};
 ghost use Rattle.move_model.specs.Problems.{IsProblem};
 ghost use Rattle.plane_geom.specs.declared.floor.Floor.{Floor};
-ghost use Rattle.search_labels.specs.Tables.{IsMarked};
+ghost use Rattle.plane_geom.specs.Rect.{RectIsOnSheet};
+ghost use Rattle.exit_rows.specs.Rows.{IsMarked};
+ghost use Rattle.exit_spread.specs.Searching.{AreNone};
+ghost use Rattle.route_search.specs.Matching.{AreLinesOf};
 ghost use Rattle.walk_model.specs.Answers.{IsAnswer};
 ghost use Rattle.line_arena.specs.Count.{counted_by};
-ghost use Rattle.route_search.specs.Labels.{AreNone};
 
-use crate::labels::Labels;
+use crate::follow::Follower;
 use crate::tally::Tally;
+use exit_spread::Spread;
 use line_arena::LineArena;
+use line_lists::LineLists;
 use plane_geom::Solid;
 use search_labels::Problem;
+use side_touches::Touches;
 use std::alloc::{AllocError, Global};
 use walk_model::{Route, Task};
 
-/// Searches over one arena, with tables that are kept from one search to the next.
+/// What searches read of the lines of an arena: their crossings in order, and the sides of solids
+/// that touch them.
+#[derive(Drop)]
+struct Lines {
+    lists: LineLists,
+    touches: Touches,
+}
+
+impl Lines {
+    /// Of the arena of a floor with these solids. The only error is out of memory.
+    fn new(alloc: Global, arena: &LineArena, solids: &[Solid]) -> Result<Lines, AllocError>
+        requires { All (λ s. RectIsOnSheet s.rect) solids.now }
+        ensures { IfOk result (AreLinesOf arena.now solids.now) }
+    {
+        arena.laws();
+        let lists = LineLists::new(alloc, arena)?;
+        let touches = Touches::new(alloc, lists.lines(), solids)?;
+        Ok(Lines { lists, touches })
+    }
+}
+
+/// Searches over one arena, with what they keep between them.
 #[derive(Drop)]
 pub struct Finder<'a> {
     alloc: Global,
     pub arena: &'a LineArena,
     pub solids: &'a [Solid],
-    labels: Labels,
-    ghost idle: { AreNone labels } by { Prim.hlevel props },
+    // Made by the first search.
+    lines: Option<Lines>,
+    spread: Spread,
+    ghost idle: { AreNone spread } by { Prim.hlevel props },
+    ghost made: { IfSome lines (AreLinesOf arena.now solids.now) } by { Prim.hlevel props },
 }
 
-/// The result of a search that begins without labels and leaves some.
+/// Makes the lines of the arena of a floor with these solids, unless they were made.
+fn make_lines(
+    alloc: Global,
+    arena: &LineArena,
+    solids: &[Solid],
+    lines: &mut Option<Lines>,
+) -> Result<(), AllocError>
+    requires solids { All (λ s. RectIsOnSheet s.rect) solids.now }
+    requires made { IfSome lines.old (AreLinesOf arena.now solids.now) }
+    ensures made { IfSome lines.new (AreLinesOf arena.now solids.now) }
+    ensures some { OnOk result (IsSome lines.new) }
+{
+    if lines.is_none() {
+        *lines = Some(Lines::new(alloc, arena, solids)?);
+    }
+    Ok(())
+}
+
+/// The result of a search that begins without exits and leaves some.
 fn search(
     alloc: Global,
     arena: &LineArena,
     solids: &[Solid],
     task: &Task,
-    labels: &mut Labels,
+    lines: &Lines,
+    spread: &mut Spread,
 ) -> Result<Option<Route>, AllocError>
     requires problem { (floor : Floor) × IsProblem floor arena.now solids.now task.now }
-    requires none { AreNone labels.old }
+    requires lines { AreLinesOf arena.now solids.now lines.now }
+    requires none { AreNone spread.old }
     ensures answer { IfOk result (IsAnswer solids.now task.now) }
-    ensures marked { IsMarked labels.new.table }
+    ensures marked { IsMarked spread.new.rows }
 {
     let stages = task.via.as_slice().len() + 1;
-    labels.table.fit(arena.places(), stages)?;
+    spread.rows.fit(alloc, lines.lists.lines().len(), stages)?;
     let problem = Problem::new(alloc, arena, solids, task)?;
-    labels.spread(&problem)?;
-    match labels.first_entry(&problem) {
-        None => Ok(None),
-        Some((entry, ahead)) => {
-            let route = labels.follow(&problem, alloc, entry, ahead)?;
-            Ok(Some(route))
-        }
-    }
+    spread.spread(&problem, &lines.lists, &lines.touches)?;
+    let follower = Follower {
+        problem: &problem,
+        lists: &lines.lists,
+        spread,
+    };
+    follower.route(alloc)
 }
 
 impl<'a> Finder<'a> {
@@ -62,7 +110,8 @@ impl<'a> Finder<'a> {
             alloc,
             arena,
             solids,
-            labels: Labels::new(alloc),
+            lines: None,
+            spread: Spread::new(alloc),
         }
     }
 
@@ -78,8 +127,19 @@ impl<'a> Finder<'a> {
         ensures solids { self.new.solids.now ≡ self.old.solids.now }
     {
         tally.rise();
-        let answer = search(self.alloc, self.arena, self.solids, task, &mut self.labels);
-        self.labels.clear();
+        make_lines(self.alloc, self.arena, self.solids, &mut self.lines)?;
+        let Some(lines) = &self.lines else {
+            unreachable!()
+        };
+        let answer = search(
+            self.alloc,
+            self.arena,
+            self.solids,
+            task,
+            lines,
+            &mut self.spread,
+        );
+        self.spread.clear();
         answer
     }
 }

@@ -1,4 +1,4 @@
-//! Follows the first walk forwards, from the entry to the end, along the labels.
+//! Follows the first walk forwards, from the entry to the end, by what is known at places.
 
 ghost use Rattle.std.specs.Prelude.{◌≡◌, ◌⊎◌, ◌+◌, ◌*◌, ◌^◌, ◌<◌, ◌≤◌, ◌==◌, ◌++◌, ◌∷◌, [], ◌↔◌, if◌then◌else◌, IsTrue, None, Some, All, Contains, IfOk, IfSome, IsNone, OnOk, unsigned_abs};
 ghost use Rattle.move_model.specs.Ahead.{with_stretch};
@@ -7,16 +7,18 @@ ghost use Rattle.plane_geom.specs.declared.point.Dir.{Dir};
 ghost use Rattle.route_search.specs.Following.{IsEarliest, IsJoined, IsMoveIn, IsNext, IsNextIn, IsNoLater, IsNoneIn, IsTailIn, MayEnd};
 ghost use Rattle.route_search.specs.declared.follow.Move.{Move};
 ghost use Rattle.route_search.specs.declared.follow.Tail.{Tail};
-ghost use Rattle.route_search.specs.Labels.{IsPlace, IsSearching, IsSmallAhead, IsSpread, label_at};
+ghost use Rattle.exit_spread.specs.Handing.{IsOfferable};
+ghost use Rattle.route_search.specs.Known.{IsKnowing, IsPlace, known_of};
 ghost use Rattle.route_search.specs.Starting.{EntersAt, IsBetterOf, IsLeastEntry, whole_from};
 ghost use Rattle.search_labels.specs.declared.ends.Entry.{Entry};
-ghost use Rattle.search_labels.specs.Labels.{ahead_in};
 ghost use Rattle.search_labels.specs.Origins.{IsSmallEntry};
 ghost use Rattle.search_labels.specs.Problems.{IsReady};
+ghost use Rattle.walk_model.specs.Answers.{IsAnswer};
 ghost use Rattle.walk_model.specs.Cost.{turn};
 ghost use Rattle.walk_model.specs.Order.{IsFirst, IsRouteOf, Triple};
 
-use crate::labels::Labels;
+use exit_spread::Spread;
+use line_lists::LineLists;
 use move_model::{Ahead, Place, Stretch};
 use plane_geom::{Dir, Point};
 use search_labels::{DIRS, Ending, Entry, NOTHING, Problem, stage_at};
@@ -143,24 +145,31 @@ fn turn_off(points: &mut Vec<Point>, heading: Dir, dir: Dir, at: Point) -> Resul
     Ok(())
 }
 
-impl Labels {
-    /// What is ahead of the place, by its label.
-    fn ahead_of(&self, problem: &Problem<'_>, place: &Place) -> Option<Ahead>
-        requires searching { IsSearching problem.now self.now None None }
-        requires place { IsPlace problem.now place.now }
-        ensures { result ≡ ahead_in (label_at self.now place.now) }
+/// Follows the first walk by what is known at places, once the exits of its problem were spread.
+#[derive(Clone, Copy)]
+pub struct Follower<'a> {
+    pub problem: &'a Problem<'a>,
+    pub lists: &'a LineLists,
+    pub spread: &'a Spread,
+}
+
+impl<'a> Follower<'a> {
+    /// What is known to lie ahead of the place.
+    fn ahead_of(&self, place: &Place) -> Option<Ahead>
+        requires knowing { IsKnowing self.now }
+        requires place { IsPlace self.now.problem.now place.now }
+        ensures { result ≡ known_of self.now place.now }
     {
-        let number = problem.arena.index(place.crossing);
-        self.table.label(place, number).ahead()
+        self.spread.ahead_of(self.problem, self.lists, place)
     }
 
     /// Whether a walk at the position may end with the stub of the ending, which leads in the
     /// direction.
-    fn may_end(problem: &Problem<'_>, standing: &Standing, dir: Dir, ending: &Ending) -> bool
-        requires ready { IsReady problem.now }
+    fn may_end(&self, standing: &Standing, dir: Dir, ending: &Ending) -> bool
+        requires ready { IsReady self.now.problem.now }
         requires stage { standing.now.place.stage ≤ 4 }
-        requires ending { Contains problem.now.endings.items ending.now }
-        ensures { IsTrue result ↔ MayEnd problem.now standing.now dir ending.now }
+        requires ending { Contains self.now.problem.now.endings.items ending.now }
+        ensures { IsTrue result ↔ MayEnd self.now.problem.now standing.now dir ending.now }
     {
         let place = standing.place;
         let stub = Stretch {
@@ -168,27 +177,27 @@ impl Labels {
             dir,
             steps: ending.rest,
         };
-        place.stage as usize == problem.task.via.as_slice().len()
+        place.stage as usize == self.problem.task.via.as_slice().len()
             && ending.crossing == place.crossing
             && ending.dir == dir
             && makes(
                 NOTHING,
                 place.heading,
                 stub,
-                problem.task.penalty,
+                self.problem.task.penalty,
                 standing.ahead,
             )
     }
 
     /// The earliest end stub in the direction by which the walk may end.
-    fn tail_in(problem: &Problem<'_>, standing: &Standing, dir: Dir) -> Option<Tail>
-        requires ready { IsReady problem.now }
+    fn tail_in(&self, standing: &Standing, dir: Dir) -> Option<Tail>
+        requires ready { IsReady self.now.problem.now }
         requires stage { standing.now.place.stage ≤ 4 }
-        ensures { IsEarliest (IsTailIn problem.now standing.now dir problem.now.endings.items) result }
+        ensures { IsEarliest (IsTailIn self.now.problem.now standing.now dir self.now.problem.now.endings.items) result }
     {
         let mut best = standing.under_way(dir);
-        for ending in &problem.endings {
-            if Labels::may_end(problem, standing, dir, ending) {
+        for ending in &self.problem.endings {
+            if self.may_end(standing, dir, ending) {
                 best = Some(earlier(best, stub_of(ending)));
             }
         }
@@ -196,17 +205,19 @@ impl Labels {
     }
 
     /// The move in the direction, if an optimal walk may take it.
-    fn move_in(&self, problem: &Problem<'_>, standing: &Standing, dir: Dir) -> Option<Move>
-        requires ready { IsReady problem.now }
-        requires searching { IsSearching problem.now self.now None None }
-        requires place { IsPlace problem.now standing.now.place }
-        ensures is { IfSome result (IsMoveIn problem.now self.now standing.now dir) }
-        ensures none { IsNone result → (m : Move) → IsMoveIn problem.now self.now standing.now dir m → ⊥ }
+    fn move_in(&self, standing: &Standing, dir: Dir) -> Option<Move>
+        requires knowing { IsKnowing self.now }
+        requires place { IsPlace self.now.problem.now standing.now.place }
+        ensures is { IfSome result (IsMoveIn self.now.problem.now (known_of self.now) standing.now dir) }
+        ensures none { IsNone result → (m : Move) → IsMoveIn self.now.problem.now (known_of self.now) standing.now dir m → ⊥ }
     {
-        let crossing = problem.arena.next_on_line(standing.place.crossing, dir)?;
-        let from = problem.arena.point(standing.place.crossing);
-        let at = problem.arena.point(crossing);
-        let stage = stage_at(problem.task.via.as_slice(), standing.place.stage, at);
+        let crossing = self
+            .problem
+            .arena
+            .next_on_line(standing.place.crossing, dir)?;
+        let from = self.problem.arena.point(standing.place.crossing);
+        let at = self.problem.arena.point(crossing);
+        let stage = stage_at(self.problem.task.via.as_slice(), standing.place.stage, at);
         let to = Place {
             crossing,
             stage,
@@ -217,13 +228,13 @@ impl Labels {
             dir,
             steps: from.distance(at),
         };
-        let ahead = self.ahead_of(problem, &to)?;
+        let ahead = self.ahead_of(&to)?;
         let heading = standing.place.heading;
         if !makes(
             ahead,
             heading,
             stretch,
-            problem.task.penalty,
+            self.problem.task.penalty,
             standing.ahead,
         ) {
             return None;
@@ -236,28 +247,26 @@ impl Labels {
     }
 
     /// The first continuation of an optimal walk in the direction.
-    fn next_in(&self, problem: &Problem<'_>, standing: &Standing, dir: Dir) -> Option<Next>
-        requires ready { IsReady problem.now }
-        requires searching { IsSearching problem.now self.now None None }
-        requires place { IsPlace problem.now standing.now.place }
-        ensures is { IfSome result (IsNextIn problem.now self.now standing.now dir) }
-        ensures none { IsNone result → IsNoneIn problem.now self.now standing.now dir }
+    fn next_in(&self, standing: &Standing, dir: Dir) -> Option<Next>
+        requires knowing { IsKnowing self.now }
+        requires place { IsPlace self.now.problem.now standing.now.place }
+        ensures is { IfSome result (IsNextIn self.now.problem.now (known_of self.now) standing.now dir) }
+        ensures none { IsNone result → IsNoneIn self.now.problem.now (known_of self.now) standing.now dir }
     {
-        let tail = Labels::tail_in(problem, standing, dir);
-        let step = self.move_in(problem, standing, dir);
+        let tail = self.tail_in(standing, dir);
+        let step = self.move_in(standing, dir);
         joined(tail, step)
     }
 
     /// The first continuation of an optimal walk, and its direction.
-    fn next(&self, problem: &Problem<'_>, standing: &Standing) -> Option<(Dir, Next)>
-        requires ready { IsReady problem.now }
-        requires searching { IsSearching problem.now self.now None None }
-        requires place { IsPlace problem.now standing.now.place }
-        ensures is { IfSome result (λ r. IsNext problem.now self.now standing.now r.0 r.1) }
-        ensures none { IsNone result → (d : Dir) → IsNoneIn problem.now self.now standing.now d }
+    fn next(&self, standing: &Standing) -> Option<(Dir, Next)>
+        requires knowing { IsKnowing self.now }
+        requires place { IsPlace self.now.problem.now standing.now.place }
+        ensures is { IfSome result (λ r. IsNext self.now.problem.now (known_of self.now) standing.now r.0 r.1) }
+        ensures none { IsNone result → (d : Dir) → IsNoneIn self.now.problem.now (known_of self.now) standing.now d }
     {
         for dir in DIRS {
-            if let Some(next) = self.next_in(problem, standing, dir) {
+            if let Some(next) = self.next_in(standing, dir) {
                 return Some((dir, next));
             }
         }
@@ -265,20 +274,13 @@ impl Labels {
     }
 
     /// The route of the first optimal walk from `entry`; `ahead` is what is ahead of it there.
-    pub fn follow(
-        &self,
-        problem: &Problem<'_>,
-        alloc: Global,
-        entry: Entry,
-        ahead: Ahead,
-    ) -> Result<Route, AllocError>
-        requires ready { IsReady problem.now }
-        requires spread { IsSpread problem.now self.now }
-        requires entry { Contains problem.now.entries.items entry }
-        requires enters { (t : Triple) × EntersAt problem.now self.now entry ahead t }
-        ensures { IfOk result (λ r. (t : Triple) × IsFirst problem.now.solids.now problem.now.task.now t × IsRouteOf problem.now.task.now r t) }
+    fn follow(&self, alloc: Global, entry: Entry, ahead: Ahead) -> Result<Route, AllocError>
+        requires knowing { IsKnowing self.now }
+        requires entry { Contains self.now.problem.now.entries.items entry }
+        requires enters { (t : Triple) × EntersAt self.now.problem.now (known_of self.now) entry ahead t }
+        ensures { IfOk result (λ r. (t : Triple) × IsFirst self.now.problem.now.solids.now self.now.problem.now.task.now t × IsRouteOf self.now.problem.now.task.now r t) }
     {
-        let start = problem.task.starts.as_slice()[entry.choice as usize];
+        let start = self.problem.task.starts.as_slice()[entry.choice as usize];
         let mut points = vec![in alloc; start.pin]?;
         let mut standing = Standing {
             place: entry.place,
@@ -286,10 +288,10 @@ impl Labels {
             tail: None,
         };
         loop {
-            let Some((dir, next)) = self.next(problem, &standing) else {
+            let Some((dir, next)) = self.next(&standing) else {
                 unreachable!()
             };
-            let at = problem.arena.point(standing.place.crossing);
+            let at = self.problem.arena.point(standing.place.crossing);
             turn_off(&mut points, standing.place.heading, dir, at)?;
             match next {
                 Next::Go(further) => standing = further,
@@ -310,7 +312,7 @@ impl Labels {
     /// it.
     fn whole(entry: &Entry, ahead: Ahead) -> Ahead
         requires entry { IsSmallEntry entry.now }
-        requires ahead { IsSmallAhead ahead }
+        requires ahead { IsOfferable ahead }
         ensures { result ≡ whole_from entry.now ahead }
     {
         Ahead {
@@ -321,25 +323,19 @@ impl Labels {
     }
 
     /// The better of `entry` and the entry found so far; on a tie the one found so far.
-    fn better(
-        &self,
-        problem: &Problem<'_>,
-        entry: Entry,
-        found: Option<(Entry, Ahead)>,
-    ) -> Option<(Entry, Ahead)>
-        requires ready { IsReady problem.now }
-        requires searching { IsSearching problem.now self.now None None }
-        requires entry { Contains problem.now.entries.items entry }
-        requires found { IfSome found (λ f. Contains problem.now.entries.items f.0 × (ahead_in (label_at self.now f.0.place) ≡ Some f.1)) }
-        ensures { IsBetterOf self.now entry found result }
+    fn better(&self, entry: Entry, found: Option<(Entry, Ahead)>) -> Option<(Entry, Ahead)>
+        requires knowing { IsKnowing self.now }
+        requires entry { Contains self.now.problem.now.entries.items entry }
+        requires found { IfSome found (λ f. Contains self.now.problem.now.entries.items f.0 × (known_of self.now f.0.place ≡ Some f.1)) }
+        ensures { IsBetterOf (known_of self.now) entry found result }
     {
-        let Some(ahead) = self.ahead_of(problem, &entry.place) else {
+        let Some(ahead) = self.ahead_of(&entry.place) else {
             return found;
         };
         match found {
             None => Some((entry, ahead)),
             Some((other, known)) => {
-                if Labels::whole(&entry, ahead) < Labels::whole(&other, known) {
+                if Follower::whole(&entry, ahead) < Follower::whole(&other, known) {
                     Some((entry, ahead))
                 } else {
                     Some((other, known))
@@ -349,16 +345,30 @@ impl Labels {
     }
 
     /// The entry of the optimal walks, the earliest start choice on a tie, and what is ahead of it.
-    pub fn first_entry(&self, problem: &Problem<'_>) -> Option<(Entry, Ahead)>
-        requires ready { IsReady problem.now }
-        requires searching { IsSearching problem.now self.now None None }
-        ensures least { IfSome result (λ f. IsLeastEntry self.now problem.now.entries.items f.0 f.1) }
-        ensures none { IsNone result → All (λ e. ahead_in (label_at self.now e.place) ≡ None) problem.now.entries.items }
+    fn first_entry(&self) -> Option<(Entry, Ahead)>
+        requires knowing { IsKnowing self.now }
+        ensures least { IfSome result (λ f. IsLeastEntry (known_of self.now) self.now.problem.now.entries.items f.0 f.1) }
+        ensures none { IsNone result → All (λ e. known_of self.now e.place ≡ None) self.now.problem.now.entries.items }
     {
         let mut best = None;
-        for &entry in &problem.entries {
-            best = self.better(problem, entry, best);
+        for &entry in &self.problem.entries {
+            best = self.better(entry, best);
         }
         best
+    }
+
+    /// The route of the first walk, or `None` exactly if no walk is legal. The only error is out of
+    /// memory.
+    pub fn route(&self, alloc: Global) -> Result<Option<Route>, AllocError>
+        requires { IsKnowing self.now }
+        ensures { IfOk result (IsAnswer self.now.problem.now.solids.now self.now.problem.now.task.now) }
+    {
+        match self.first_entry() {
+            None => Ok(None),
+            Some((entry, ahead)) => {
+                let route = self.follow(alloc, entry, ahead)?;
+                Ok(Some(route))
+            }
+        }
     }
 }

@@ -5,8 +5,6 @@
 
 mod finder;
 mod follow;
-mod labels;
-mod spread;
 mod tally;
 
 pub use finder::{Finder, find_first};

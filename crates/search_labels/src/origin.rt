@@ -64,15 +64,6 @@ fn outside(low: i64, z: i64, high: i64) -> u64
 }
 
 impl Origin {
-    /// Whether the point lies in the box.
-    pub fn holds(&self, p: Point) -> bool
-        requires origin { IsOrigin self.now }
-        requires within { PointIsOnSheet p }
-        ensures { IsTrue result ↔ (distance_from self.now.ports p ≡ 0) }
-    {
-        self.distance(p) == 0
-    }
-
     /// The least number of steps from the box to the point.
     fn distance(&self, p: Point) -> u64
         requires origin { IsOrigin self.now }

@@ -40,7 +40,7 @@ pub struct Problem<'a> {
     pub task: &'a Task,
     pub entries: Vec<Entry>,
     pub endings: Vec<Ending>,
-    /// Where walks begin that have passed so many checkpoints: at the ports, and later at the last
+    /// Where walks begin, by the number of checkpoints that they have passed: at the ports, and later at the last
     /// checkpoint, in each heading.
     pub origins: Vec<Vec<Origin>>,
 }
@@ -154,33 +154,6 @@ fn all_stages(
     Ok(stages)
 }
 
-/// The cost of a walk that enters by the entry and costs `cost` from the place, if the entry is at
-/// the place; `MOST_COST` otherwise.
-fn cost_through(entry: &Entry, place: &Place, cost: u64) -> u64
-    requires lead { entry.now.lead ≤ 5 * 10 ^ 9 }
-    requires cost { cost < 2 ^ 63 }
-    ensures { (result ≡ most_cost) ⊎ ((entry.now.place ≡ place.now) × (result ≡ entry.now.lead + cost)) }
-{
-    if entry.place == *place {
-        entry.lead + cost
-    } else {
-        MOST_COST
-    }
-}
-
-/// Whether the point is in the box of the ports that walks leave with the heading.
-fn may_enter(origins: &[Origin], heading: Dir, at: Point) -> bool
-    requires origins { All IsOrigin origins.now }
-    requires within { PointIsOnSheet at }
-{
-    for origin in origins {
-        if origin.dir == heading && origin.holds(at) {
-            return true;
-        }
-    }
-    false
-}
-
 impl<'a> Problem<'a> {
     /// The problem of the task over the arena of a floor with these solids. The only error is out
     /// of memory.
@@ -221,24 +194,5 @@ impl<'a> Problem<'a> {
     {
         let origins = &self.origins[place.stage as usize];
         least_bound(origins, self.task.penalty, at, place.heading)
-    }
-
-    /// The least cost of a walk that enters at the place, which is at the point, and costs `cost`
-    /// from there; `MOST_COST` where there is none, or where none costs less.
-    pub fn least_whole(&self, place: &Place, at: Point, cost: u64) -> u64
-        requires ready { IsReady self.now }
-        requires within { PointIsOnSheet at }
-        requires cost { cost < 2 ^ 63 }
-        ensures most { result ≤ most_cost }
-        ensures attained { (result ≡ most_cost)
-            ⊎ Any (λ e. (e.place ≡ place.now) × (result ≡ e.lead + cost)) self.now.entries.items }
-    {
-        let mut least = MOST_COST;
-        if may_enter(&self.origins[0], place.heading, at) {
-            for entry in &self.entries {
-                least = least.min(cost_through(entry, place, cost));
-            }
-        }
-        least
     }
 }

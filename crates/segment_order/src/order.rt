@@ -71,7 +71,7 @@ pub fn line_order(a: &Run, a_route: &[Run], b: &Run, b_route: &[Run]) -> Orderin
 
 /// The first entry of the ray that leaves the run in the direction: where it turns, or that it stops.
 ///
-/// The run is handed with all runs of its route, in order. No memory is taken.
+/// The run comes with all runs of its route, in order. Takes no memory.
 pub fn first_entry(run: &Run, route: &[Run], dir: Dir) -> Entry
     ensures { (more : List Entry) × (ray route.now run.now dir ≡ result ∷ more) }
 {

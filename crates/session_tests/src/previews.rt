@@ -131,7 +131,7 @@ enum Question {
     Gates,
 }
 
-/// What comes of a question: whether the session stayed as it was, and a number that is 0 where all is right.
+/// The result of a question: whether the session stayed as it was, and a number that is 0 where all is right.
 #[derive(Clone, Copy, Debug, PartialEq, Eq)]
 struct Verdict {
     stays: bool,
@@ -153,7 +153,7 @@ fn answer<R: Threads + Sync>(
     }
 }
 
-/// What comes of the question in a session on the drawing.
+/// The result of the question in a session on the drawing.
 fn told<R: Threads + Sync>(
     rt: &R,
     alloc: Global,

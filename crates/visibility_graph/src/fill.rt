@@ -57,7 +57,7 @@ fn cross(arena: &mut LineArena, id: LineId, line: &Line, others: &[Line])
 {
     arena.laws();
     // Where all lines of the arena are the others, each stands at its own place among them; where they are not,
-    // mostly behind the one before it.
+    // mostly after the one before it.
     let (mut place, here) = beside(line, others);
     for other in here {
         if is_reached(line, other) {

@@ -9,19 +9,19 @@ use Rattle.std.proofs.lemmas.Cmp.{alike_right, nat_cmp_total, tied_itself}
 use Rattle.std.proofs.lemmas.List.{take-append-drop, take_all, take_more}
 use Rattle.std.proofs.lemmas.List.Elements.{All-cons, All-contains, All-nil, All-push, All-weaker, Contains-append_left, Contains-push}
 use Rattle.walk_model.specs.declared.task.Choice.{Choice}
+use Rattle.move_model.specs.declared.place.Place.{Place}
 use Rattle.move_model.specs.declared.ahead.Ahead.{Ahead}
 use Rattle.move_model.specs.Ahead.{ahead_cmp}
 use Rattle.search_labels.specs.Ends.{IsEntryOf}
-use Rattle.search_labels.specs.Labels.{ahead_in}
 use Rattle.search_labels.specs.Origins.{IsSmallEntry}
 use Rattle.search_labels.specs.Problems.{IsReady}
 use Rattle.search_labels.specs.declared.ends.Entry.{Entry}
 use Rattle.search_labels.specs.declared.problem.Problem.{Problem}
 use Rattle.search_labels.proofs.Choices.{entries_small}
-use Rattle.route_search.specs.declared.labels.Labels.{Labels}
-use Rattle.route_search.specs.Labels.{IsPlace, IsSearching, IsSmallAhead, label_at}
+use Rattle.exit_spread.specs.Handing.{IsOfferable}
+use Rattle.route_search.specs.Known.{IsAttained, IsPlace}
 use Rattle.route_search.specs.Starting.{EntersNoLater, IsBetterOf, IsLeastEntry, IsLeastOf, IsLessThan, whole_from}
-use Rattle.route_search.proofs.Ahead.AheadOrder.{ahead_total}
+use Rattle.exit_rows.proofs.Orders.{ahead_total}
 
 -- an entry of a problem stands at a place, and is small
 module _ (p : Problem) (ready : IsReady p) (e : Entry) (has : Contains p.entries.items e) where
@@ -37,19 +37,19 @@ module _ (p : Problem) (ready : IsReady p) (e : Entry) (has : Contains p.entries
       All-contains IsSmallEntry p.entries.items e
       (entries_small p.solids.now p.arena.now p.task.now (length p.task.now.starts) p.entries.items ready.problem.is_task ready.entries) has
 
--- so is an entry that was found, with its label
-pub found_is_small : (p : Problem) (l : Labels) → IsReady p → IsSearching p l None None → (found : Option (Entry × Ahead)) (f : Entry × Ahead) → found ≡ Some f →
-    IfSome found (λ g. Contains p.entries.items g.0 × (ahead_in (label_at l g.0.place) ≡ Some g.1)) → IsSmallEntry f.0 × IsSmallAhead f.1
-found_is_small p l ready searching found f same h =
-    let is : Contains p.entries.items f.0 × (ahead_in (label_at l f.0.place) ≡ Some f.1) =
-    subst (λ o. IfSome o (λ g. Contains p.entries.items g.0 × (ahead_in (label_at l g.0.place) ≡ Some g.1))) same h in
+-- so is an entry that was found, with what is known of it
+pub found_is_small : (p : Problem) (known : Place → Option Ahead) → IsReady p → IsAttained p known → (found : Option (Entry × Ahead)) (f : Entry × Ahead) → found ≡ Some f →
+    IfSome found (λ g. Contains p.entries.items g.0 × (known g.0.place ≡ Some g.1)) → IsSmallEntry f.0 × IsOfferable f.1
+found_is_small p known ready searching found f same h =
+    let is : Contains p.entries.items f.0 × (known f.0.place ≡ Some f.1) =
+    subst (λ o. IfSome o (λ g. Contains p.entries.items g.0 × (known g.0.place ≡ Some g.1))) same h in
     (entry_is_small p ready f.0 is.0, searching.small f.0.place f.1 is.1)
 
 -- what was found among the first entries is one of all
-pub found_is_entry : (l : Labels) (xs : List Entry) (i : ℕ) (found : Option (Entry × Ahead)) → IsLeastOf l (take i xs) found →
-    IfSome found (λ g. Contains xs g.0 × (ahead_in (label_at l g.0.place) ≡ Some g.1))
+pub found_is_entry : (known : Place → Option Ahead) (xs : List Entry) (i : ℕ) (found : Option (Entry × Ahead)) → IsLeastOf known (take i xs) found →
+    IfSome found (λ g. Contains xs g.0 × (known g.0.place ≡ Some g.1))
 found_is_entry l xs i None h = tt
-found_is_entry l xs i (Some f) h = (subst (λ ys. Contains ys f.0) (take-append-drop i xs) (Contains-append_left (take i xs) (drop i xs) f.0 h.is), h.label)
+found_is_entry l xs i (Some f) h = (subst (λ ys. Contains ys f.0) (take-append-drop i xs) (Contains-append_left (take i xs) (drop i xs) f.0 h.is), h.is_known)
 
 -- less than what is no greater is less
 less_than_no_greater : (u v w : Ahead) → ahead_cmp u v ≡ Less → ahead_cmp v w ≢ Greater → ahead_cmp u w ≡ Less
@@ -88,74 +88,74 @@ in_front (x ∷ xs) (suc i) e within is h = All-cons (λ d. d.choice < e.choice)
     (subst (λ f. x.choice < f.choice) (sym is) (h 0 (suc i) e (omega arith) (omega (arith, within))))
     (in_front xs i e (omega (arith, within)) is (λ a b d less upto. h (suc a) (suc b) d (omega (arith, less)) (omega (arith, upto))))
 
-module _ (l : Labels) (front : List Entry) (e : Entry) where
-  none_more : (found : Option (Entry × Ahead)) → ahead_in (label_at l e.place) ≡ None → IsLeastOf l front found → IsLeastOf l (front ++ e ∷ []) found
-  none_more None none h = All-push (λ d. ahead_in (label_at l d.place) ≡ None) front e h none
+module _ (known : Place → Option Ahead) (front : List Entry) (e : Entry) where
+  none_more : (found : Option (Entry × Ahead)) → known e.place ≡ None → IsLeastOf known front found → IsLeastOf known (front ++ e ∷ []) found
+  none_more None none h = All-push (λ d. known d.place ≡ None) front e h none
   none_more (Some f) none h = record {
     is = Contains-append_left front (e ∷ []) f.0 h.is;
-    label = h.label;
-    least = All-push (λ d. (w : Ahead) → ahead_in (label_at l d.place) ≡ Some w → EntersNoLater f.0 f.1 d w) front e h.least
+    is_known = h.is_known;
+    least = All-push (λ d. (w : Ahead) → known d.place ≡ Some w → EntersNoLater f.0 f.1 d w) front e h.least
         (λ w is. absurd (let wrong : ◌≡◌ {A = Option Ahead} None (Some w) = sym none ∙ is in cc));
   }
 
-  one_label : (v w : Ahead) → ahead_in (label_at l e.place) ≡ Some v → ahead_in (label_at l e.place) ≡ Some w → v ≡ w
-  one_label v w h k = let both : ◌≡◌ {A = Option Ahead} (Some v) (Some w) = sym h ∙ k in cc
+  one_value : (v w : Ahead) → known e.place ≡ Some v → known e.place ≡ Some w → v ≡ w
+  one_value v w h k = let both : ◌≡◌ {A = Option Ahead} (Some v) (Some w) = sym h ∙ k in cc
 
-  less_more : (found : Option (Entry × Ahead)) (v : Ahead) → ahead_in (label_at l e.place) ≡ Some v → IsLessThan e v found → IsLeastOf l front found → IsLeastEntry l (front ++ e ∷ []) e v
-  less_more found v label less h = record {
+  less_more : (found : Option (Entry × Ahead)) (v : Ahead) → known e.place ≡ Some v → IsLessThan e v found → IsLeastOf known front found → IsLeastEntry known (front ++ e ∷ []) e v
+  less_more found v is_this less h = record {
     is = Contains-push front e;
-    label = label;
-    least = All-push (λ d. (w : Ahead) → ahead_in (label_at l d.place) ≡ Some w → EntersNoLater e v d w) front e (others found less h)
-        (λ w is. subst (λ z. EntersNoLater e v e z) (one_label v w label is) (no_later_itself e v));
+    is_known = is_this;
+    least = All-push (λ d. (w : Ahead) → known d.place ≡ Some w → EntersNoLater e v d w) front e (others found less h)
+        (λ w is. subst (λ z. EntersNoLater e v e z) (one_value v w is_this is) (no_later_itself e v));
   }
     where
-      others : (found : Option (Entry × Ahead)) → IsLessThan e v found → IsLeastOf l front found → All (λ d. (w : Ahead) → ahead_in (label_at l d.place) ≡ Some w → EntersNoLater e v d w) front
+      others : (found : Option (Entry × Ahead)) → IsLessThan e v found → IsLeastOf known front found → All (λ d. (w : Ahead) → known d.place ≡ Some w → EntersNoLater e v d w) front
       others None less h =
-          All-weaker (λ d. ahead_in (label_at l d.place) ≡ None) (λ d. (w : Ahead) → ahead_in (label_at l d.place) ≡ Some w → EntersNoLater e v d w)
+          All-weaker (λ d. known d.place ≡ None) (λ d. (w : Ahead) → known d.place ≡ Some w → EntersNoLater e v d w)
           (λ d none w is. absurd (let wrong : ◌≡◌ {A = Option Ahead} None (Some w) = sym none ∙ is in cc)) front h
       others (Some f) less h =
-          All-weaker (λ d. (w : Ahead) → ahead_in (label_at l d.place) ≡ Some w → EntersNoLater f.0 f.1 d w) (λ d. (w : Ahead) → ahead_in (label_at l d.place) ≡ Some w → EntersNoLater e v d w)
+          All-weaker (λ d. (w : Ahead) → known d.place ≡ Some w → EntersNoLater f.0 f.1 d w) (λ d. (w : Ahead) → known d.place ≡ Some w → EntersNoLater e v d w)
           (λ d upto w is. no_later_less e d v w (less_than_no_greater (whole_from e v) (whole_from f.0 f.1) (whole_from d w) less
           (λ greater. upto w is (ap (λ o. ordering_then o (nat_cmp f.0.choice d.choice)) greater)))) front h.least
 
-  not_less_more : (f : Entry × Ahead) (v : Ahead) → ahead_in (label_at l e.place) ≡ Some v → (IsLessThan e v (Some f) → ⊥) → All (λ d. d.choice < e.choice) front → IsLeastEntry l front f.0 f.1 →
-      IsLeastEntry l (front ++ e ∷ []) f.0 f.1
-  not_less_more f v label upto before h = record {
+  not_less_more : (f : Entry × Ahead) (v : Ahead) → known e.place ≡ Some v → (IsLessThan e v (Some f) → ⊥) → All (λ d. d.choice < e.choice) front → IsLeastEntry known front f.0 f.1 →
+      IsLeastEntry known (front ++ e ∷ []) f.0 f.1
+  not_less_more f v is_this upto before h = record {
     is = Contains-append_left front (e ∷ []) f.0 h.is;
-    label = h.label;
-    least = All-push (λ d. (w : Ahead) → ahead_in (label_at l d.place) ≡ Some w → EntersNoLater f.0 f.1 d w) front e h.least
-        (λ w is. subst (λ z. EntersNoLater f.0 f.1 e z) (one_label v w label is)
+    is_known = h.is_known;
+    least = All-push (λ d. (w : Ahead) → known d.place ≡ Some w → EntersNoLater f.0 f.1 d w) front e h.least
+        (λ w is. subst (λ z. EntersNoLater f.0 f.1 e z) (one_value v w is_this is)
         (no_later_before f.0 e f.1 v upto (All-contains (λ d. d.choice < e.choice) front f.0 before h.is)));
   }
 
-  better_more : (found better : Option (Entry × Ahead)) → All (λ d. d.choice < e.choice) front → IsBetterOf l e found better → IsLeastOf l front found → IsLeastOf l (front ++ e ∷ []) better
-  better_more found better before is h = by_label (ahead_in (label_at l e.place)) refl
+  better_more : (found better : Option (Entry × Ahead)) → All (λ d. d.choice < e.choice) front → IsBetterOf known e found better → IsLeastOf known front found → IsLeastOf known (front ++ e ∷ []) better
+  better_more found better before is h = by_known (known e.place) refl
     where
-      by_found : (found : Option (Entry × Ahead)) (v : Ahead) → ahead_in (label_at l e.place) ≡ Some v → IsBetterOf l e found better → IsLeastOf l front found → IsLeastOf l (front ++ e ∷ []) better
-      by_found None v label is h = subst (IsLeastOf l (front ++ e ∷ [])) (sym (is.less v label tt)) (less_more None v label tt h)
-      by_found (Some f) v label is h = by_order (ahead_cmp (whole_from e v) (whole_from f.0 f.1)) refl
+      by_found : (found : Option (Entry × Ahead)) (v : Ahead) → known e.place ≡ Some v → IsBetterOf known e found better → IsLeastOf known front found → IsLeastOf known (front ++ e ∷ []) better
+      by_found None v is_this is h = subst (IsLeastOf known (front ++ e ∷ [])) (sym (is.less v is_this tt)) (less_more None v is_this tt h)
+      by_found (Some f) v is_this is h = by_order (ahead_cmp (whole_from e v) (whole_from f.0 f.1)) refl
         where
-          by_order : (o : Ordering) → ahead_cmp (whole_from e v) (whole_from f.0 f.1) ≡ o → IsLeastOf l (front ++ e ∷ []) better
-          by_order Less x = subst (IsLeastOf l (front ++ e ∷ [])) (sym (is.less v label x)) (less_more (Some f) v label x h)
+          by_order : (o : Ordering) → ahead_cmp (whole_from e v) (whole_from f.0 f.1) ≡ o → IsLeastOf known (front ++ e ∷ []) better
+          by_order Less x = subst (IsLeastOf known (front ++ e ∷ [])) (sym (is.less v is_this x)) (less_more (Some f) v is_this x h)
           by_order Equal x =
               let upto : IsLessThan e v (Some f) → ⊥ = λ less. absurd (let wrong : Less ≡ Equal = sym less ∙ x in cc) in
-              subst (IsLeastOf l (front ++ e ∷ [])) (sym (is.not_less v label upto)) (not_less_more f v label upto before h)
+              subst (IsLeastOf known (front ++ e ∷ [])) (sym (is.not_less v is_this upto)) (not_less_more f v is_this upto before h)
           by_order Greater x =
               let upto : IsLessThan e v (Some f) → ⊥ = λ less. absurd (let wrong : Less ≡ Greater = sym less ∙ x in cc) in
-              subst (IsLeastOf l (front ++ e ∷ [])) (sym (is.not_less v label upto)) (not_less_more f v label upto before h)
+              subst (IsLeastOf known (front ++ e ∷ [])) (sym (is.not_less v is_this upto)) (not_less_more f v is_this upto before h)
 
-      by_label : (o : Option Ahead) → ahead_in (label_at l e.place) ≡ o → IsLeastOf l (front ++ e ∷ []) better
-      by_label None none = subst (IsLeastOf l (front ++ e ∷ [])) (sym (is.none none)) (none_more found none h)
-      by_label (Some v) label = by_found found v label is h
+      by_known : (o : Option Ahead) → known e.place ≡ o → IsLeastOf known (front ++ e ∷ []) better
+      by_known None none = subst (IsLeastOf known (front ++ e ∷ [])) (sym (is.none none)) (none_more found none h)
+      by_known (Some v) is_this = by_found found v is_this is h
 
 -- of one entry more
-pub least_more : (l : Labels) (xs : List Entry) (i : ℕ) (e : Entry) (found better : Option (Entry × Ahead)) → i < length xs → e ≡ get_or xs i e → AllPairs (λ d f. d.choice < f.choice) xs →
-    IsBetterOf l e found better → IsLeastOf l (take i xs) found → IsLeastOf l (take (i + 1) xs) better
-least_more l xs i e found better within is ordered better_is h =
+pub least_more : (known : Place → Option Ahead) (xs : List Entry) (i : ℕ) (e : Entry) (found better : Option (Entry × Ahead)) → i < length xs → e ≡ get_or xs i e → AllPairs (λ d f. d.choice < f.choice) xs →
+    IsBetterOf known e found better → IsLeastOf known (take i xs) found → IsLeastOf known (take (i + 1) xs) better
+least_more known xs i e found better within is ordered better_is h =
     let longer : take i xs ++ e ∷ [] ≡ take (i + 1) xs = ap (λ d. take i xs ++ d ∷ []) is ∙ sym (take_more xs i e within) in
-    subst (λ ys. IsLeastOf l ys better) longer (better_more l (take i xs) e found better (in_front xs i e within is ordered) better_is h)
+    subst (λ ys. IsLeastOf known ys better) longer (better_more known (take i xs) e found better (in_front xs i e within is ordered) better_is h)
 
--- where none was found among all no entry has a label
-pub none_found : (l : Labels) (xs : List Entry) (i : ℕ) (found : Option (Entry × Ahead)) → length xs ≤ i → IsLeastOf l (take i xs) found → IsNone found → All (λ e. ahead_in (label_at l e.place) ≡ None) xs
-none_found l xs i None all h none = subst (All (λ e. ahead_in (label_at l e.place) ≡ None)) (take_all i xs all) h
-none_found l xs i (Some f) all h none = absurd (let wrong : true ≡ false = none in cc)
+-- where none was found among all nothing is known of any entry
+pub none_found : (known : Place → Option Ahead) (xs : List Entry) (i : ℕ) (found : Option (Entry × Ahead)) → length xs ≤ i → IsLeastOf known (take i xs) found → IsNone found → All (λ e. known e.place ≡ None) xs
+none_found known xs i None all h none = subst (All (λ e. known e.place ≡ None)) (take_all i xs all) h
+none_found known xs i (Some f) all h none = absurd (let wrong : true ≡ false = none in cc)

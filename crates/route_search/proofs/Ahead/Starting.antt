@@ -1,5 +1,5 @@
--- Labelled entries begin legal walks, and the first walk begins at one of them.
-use Rattle.std.proofs.Common.{◌≡◌, ℕ, ◌+◌, ◌<◌, ◌≤◌, Option, Some, None, List, [], ◌++◌, All, length, refl, sym, ap, subst, ◌∙◌, inl, inr, arith}
+-- Entries of which something is known begin legal walks, and the first walk begins at one of them.
+use Rattle.std.proofs.Common.{◌≡◌, ℕ, ◌<◌, ◌≤◌, Option, Some, None, List, [], ◌++◌, All, length, refl, sym, ap, subst, ◌∙◌, inl, inr, arith}
 use Rattle.std.specs.Prelude.{Contains, slice_get}
 use Rattle.std.specs.Ordering.{nat_cmp, ordering_then}
 use Rattle.std.specs.Cmp.{nat_cmp_is}
@@ -15,34 +15,30 @@ use Rattle.line_arena.specs.Arena.{StandsAt}
 use Rattle.line_arena.proofs.Arenas.ArenaLaws.{one_crossing, one_point}
 use Rattle.walk_model.specs.declared.task.Choice.{Choice}
 use Rattle.walk_model.specs.Choice.{IsChoice, stub_length}
-use Rattle.walk_model.specs.Cost.{runs}
-use Rattle.walk_model.specs.Order.{HasNoWalk, IsFirst, IsLegalTriple, Triple, triple_cost}
+use Rattle.walk_model.specs.Order.{HasNoWalk, IsFirst, IsLegalTriple, Triple}
 use Rattle.walk_model.proofs.Ranking.First.{one_first}
 use Rattle.walk_laws.proofs.OnKeptLines.Lines.{chosen}
 use Rattle.walk_laws.proofs.Steps.Shift.{across-forward}
-use Rattle.walk_laws.proofs.FewAndSmall.SmallWalks.{few_in_all, small_cost}
 use Rattle.move_model.specs.declared.ahead.Ahead.{Ahead}
 use Rattle.move_model.specs.declared.place.Place.{Place}
 use Rattle.move_model.specs.Ahead.{ahead, ahead_cmp, whole, with_start}
 use Rattle.move_model.specs.Places.{IsEntry}
-use Rattle.move_model.specs.Ways.{GoesAlongWay, IsWay, Leads, Leg, steps_of_way, walk_along}
+use Rattle.move_model.specs.Ways.{GoesAlongWay, Leads, Leg, steps_of_way, walk_along}
 use Rattle.move_model.proofs.Moving.FirstWays.{first_is_way}
 use Rattle.move_model.proofs.GoingOn.Joined.{way_ahead}
 use Rattle.move_model.proofs.Moving.LegalWays.{way_is_legal}
 use Rattle.move_model.proofs.GoingOn.Rivals.{least, start_no_later}
 use Rattle.move_model.proofs.Moving.Stages.{one_stage}
-use Rattle.move_model.proofs.GoingOn.Stretching.{same_ahead, start_order}
+use Rattle.move_model.proofs.GoingOn.Stretching.{same_ahead}
 use Rattle.search_labels.specs.Ends.{IsEntryOf}
-use Rattle.search_labels.specs.Labels.{ahead_in}
 use Rattle.search_labels.specs.Problems.{IsReady}
 use Rattle.search_labels.specs.declared.ends.Entry.{Entry}
 use Rattle.search_labels.specs.declared.problem.Problem.{Problem}
-use Rattle.route_search.specs.declared.labels.Labels.{Labels}
-use Rattle.route_search.specs.Labels.{IsSpread, IsWayAhead, bound_at, label_at}
+use Rattle.exit_spread.specs.Ways.{IsWayAhead}
+use Rattle.route_search.specs.Known.{IsKnownFirst}
 use Rattle.route_search.specs.Starting.{EntersAt, EntersNoLater, IsLeastEntry, whole_from}
-use Rattle.route_search.proofs.Ahead.AheadOrder.{ahead_total, costs_no_more, neither_greater}
-use Rattle.route_search.proofs.Ahead.Bounding.{entry_costs}
-use Rattle.route_search.proofs.Ahead.Known.{IsLeastAhead, Matters, known_along}
+use Rattle.exit_rows.proofs.Orders.{ahead_total}
+use Rattle.exit_spread.proofs.Known.AheadOrder.{neither_greater}
 
 -- a legal walk by the start choice with the number, with this ahead at the port
 pub record Begins (p : Problem) (number : ℕ) (s : Choice) (v : Ahead) : Type 0 where
@@ -109,11 +105,11 @@ module _ (p : Problem) (ready : IsReady p) where
       let same : of_some.1 ≡ s = let both : Some of_some.1 ≡ Some s = sym of_some.2.is_start ∙ ap (slice_get p.task.now.starts) found.2 ∙ is_start in cc in
       (found.0, found.1, found.2, subst (λ c. IsEntryOf p.solids.now p.arena.now p.task.now c found.0) same of_some.2)
 
-module _ (p : Problem) (l : Labels) (ready : IsReady p) (spread : IsSpread p l) where
-  -- a labelled entry begins a legal walk
-  pub entered : (e : Entry) (v : Ahead) → Contains p.entries.items e → ahead_in (label_at l e.place) ≡ Some v →
+module _ (p : Problem) (known : Place → Option Ahead) (ready : IsReady p) (spread : IsKnownFirst p known) where
+  -- an entry of which something is known begins a legal walk
+  pub entered : (e : Entry) (v : Ahead) → Contains p.entries.items e → known e.place ≡ Some v →
       (s : Choice) × IsEntryOf p.solids.now p.arena.now p.task.now s e × Begins p e.choice s v
-  entered e v has is = enters_by p ready e v has (spread.searching.attained e.place v is)
+  entered e v has is = enters_by p ready e v has (spread.all.attained e.place v is)
 
   module _ (t : Triple) (first : IsFirst p.solids.now p.task.now t) where
     on_floor : IsFirst ready.floor.solids p.task.now t
@@ -132,19 +128,6 @@ module _ (p : Problem) (l : Labels) (ready : IsReady p) (spread : IsSpread p l) 
         way_ahead p.solids.now p.arena.now p.task.now t ready.problem.is_task along
         ∙ ap (λ h. with_start along.start (ahead p.task.now.penalty h along.start.port (steps_of_way along.legs along.end) along.end.cost)) (sym along.enters.heading)
 
-    least_rest : IsLeastAhead p along.entry along.start.port rest
-    least_rest w u greater =
-        let b = begins p ready t.start along.start along.entry w along.is_start along.enters u in
-        least p.solids.now p.task.now t b.walk first b.legal
-        ((λ i. ahead_cmp (first_whole i) (b.is_whole i)) ∙ start_order along.start rest w ∙ greater)
-
-    costs_no_more_than_best : triple_cost p.task.now t ≤ l.best
-    costs_no_more_than_best = elim spread.searching.best.of_walk as (λ _. triple_cost p.task.now t ≤ l.best) [
-      | inl most ↦ (let small = small_cost ready.floor p.task.now t ready.problem.is_floor ready.problem.is_task ready.problem.is_floor_of on_floor in omega (arith, most, small))
-      | inr (u, legal, same) ↦ (
-          let less = costs_no_more (whole p.task.now t) (whole p.task.now u) (least p.solids.now p.task.now t u first legal) in omega (arith, same, less))
-    ]
-
     -- the entry of the first walk's start choice
     entry : (e : Entry) × Contains p.entries.items e × (e.choice ≡ t.start) × IsEntryOf p.solids.now p.arena.now p.task.now along.start e
     entry = some_entry p ready t.start along.start along.entry along.is_start along.enters
@@ -152,48 +135,28 @@ module _ (p : Problem) (l : Labels) (ready : IsReady p) (spread : IsSpread p l) 
     enters_there : entry.0.place ≡ along.entry
     enters_there = one_entry p ready along.start entry.0.place along.entry entry.3.enters along.enters
 
-    first_matters : Matters p l along.entry along.start.port rest
-    first_matters =
-        let place = enters_there in
-        let port = entry.3.port in
-        let bound : bound_at p along.entry along.start.port ≤ entry.0.lead = subst (λ q. bound_at p along.entry q ≤ entry.0.lead) port (subst (λ x. bound_at p x entry.0.port ≤ entry.0.lead) place (entry_costs p ready entry.0 entry.1)) in
-        let lead = entry.3.lead in
-        let cost : triple_cost p.task.now t ≡ stub_length along.start + along.start.cost + rest.cost = ap (λ (v : Ahead). v.cost) first_whole in
-        let number : runs t.walk.steps ≡ 1 + rest.runs = ap (λ (v : Ahead). v.runs) first_whole in
-        let few = few_in_all ready.floor p.task.now t ready.problem.is_floor ready.problem.is_task ready.problem.is_floor_of on_floor in
-        record {
-          least = least_rest;
-          cheap = omega (arith, bound, lead, cost, costs_no_more_than_best);
-          few = omega (arith, number, few);
-        }
+    exact_along : (passed legs : List Leg) (x : Place) (at : Point) → along.legs ≡ passed ++ legs → Leads p.arena.now p.task.now.via along.entry passed x →
+        StandsAt p.arena.now x.crossing at → known x ≡ Some (ahead p.task.now.penalty x.heading at (steps_of_way legs along.end) along.end.cost)
+    exact_along passed legs x at split leads here = spread.exact t first along x at legs (record { front = passed; legs = split; leads = leads; here = here })
 
-    known_labels : (passed legs : List Leg) (x : Place) (at : Point) → along.legs ≡ passed ++ legs → Leads p.arena.now p.task.now.via along.entry passed x →
-        StandsAt p.arena.now x.crossing at → ahead_in (label_at l x) ≡ Some (ahead p.task.now.penalty x.heading at (steps_of_way legs along.end) along.end.cost)
-    known_labels passed legs x at split leads here =
-        known_along p l ready spread passed legs along.entry x along.start.port at t.end along.end along.is_end
-        (subst (λ ls. IsWay p.solids.now p.arena.now p.task.now.via along.entry ls along.end) split along.way)
-        along.enters.here
-        (subst (λ ls. Matters p l along.entry along.start.port (ahead p.task.now.penalty along.entry.heading along.start.port (steps_of_way ls along.end) along.end.cost)) split first_matters)
-        leads here
+    -- what is known there is what is ahead of the first walk
+    entry_known : known entry.0.place ≡ Some rest
+    entry_known = ap known enters_there ∙ exact_along [] along.legs along.entry along.start.port refl refl along.enters.here
 
-    -- its label says what is ahead of the first walk there
-    entry_label : ahead_in (label_at l entry.0.place) ≡ Some rest
-    entry_label = ap (λ x. ahead_in (label_at l x)) enters_there ∙ known_labels [] along.legs along.entry along.start.port refl refl along.enters.here
-
-  -- where no entry has a label there is no legal walk
-  pub no_walk : All (λ e. ahead_in (label_at l e.place) ≡ None) p.entries.items → HasNoWalk p.solids.now p.task.now
+  -- where nothing is known of any entry there is no legal walk
+  pub no_walk : All (λ e. known e.place ≡ None) p.entries.items → HasNoWalk p.solids.now p.task.now
   no_walk none t legal =
       let some = (one_first p.solids.now p.task.now).some t legal in
       let d = entry some.0 some.1 in
-      let empty : ahead_in (label_at l d.0.place) ≡ None = All-contains (λ (e : Entry). ahead_in (label_at l e.place) ≡ None) p.entries.items d.0 none d.1 in
-      absurd (let wrong : ◌≡◌ {A = Option Ahead} None (Some (rest some.0 some.1)) = sym empty ∙ entry_label some.0 some.1 in cc)
+      let empty : known d.0.place ≡ None = All-contains (λ (e : Entry). known e.place ≡ None) p.entries.items d.0 none d.1 in
+      absurd (let wrong : ◌≡◌ {A = Option Ahead} None (Some (rest some.0 some.1)) = sym empty ∙ entry_known some.0 some.1 in cc)
 
   -- and the first walk enters at the least entry
-  pub first_enters : (e : Entry) (v : Ahead) → IsLeastEntry l p.entries.items e v → (t : Triple) × EntersAt p l e v t
+  pub first_enters : (e : Entry) (v : Ahead) → IsLeastEntry known p.entries.items e v → (t : Triple) × EntersAt p known e v t
   first_enters e v h =
       let solids = p.solids.now in
       let task = p.task.now in
-      let mine = entered e v h.is h.label in
+      let mine = entered e v h.is h.is_known in
       let some = (one_first solids task).some mine.2.walk mine.2.legal in
       let t : Triple = some.0 in
       let first : IsFirst solids task t = some.1 in
@@ -201,7 +164,7 @@ module _ (p : Problem) (l : Labels) (ready : IsReady p) (spread : IsSpread p l) 
       let d = entry t first in
       let my_whole : whole task mine.2.walk ≡ whole_from e v = mine.2.is_whole ∙ by_entry p ready mine.0 e v mine.1 in
       let its_whole : whole task t ≡ whole_from d.0 w = first_whole t first ∙ by_entry p ready (along t first).start d.0 w d.3 in
-      let no_later = All-contains (λ (f : Entry). (u : Ahead) → ahead_in (label_at l f.place) ≡ Some u → EntersNoLater e v f u) p.entries.items d.0 h.least d.1 w (entry_label t first) in
+      let no_later = All-contains (λ (f : Entry). (u : Ahead) → known f.place ≡ Some u → EntersNoLater e v f u) p.entries.items d.0 h.least d.1 w (entry_known t first) in
       let same : whole_from e v ≡ whole_from d.0 w = neither_greater (whole_from e v) (whole_from d.0 w)
       (λ greater. no_later (ap (λ o. ordering_then o (nat_cmp e.choice d.0.choice)) greater))
       (λ greater. least solids task t mine.2.walk first mine.2.legal ((λ i. ahead_cmp (its_whole i) (my_whole i)) ∙ greater)) in
@@ -221,9 +184,9 @@ module _ (p : Problem) (l : Labels) (ready : IsReady p) (spread : IsSpread p l) 
       (subst (λ c. IsEntry solids p.arena.now task.via c e.place) start mine.1.enters) (along t first).enters in (
         t,
         record {
-          labelled = record { first = first; along = along t first; known = known_labels t first };
+          way = record { first = first; along = along t first; exact = exact_along t first };
           start = choice;
           place = place;
-          label = h.label;
+          is_known = h.is_known;
         },
       )

@@ -1,5 +1,5 @@
 -- The first walk enters the lines, with nothing passed but the stub of its start choice.
-use Rattle.std.proofs.Common.{◌≡◌, ◌+◌, ◌<◌, ◌≤◌, Some, None, List, [], ◌∷◌, ◌++◌, Contains, length, replicate, inl, refl, sym, ap, subst, ◌∙◌, arith}
+use Rattle.std.proofs.Common.{Option, ◌≡◌, ◌+◌, ◌<◌, ◌≤◌, Some, None, List, [], ◌∷◌, ◌++◌, Contains, length, replicate, inl, refl, sym, ap, subst, ◌∙◌, arith}
 use Rattle.std.specs.Prelude.{slice_get}
 use Rattle.std.proofs.lemmas.List.Elements.{All-contains}
 use Rattle.std.proofs.lemmas.Option.{same_Some}
@@ -21,47 +21,44 @@ use Rattle.move_model.specs.Ahead.{ahead}
 use Rattle.move_model.specs.Ways.{IsWay, steps_of_way}
 use Rattle.move_model.proofs.GoingOn.Joined.{way_ahead}
 use Rattle.search_labels.specs.Ends.{IsEntryOf}
-use Rattle.search_labels.specs.Labels.{ahead_in}
 use Rattle.search_labels.specs.Problems.{IsReady}
 use Rattle.search_labels.specs.declared.ends.Entry.{Entry}
 use Rattle.search_labels.specs.declared.problem.Problem.{Problem}
-use Rattle.route_search.specs.declared.labels.Labels.{Labels}
-use Rattle.route_search.specs.Labels.{label_at}
 use Rattle.route_search.specs.Starting.{EntersAt}
 use Rattle.route_search.proofs.Tracing.Corners.{corners_from}
 use Rattle.route_search.proofs.Tracing.Following.{IsFollowing}
 
-module _ (p : Problem) (l : Labels) (ready : IsReady p) (entry : Entry) (v : Ahead) (t : Triple) (e : EntersAt p l entry v t) where
+module _ (p : Problem) (known : Place → Option Ahead) (ready : IsReady p) (entry : Entry) (v : Ahead) (t : Triple) (e : EntersAt p known entry v t) where
   abbrev start : Choice
-  start = e.labelled.along.start
+  start = e.way.along.start
 
   abbrev end : Choice
-  end = e.labelled.along.end
+  end = e.way.along.end
 
   abbrev rest : List Dir
-  rest = steps_of_way e.labelled.along.legs end
+  rest = steps_of_way e.way.along.legs end
 
   is_choice : IsChoice start
-  is_choice = chosen IsChoice p.task.now.starts t.start start e.labelled.along.is_start ready.problem.is_task.starts.each
+  is_choice = chosen IsChoice p.task.now.starts t.start start e.way.along.is_start ready.problem.is_task.starts.each
 
   ahead_is : v ≡ ahead p.task.now.penalty start.dir start.port rest end.cost
   ahead_is =
-      let along = e.labelled.along in
+      let along = e.way.along in
       same_Some v (ahead p.task.now.penalty along.entry.heading start.port rest end.cost)
-      (sym e.label ∙ ap (λ x. ahead_in (label_at l x)) e.place ∙ e.labelled.known [] along.legs along.entry start.port refl refl along.enters.here)
+      (sym e.is_known ∙ ap known e.place ∙ e.way.exact [] along.legs along.entry start.port refl refl along.enters.here)
       ∙ ap (λ d. ahead p.task.now.penalty d start.port rest end.cost) along.enters.heading
 
   steps_are : t.walk.steps ≡ replicate (stub_length start) start.dir ++ rest
-  steps_are = ap (λ (w : Walk). w.steps) e.labelled.along.walk
+  steps_are = ap (λ (w : Walk). w.steps) e.way.along.walk
 
   start_is : t.walk.start ≡ start.pin
-  start_is = ap (λ (w : Walk). w.start) e.labelled.along.walk
+  start_is = ap (λ (w : Walk). w.start) e.way.along.walk
 
   -- the end choice of the legal walk is that of the way
   end_is : end_of t.walk ≡ end.pin
   end_is =
-      let legal = e.labelled.first.legal in
-      legal.legal.arrives.pin ∙ ap (λ (c : Choice). c.pin) (same_Some legal.end end (sym legal.is_end ∙ e.labelled.along.is_end))
+      let legal = e.way.first.legal in
+      legal.legal.arrives.pin ∙ ap (λ (c : Choice). c.pin) (same_Some legal.end end (sym legal.is_end ∙ e.way.along.is_end))
 
   port_is : start.port ≡ forward start.dir (stub_length start) start.pin
   port_is = is_choice.straight
@@ -77,9 +74,9 @@ module _ (p : Problem) (l : Labels) (ready : IsReady p) (entry : Entry) (v : Ahe
       ap (λ zs. start.pin ∷ zs) (ap (λ q. corners_after start.dir q rest) port_is ∙ sym (corners_from start.dir (stub_length start) start.pin rest is_choice.apart))
       ∙ (λ i. sym start_is i ∷ corners (sym start_is i) (sym steps_are i))
 
-  pub enters : (points : List Point) → points ≡ start.pin ∷ [] → IsFollowing p l t e.labelled (record { place = entry.place; ahead = v; tail = None }) points
+  pub enters : (points : List Point) → points ≡ start.pin ∷ [] → IsFollowing p known t e.way (record { place = entry.place; ahead = v; tail = None }) points
   enters points drawn =
-      let along = e.labelled.along in
+      let along = e.way.along in
       let back : along.entry ≡ entry.place = sym e.place in
       let heading : entry.place.heading ≡ start.dir = ap (λ (x : Place). x.heading) e.place ∙ along.enters.heading in
       record {
@@ -103,7 +100,7 @@ module _ (p : Problem) (l : Labels) (ready : IsReady p) (entry : Entry) (v : Ahe
     entry_of =
         let of_some : (entry.choice < length p.task.now.starts) × (c : Choice) × IsEntryOf p.solids.now p.arena.now p.task.now c entry =
         All-contains (λ (k : Entry). (k.choice < length p.task.now.starts) × (c : Choice) × IsEntryOf p.solids.now p.arena.now p.task.now c k) p.entries.items entry ready.entries.sound inside in
-        let same : of_some.1 ≡ start = same_Some of_some.1 start (sym of_some.2.is_start ∙ ap (slice_get p.task.now.starts) e.start ∙ e.labelled.along.is_start) in
+        let same : of_some.1 ≡ start = same_Some of_some.1 start (sym of_some.2.is_start ∙ ap (slice_get p.task.now.starts) e.start ∙ e.way.along.is_start) in
         subst (λ c. IsEntryOf p.solids.now p.arena.now p.task.now c entry) same of_some.2
 
     pub small_lead : entry.lead ≤ 9000000000
@@ -112,7 +109,7 @@ module _ (p : Problem) (l : Labels) (ready : IsReady p) (entry : Entry) (v : Ahe
     -- the cost of the walk is the lead of its entry and what is ahead
     pub cost_is : entry.lead + v.cost ≡ triple_cost p.task.now t
     cost_is =
-        let whole = ap (λ (w : Ahead). w.cost) (way_ahead p.solids.now p.arena.now p.task.now t ready.problem.is_task e.labelled.along) in
+        let whole = ap (λ (w : Ahead). w.cost) (way_ahead p.solids.now p.arena.now p.task.now t ready.problem.is_task e.way.along) in
         let total : triple_cost p.task.now t ≡ stub_length start + start.cost + (ahead p.task.now.penalty start.dir start.port rest end.cost).cost = whole in
         let same : v.cost ≡ (ahead p.task.now.penalty start.dir start.port rest end.cost).cost = ap (λ (w : Ahead). w.cost) ahead_is in
         omega (arith, total, same, entry_of.lead)

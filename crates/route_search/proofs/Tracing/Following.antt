@@ -1,5 +1,5 @@
 -- The first walk is followed step by step: what is found at each step is how it goes on.
-use Rattle.std.proofs.Common.{◌≡◌, ◌≢◌, ◌⊎◌, ℕ, suc, zero, ◌+◌, ◌<◌, ◌≤◌, Some, None, List, [], ◌∷◌, ◌++◌, length, replicate, inl, inr, refl, sym, ap, subst, ◌∙◌, arith, append_assoc, append-nil}
+use Rattle.std.proofs.Common.{Option, ◌≡◌, ◌≢◌, ◌⊎◌, ℕ, suc, zero, ◌+◌, ◌<◌, ◌≤◌, Some, List, [], ◌∷◌, ◌++◌, length, replicate, inl, inr, refl, sym, ap, subst, ◌∙◌, arith, append_assoc, append-nil}
 use Rattle.std.specs.Prelude.{slice_get}
 use Rattle.std.specs.Ordering.{nat_cmp, ordering_then}
 use Rattle.std.specs.declared.cmp.Ordering.TheVariants.{Greater}
@@ -35,12 +35,11 @@ use Rattle.route_search.specs.declared.follow.Next.{Next}
 use Rattle.route_search.specs.declared.follow.Next.TheVariants.{Stop, Go}
 use Rattle.route_search.specs.declared.follow.Standing.{Standing}
 use Rattle.route_search.specs.declared.follow.Tail.{Tail}
-use Rattle.route_search.specs.declared.labels.Labels.{Labels}
 use Rattle.route_search.specs.Following.{IsMoveIn, IsNext, IsNextIn, IsNoLater, IsTailIn}
-use Rattle.route_search.specs.Starting.{IsLabelled}
-use Rattle.route_search.specs.Labels.{IsSearching}
+use Rattle.route_search.specs.Starting.{IsKnownAlong}
+use Rattle.route_search.specs.Known.{IsAttained}
 use Rattle.route_search.proofs.Moving.Directions.{same_rank}
-use Rattle.route_search.proofs.Moving.Sizes.{small_ending}
+use Rattle.exit_spread.proofs.Sizes.{small_ending}
 use Rattle.route_search.proofs.Tracing.Tails.{stub_tail}
 use Rattle.std.proofs.lemmas.Option.{same_Some, slice_get_within}
 
@@ -83,7 +82,7 @@ some_way : (solids : List Solid) (a : Arena) (via : List Point) (x : Place) (leg
 some_way solids a via x [] e is way = subst HasSteps (append-nil (replicate (stub_length e) (opposite e.dir))) (some_stretch (stub_length e) (opposite e.dir) [] is.apart)
 some_way solids a via x (l ∷ ls) e is way = some_stretch l.steps l.to.heading (steps_of_way ls e) way.0.some
 
-module _ (p : Problem) (l : Labels) (t : Triple) (h : IsLabelled p l t) where
+module _ (p : Problem) (known : Place → Option Ahead) (t : Triple) (h : IsKnownAlong p known t) where
   -- the steps of the stub and of the legs
   abbrev pub steps_by : List Leg → List Dir
   steps_by legs = replicate (stub_length h.along.start) h.along.start.dir ++ steps_along legs
@@ -187,7 +186,7 @@ module _ (p : Problem) (l : Labels) (t : Triple) (h : IsLabelled p l t) where
 
     -- or goes on by the move
     pub record GoesBy (d : Dir) (m : Move) : Type 0 where
-      pub move : IsMoveIn p l s d m
+      pub move : IsMoveIn p known s d m
       pub legs : List Leg
       pub all : h.along.legs ≡ f.passed ++ (record { steps = m.steps; to = m.to }) ∷ legs
       pub way : IsWay p.solids.now p.arena.now p.task.now.via m.to legs h.along.end
@@ -246,7 +245,7 @@ module _ (p : Problem) (l : Labels) (t : Triple) (h : IsLabelled p l t) where
         let on : List Leg = f.passed ++ k ∷ [] in
         let v : Ahead = ahead task.penalty d m.end (steps_of_way legs end) end.cost in
         let begin : m.begin ≡ f.at = one_point p.arena.now s.place.crossing m.begin f.at ready.arena m.here f.here in
-        let label = h.known on legs k.to m.end (all ∙ sym (append_assoc f.passed (k ∷ []) legs)) (leads_on p.arena.now task.via h.along.entry s.place k.to k.steps f.passed f.leads m) m.there in
+        let is_this = h.exact on legs k.to m.end (all ∙ sym (append_assoc f.passed (k ∷ []) legs)) (leads_on p.arena.now task.via h.along.entry s.place k.to k.steps f.passed f.leads m) m.there in
         let stretch : Stretch = record { from = m.begin; dir = d; steps = k.steps } in
         record {
           dir = d;
@@ -256,7 +255,7 @@ module _ (p : Problem) (l : Labels) (t : Triple) (h : IsLabelled p l t) where
               move = record {
                 move = m;
                 dir = refl;
-                label = label;
+                is_known = is_this;
                 fits =
                     ap (λ (q : Point). with_stretch task.penalty s.place.heading stretch (ahead task.penalty d q (steps_of_way legs end) end.cost)) m.straight
                     ∙ sym (stretch_ahead task.penalty s.place.heading stretch (steps_of_way legs end) end.cost m.some)
@@ -306,10 +305,10 @@ module _ (p : Problem) (l : Labels) (t : Triple) (h : IsLabelled p l t) where
         )
 
     -- and so does each move
-    pub rival_move : IsSearching p l None None → (d : Dir) (m : Move) → IsMoveIn p l s d m → (more : List Dir) × (end : ℕ) × IsRival (steps_by f.passed ++ (replicate m.steps d ++ more)) end
+    pub rival_move : IsAttained p known → (d : Dir) (m : Move) → IsMoveIn p known s d m → (more : List Dir) × (end : ℕ) × IsRival (steps_by f.passed ++ (replicate m.steps d ++ more)) end
     rival_move searching d m is =
         let task = p.task.now in
-        let att = searching.attained m.to m.ahead is.label in
+        let att = searching.attained m.to m.ahead is.is_known in
         let w = att.1 in
         let mv = is.move in
         let begin : mv.begin ≡ f.at = one_point p.arena.now s.place.crossing mv.begin f.at ready.arena mv.here f.here in
@@ -346,19 +345,19 @@ module _ (p : Problem) (l : Labels) (t : Triple) (h : IsLabelled p l t) where
         first_no_later how_on.dir d g.count b.steps g.more [] (nat_cmp t.end b.end) g.some r.0
         (λ e. no_earlier (replicate b.steps d) b.end r.1 ((λ i. ordering_then (slice_cmp dir_cmp (g.is i) (sym (append-nil (replicate b.steps d)) i)) (nat_cmp t.end b.end)) ∙ e))
 
-    before_move : IsSearching p l None None → (m : Move) (d : Dir) → IsMoveIn p l s d m → rank how_on.dir ≤ rank d
+    before_move : IsAttained p known → (m : Move) (d : Dir) → IsMoveIn p known s d m → rank how_on.dir ≤ rank d
     before_move searching m d is =
         let r = rival_move searching d m is in
         let g = begins how_on in
         first_no_later how_on.dir d g.count m.steps g.more r.0 (nat_cmp t.end r.1) g.some is.move.some
         (λ e. no_earlier (replicate m.steps d ++ r.0) r.1 r.2 (ap (λ ds. ordering_then (slice_cmp dir_cmp ds (replicate m.steps d ++ r.0)) (nat_cmp t.end r.1)) g.is ∙ e))
 
-    no_later_than : IsSearching p l None None → (d : Dir) (n : Next) → IsNextIn p l s d n → rank how_on.dir ≤ rank d
+    no_later_than : IsAttained p known → (d : Dir) (n : Next) → IsNextIn p known s d n → rank how_on.dir ≤ rank d
     no_later_than searching d (Stop b) next = before_stretch b d next.tail.is
     no_later_than searching d (Go further) next = before_move searching next.move d next.is_move
 
     -- the first walk goes on in the direction that is found
-    pub the_direction : IsSearching p l None None → (d : Dir) (n : Next) → IsNext p l s d n → how_on.dir ≡ d
+    pub the_direction : IsAttained p known → (d : Dir) (n : Next) → IsNext p known s d n → how_on.dir ≡ d
     the_direction searching d n next = same_rank how_on.dir d (elim (cases_lt (rank how_on.dir) (rank d)) as (λ _. rank how_on.dir ≡ rank d) [
       | inl less ↦ (let none = next.none_before how_on.dir less in elim how_on.how as (λ _. rank how_on.dir ≡ rank d) [
         | inl k ↦ absurd (none.tails k.0 k.1.tail)
@@ -368,7 +367,7 @@ module _ (p : Problem) (l : Labels) (t : Triple) (h : IsLabelled p l t) where
     ])
 
     -- where the earliest tail is no longer than a move, the first walk ends with it
-    pub stops_with : IsSearching p l None None → (d : Dir) (b : Tail) → IsNext p l s d (Stop b) → (f.rest ≡ replicate b.steps d) × (b.end ≡ t.end)
+    pub stops_with : IsAttained p known → (d : Dir) (b : Tail) → IsNext p known s d (Stop b) → (f.rest ≡ replicate b.steps d) × (b.end ≡ t.end)
     stops_with searching d b next = by (subst (λ e. ((x : Tail) × EndsBy e x) ⊎ ((m : Move) × GoesBy e m)) (the_direction searching d (Stop b) next) how_on.how)
       where
         rival : (0 < b.steps) × IsRival (steps_by f.passed ++ replicate b.steps d) b.end

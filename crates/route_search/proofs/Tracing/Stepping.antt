@@ -16,6 +16,7 @@ use Rattle.walk_model.specs.Walk.{after}
 use Rattle.walk_model.proofs.Ranking.OneAnswer.{corners, corners_after}
 use Rattle.walk_model.proofs.CornerByCorner.Scan.{after-append, after-replicate}
 use Rattle.walk_laws.proofs.OnKeptLines.Lines.{chosen}
+use Rattle.move_model.specs.declared.place.Place.{Place}
 use Rattle.move_model.specs.declared.ahead.Ahead.{Ahead}
 use Rattle.move_model.specs.declared.ahead.Stretch.{Stretch}
 use Rattle.move_model.specs.Ahead.{ahead, with_stretch}
@@ -27,10 +28,9 @@ use Rattle.route_search.specs.declared.follow.Move.{Move}
 use Rattle.route_search.specs.declared.follow.Next.TheVariants.{Stop, Go}
 use Rattle.route_search.specs.declared.follow.Standing.{Standing}
 use Rattle.route_search.specs.declared.follow.Tail.{Tail}
-use Rattle.route_search.specs.declared.labels.Labels.{Labels}
 use Rattle.route_search.specs.Following.{GoesIn, IsMoveIn, IsNext, IsTailIn, left_behind}
-use Rattle.route_search.specs.Labels.{IsSearching}
-use Rattle.route_search.specs.Starting.{IsLabelled}
+use Rattle.route_search.specs.Known.{IsAttained}
+use Rattle.route_search.specs.Starting.{IsKnownAlong}
 use Rattle.route_search.proofs.Tracing.Corners.{corner_between, corners_behind, stretch_parts}
 use Rattle.route_search.proofs.Tracing.Following.{EndsBy, GoesBy, GoesOn, GoesOut, IsFollowing, IsRival, how_on, leads_on, no_earlier, rival_tail, steps_by, stops_with, the_direction}
 use Rattle.route_search.proofs.Tracing.Orders.{stretch_no_later}
@@ -58,7 +58,7 @@ steps_on (k ∷ ks) l ds =
     let run = replicate k.steps k.to.heading in
     append_assoc run (steps_along (ks ++ l ∷ [])) ds ∙ ap (λ zs. run ++ zs) (steps_on ks l ds) ∙ sym (append_assoc run (steps_along ks) (replicate l.steps l.to.heading ++ ds))
 
-module _ (p : Problem) (l : Labels) (t : Triple) (h : IsLabelled p l t) (ready : IsReady p) (s : Standing) (points : List Point) (f : IsFollowing p l t h s points) where
+module _ (p : Problem) (known : Place → Option Ahead) (t : Triple) (h : IsKnownAlong p known t) (ready : IsReady p) (s : Standing) (points : List Point) (f : IsFollowing p known t h s points) where
   -- the points up to the place, where the walk goes on in the direction
   abbrev pub points_to : Dir → List Point
   points_to d = if turn s.place.heading d == 0 then points else points ++ (f.at ∷ [])
@@ -74,7 +74,7 @@ module _ (p : Problem) (l : Labels) (t : Triple) (h : IsLabelled p l t) (ready :
   end_on : (d : Dir) (n : ℕ) (ds : List Dir) → f.rest ≡ replicate n d ++ ds → after (forward d n f.at) ds ≡ h.along.end.pin
   end_on d n ds left = ap (λ q. after q ds) (sym (after-replicate f.at n d)) ∙ sym (after-append f.at (replicate n d) ds) ∙ ap (after f.at) (sym left) ∙ f.end
 
-  module _ (d : Dir) (m : Move) (is : IsMoveIn p l s d m) (best : Option Tail) (tail : IfSome best (IsTailIn p s d p.endings.items)) (long : IfSome best (λ b. m.steps < b.steps)) where
+  module _ (d : Dir) (m : Move) (is : IsMoveIn p known s d m) (best : Option Tail) (tail : IfSome best (IsTailIn p s d p.endings.items)) (long : IfSome best (λ b. m.steps < b.steps)) where
     abbrev turned : Dir
     turned = m.to.heading
 
@@ -93,23 +93,23 @@ module _ (p : Problem) (l : Labels) (t : Triple) (h : IsLabelled p l t) (ready :
     there : is.move.end ≡ forward turned m.steps f.at
     there = is.move.straight ∙ ap (forward turned m.steps) begin
 
-    steps_by_on : (ds : List Dir) → steps_by p l t h passed ++ ds ≡ steps_by p l t h f.passed ++ (replicate m.steps turned ++ ds)
+    steps_by_on : (ds : List Dir) → steps_by p known t h passed ++ ds ≡ steps_by p known t h f.passed ++ (replicate m.steps turned ++ ds)
     steps_by_on ds =
         let stub = replicate (stub_length h.along.start) h.along.start.dir in
         append_assoc stub (steps_along passed) ds ∙ ap (λ zs. stub ++ zs) (steps_on f.passed leg ds) ∙ sym (append_assoc stub (steps_along f.passed) (replicate m.steps turned ++ ds))
 
-    tail_on : (b : Tail) → IsTailIn p s d p.endings.items b → m.steps < b.steps → (0 < b.steps - m.steps) × IsRival p l t h (steps_by p l t h passed ++ replicate (b.steps - m.steps) turned) b.end
+    tail_on : (b : Tail) → IsTailIn p s d p.endings.items b → m.steps < b.steps → (0 < b.steps - m.steps) × IsRival p known t h (steps_by p known t h passed ++ replicate (b.steps - m.steps) turned) b.end
     tail_on b inside less =
         let k = b.steps - m.steps in
-        let same : steps_by p l t h passed ++ replicate k turned ≡ steps_by p l t h f.passed ++ replicate b.steps d =
-        steps_by_on (replicate k turned) ∙ ap (λ zs. steps_by p l t h f.passed ++ zs) (stretch_parts turned m.steps b.steps less ∙ ap (replicate b.steps) is.dir) in
-        (omega (arith, less), subst (λ ds. IsRival p l t h ds b.end) (sym same) (rival_tail p l t h ready s points f d b inside).1)
+        let same : steps_by p known t h passed ++ replicate k turned ≡ steps_by p known t h f.passed ++ replicate b.steps d =
+        steps_by_on (replicate k turned) ∙ ap (λ zs. steps_by p known t h f.passed ++ zs) (stretch_parts turned m.steps b.steps less ∙ ap (replicate b.steps) is.dir) in
+        (omega (arith, less), subst (λ ds. IsRival p known t h ds b.end) (sym same) (rival_tail p known t h ready s points f d b inside).1)
 
     tails_on : (o : Option Tail) → IfSome o (IsTailIn p s d p.endings.items) → IfSome o (λ b. m.steps < b.steps) → (x : Tail) → left_behind m.steps o ≡ Some x
-        → (0 < x.steps) × IsRival p l t h (steps_by p l t h passed ++ replicate x.steps turned) x.end
+        → (0 < x.steps) × IsRival p known t h (steps_by p known t h passed ++ replicate x.steps turned) x.end
     tails_on None inside less x e = absurd (let wrong : Some x ≡ None = sym e in cc)
     tails_on (Some b) inside less x e =
-        subst (λ y. (0 < y.steps) × IsRival p l t h (steps_by p l t h passed ++ replicate y.steps turned) y.end) (same_Some (record { steps = b.steps - m.steps; end = b.end }) x e) (tail_on b inside less)
+        subst (λ y. (0 < y.steps) × IsRival p known t h (steps_by p known t h passed ++ replicate y.steps turned) y.end) (same_Some (record { steps = b.steps - m.steps; end = b.end }) x e) (tail_on b inside less)
 
     module _ (rest : List Dir) (left : f.rest ≡ replicate m.steps turned ++ rest) where
       makes_on : m.ahead ≡ ahead p.task.now.penalty turned is.move.end rest h.along.end.cost
@@ -124,7 +124,7 @@ module _ (p : Problem) (l : Labels) (t : Triple) (h : IsLabelled p l t) (ready :
           ∙ stretch_ahead penalty heading stretch rest cost is.move.some
           ∙ ap (λ (q : Point). with_stretch penalty heading stretch (ahead penalty turned q rest cost)) (sym is.move.straight))
 
-      pub by_move : GoesOn p l t h passed standing rest ⊎ GoesOut p l t h standing rest → IsFollowing p l t h standing (points_to d)
+      pub by_move : GoesOn p known t h passed standing rest ⊎ GoesOut p known t h standing rest → IsFollowing p known t h standing (points_to d)
       by_move goes =
           let arena = p.arena.now in
           record {
@@ -145,12 +145,12 @@ module _ (p : Problem) (l : Labels) (t : Triple) (h : IsLabelled p l t) (ready :
           }
 
   -- what is found leads on along the first walk
-  pub goes_with : IsSearching p l None None → (d : Dir) (further : Standing) → IsNext p l s d (Go further) → IsFollowing p l t h further (points_to d)
+  pub goes_with : IsAttained p known → (d : Dir) (further : Standing) → IsNext p known s d (Go further) → IsFollowing p known t h further (points_to d)
   goes_with searching d further next =
-      subst (λ x. IsFollowing p l t h x (points_to d)) (sym g.further)
-      (by (subst (λ e. ((x : Tail) × EndsBy p l t h ready s points f e x) ⊎ ((k : Move) × GoesBy p l t h ready s points f e k)) (the_direction p l t h ready s points f searching d (Go further) next) (how_on p l t h ready s points f).how))
+      subst (λ x. IsFollowing p known t h x (points_to d)) (sym g.further)
+      (by (subst (λ e. ((x : Tail) × EndsBy p known t h ready s points f e x) ⊎ ((k : Move) × GoesBy p known t h ready s points f e k)) (the_direction p known t h ready s points f searching d (Go further) next) (how_on p known t h ready s points f).how))
     where
-      g : GoesIn p l s d further
+      g : GoesIn p known s d further
       g = next.next
 
       m : Move
@@ -159,15 +159,15 @@ module _ (p : Problem) (l : Labels) (t : Triple) (h : IsLabelled p l t) (ready :
       after_it : Standing
       after_it = record { place = m.to; ahead = m.ahead; tail = left_behind m.steps g.best }
 
-      by : ((x : Tail) × EndsBy p l t h ready s points f d x) ⊎ ((k : Move) × GoesBy p l t h ready s points f d k) → IsFollowing p l t h after_it (points_to d)
+      by : ((x : Tail) × EndsBy p known t h ready s points f d x) ⊎ ((k : Move) × GoesBy p known t h ready s points f d k) → IsFollowing p known t h after_it (points_to d)
       by (inl (k, ends)) =
           let first = g.tail.first k ends.tail in
           let a : Tail = first.0 in
           let inside : IsTailIn p s d p.endings.items a = subst (λ o. IfSome o (IsTailIn p s d p.endings.items)) first.1 g.tail.is in
           let less : m.steps < a.steps = subst (λ o. IfSome o (λ b. m.steps < b.steps)) first.1 g.long in
-          let rival = rival_tail p l t h ready s points f d a inside in
+          let rival = rival_tail p known t h ready s points f d a inside in
           let upto = stretch_no_later d k.steps a.steps t.end a.end
-          (λ e. no_earlier p l t h ready s points f (replicate a.steps d) a.end rival.1 (ap (λ ds. ordering_then (slice_cmp dir_cmp ds (replicate a.steps d)) (nat_cmp t.end a.end)) ends.left ∙ e)) in
+          (λ e. no_earlier p known t h ready s points f (replicate a.steps d) a.end rival.1 (ap (λ ds. ordering_then (slice_cmp dir_cmp ds (replicate a.steps d)) (nat_cmp t.end a.end)) ends.left ∙ e)) in
           let same : k.steps ≡ a.steps = omega (arith, first.2.steps, upto.steps) in
           let end : a.end ≡ t.end = omega (arith, upto.end same, first.2.end (sym same), ends.end) in
           let rest : List Dir = replicate (a.steps - m.steps) m.to.heading in
@@ -175,7 +175,7 @@ module _ (p : Problem) (l : Labels) (t : Triple) (h : IsLabelled p l t) (ready :
           by_move d m g.is_move g.best g.tail.is g.long rest left
           (inr (record { tail = record { steps = a.steps - m.steps; end = a.end }; is = ap (left_behind m.steps) first.1; left = refl; end = end }))
       by (inr (k, goes)) =
-          let only = the_only p l s d ready.arena m k.steps k.to g.is_move goes.move.move goes.move.dir in
+          let only = the_only p known s d ready.arena m k.steps k.to g.is_move goes.move.move goes.move.dir in
           let rest : List Dir = steps_of_way goes.legs h.along.end in
           let left : f.rest ≡ replicate m.steps m.to.heading ++ rest = goes.left ∙ (λ i. replicate (sym only.0 i) (sym g.is_move.dir i) ++ rest) in
           let leg : Leg = record { steps = m.steps; to = m.to } in
@@ -193,13 +193,13 @@ module _ (p : Problem) (l : Labels) (t : Triple) (h : IsLabelled p l t) (ready :
     pub at : PointIsOnSheet (forward d b.steps f.at)
     pub drawn : points_to d ++ (forward d b.steps f.at ∷ []) ≡ t.walk.start ∷ corners t.walk.start t.walk.steps
 
-  pub ends_with : IsSearching p l None None → (d : Dir) (b : Tail) → IsNext p l s d (Stop b) → IsAtEnd d b
+  pub ends_with : IsAttained p known → (d : Dir) (b : Tail) → IsNext p known s d (Stop b) → IsAtEnd d b
   ends_with searching d b next =
-      let stop = stops_with p l t h ready s points f searching d b next in
+      let stop = stops_with p known t h ready s points f searching d b next in
       let left : f.rest ≡ replicate b.steps d ++ [] = stop.0 ∙ sym (append-nil (replicate b.steps d)) in
       let is_choice : IsChoice h.along.end = chosen IsChoice p.task.now.ends t.end h.along.end h.along.is_end ready.problem.is_task.ends.each in
       record {
         end = stop.1;
         at = subst PointIsOnSheet (sym (end_on d b.steps [] left)) is_choice.pin;
-        drawn = drawn_on d b.steps [] (rival_tail p l t h ready s points f d b next.next.tail.is).0 left;
+        drawn = drawn_on d b.steps [] (rival_tail p known t h ready s points f d b next.next.tail.is).0 left;
       }

@@ -2,6 +2,7 @@
 use Rattle.std.proofs.Common.{◌≡◌, ◌⊎◌, ◌↔◌, ℕ, ◌≤◌, Option, Some, None, IfSome, IsNone, List, [], ◌∷◌, ◌++◌, Contains, inl, inr, refl, sym, ap, subst, ◌∙◌, arith}
 use Rattle.std.proofs.lemmas.List.Elements.{Contains-append_left, Contains-push, Contains-push_cases}
 use Rattle.plane_geom.specs.declared.point.Dir.{Dir}
+use Rattle.move_model.specs.declared.ahead.Ahead.{Ahead}
 use Rattle.move_model.specs.declared.place.Place.{Place}
 use Rattle.move_model.specs.Places.{IsMove}
 use Rattle.line_arena.specs.Arena.{IsArena}
@@ -14,7 +15,6 @@ use Rattle.route_search.specs.declared.follow.Next.{Next}
 use Rattle.route_search.specs.declared.follow.Next.TheVariants.{Stop, Go}
 use Rattle.route_search.specs.declared.follow.Standing.{Standing}
 use Rattle.route_search.specs.declared.follow.Tail.{Tail}
-use Rattle.route_search.specs.declared.labels.Labels.{Labels}
 use Rattle.route_search.specs.Following.{IsEarliest, IsJoined, IsMoveIn, IsNextIn, IsNoLater, IsNoneIn, IsTailIn, MayEnd}
 
 pub no_later_itself : (b : Tail) → IsNoLater b b
@@ -83,35 +83,35 @@ module _ (p : Problem) (s : Standing) (d : Dir) where
         by b (inl t) = let f = h.first b t in (r, refl, no_later_chain r f.0 b (subst (λ o. IfSome o (IsNoLater r)) f.1 others) f.2)
         by b (inr t) = (r, refl, subst (IsNoLater r) (sym t.1) here)
 
-module _ (p : Problem) (l : Labels) (s : Standing) (d : Dir) (arena : IsArena p.arena.now) where
+module _ (p : Problem) (known : Place → Option Ahead) (s : Standing) (d : Dir) (arena : IsArena p.arena.now) where
   -- there is one move in a direction
-  pub the_only : (m : Move) (n : ℕ) (y : Place) → (is : IsMoveIn p l s d m) → (other : IsMove p.arena.now p.task.now.via s.place n y) → y.heading ≡ d
+  pub the_only : (m : Move) (n : ℕ) (y : Place) → (is : IsMoveIn p known s d m) → (other : IsMove p.arena.now p.task.now.via s.place n y) → y.heading ≡ d
       → (m.steps ≡ n) × ((m.to ≡ y) × (is.move.begin ≡ other.begin))
   the_only m n y is other e =
       let one = one_move p.arena.now arena p.task.now.via s.place m.to y m.steps n is.move other (is.dir ∙ sym e) in
       (one.0, (one.1, one_point p.arena.now s.place.crossing is.move.begin other.begin arena is.move.here other.here))
 
-  module _ (best : Option Tail) (step : Option Move) (early : IsEarliest (IsTailIn p s d p.endings.items) best) (is : IfSome step (IsMoveIn p l s d)) (none : IsNone step → (m : Move) → IsMoveIn p l s d m → ⊥) where
-    short : (b : Tail) (o : Option Move) → step ≡ o → IfSome o (λ m. b.steps ≤ m.steps) → (m : Move) → IsMoveIn p l s d m → b.steps ≤ m.steps
+  module _ (best : Option Tail) (step : Option Move) (early : IsEarliest (IsTailIn p s d p.endings.items) best) (is : IfSome step (IsMoveIn p known s d)) (none : IsNone step → (m : Move) → IsMoveIn p known s d m → ⊥) where
+    short : (b : Tail) (o : Option Move) → step ≡ o → IfSome o (λ m. b.steps ≤ m.steps) → (m : Move) → IsMoveIn p known s d m → b.steps ≤ m.steps
     short b None e u m h = absurd (none (subst (λ o. IsNone o) (sym e) refl) m h)
     short b (Some k) e long m h =
-        let there : IsMoveIn p l s d k = subst (λ o. IfSome o (IsMoveIn p l s d)) e is in
+        let there : IsMoveIn p known s d k = subst (λ o. IfSome o (IsMoveIn p known s d)) e is in
         let same = the_only m k.steps k.to h there.move there.dir in
         omega (arith, long, same.0)
 
-    pub next_from : (r : Option Next) → IfSome r (IsJoined best step) → IfSome r (IsNextIn p l s d)
+    pub next_from : (r : Option Next) → IfSome r (IsJoined best step) → IfSome r (IsNextIn p known s d)
     next_from None j = tt
     next_from (Some (Stop b)) j = record { tail = subst (IsEarliest (IsTailIn p s d p.endings.items)) j.0 early; short = short b step refl j.1 }
     next_from (Some (Go further)) j = record {
       move = j.0;
-      is_move = subst (λ o. IfSome o (IsMoveIn p l s d)) j.1 is;
+      is_move = subst (λ o. IfSome o (IsMoveIn p known s d)) j.1 is;
       best = best;
       tail = early;
       long = j.2;
       further = j.3;
     }
 
-    pub none_from : (best ≡ None) × (step ≡ None) → IsNoneIn p l s d
+    pub none_from : (best ≡ None) × (step ≡ None) → IsNoneIn p known s d
     none_from e = record {
       tails = λ b t. let f = early.first b t in absurd (let wrong : Some f.0 ≡ None = sym f.1 ∙ e.0 in cc);
       moves = none (subst (λ o. IsNone o) (sym e.1) refl);

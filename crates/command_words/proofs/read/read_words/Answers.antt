@@ -1,4 +1,4 @@
--- A first word that is the name of no subcommand.
+-- A first argument that is the name of no subcommand.
 use Rattle.command_words.proofs.Commands.{no_command}
 use Rattle.command_words.proofs.read.read_words.Goals as goal
 

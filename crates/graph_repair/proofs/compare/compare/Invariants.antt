@@ -1,4 +1,4 @@
--- So much of both lists was found.
+-- The fronts of both lists were found.
 use Rattle.std.proofs.Common.{◌+◌, ◌-◌, ◌≤◌, length}
 use Rattle.graph_repair.specs.Listed.{lines_of}
 use Rattle.graph_repair.proofs.Compared.{AreFoundUpto}

@@ -1,4 +1,4 @@
--- What is told so far, and the edges that are left, give the whole.
+-- The text so far and the edges that are left give the whole.
 use Rattle.std.proofs.Common.{◌≡◌, ◌++◌, drop}
 use Rattle.report_text.specs.Previews.{preview_edge_lines}
 use Rattle.report_text.proofs.preview.push_preview_edges.Given as goal

@@ -1,4 +1,4 @@
--- What is told so far, and the elements that are left, give the whole.
+-- The text so far and the elements that are left give the whole.
 use Rattle.std.proofs.Common.{◌≡◌, ◌++◌, drop}
 use Rattle.report_text.specs.Shared.{shared_lines}
 use Rattle.report_text.proofs.shared.push_shared_lines.Given as goal

@@ -1,4 +1,4 @@
--- Steps count from 0, so what is behind the point is cut off.
+-- Steps count from 0, so what comes before the point is cut off.
 use Rattle.std.proofs.Common.{FitsSigned, w64, rules}
 use Rattle.std.proofs.lemmas.Int.{to_z-of_z}
 use Rattle.route_check.proofs.Collisions.Inside.{among_clamped, below}

@@ -1,16 +1,47 @@
--- The first walk enters at the least entry; where no entry has a label there is no walk.
-use Rattle.std.proofs.Common.{refl, subst}
-use Rattle.walk_model.specs.Order.{HasNoWalk}
-use Rattle.route_search.proofs.Ahead.Starting.{first_enters, no_walk}
+-- The lists are those of the arena, and there are rows for their lines in all stages.
+use Rattle.std.proofs.Common.{◌≡◌, ℕ, ◌+◌, ◌*◌, ◌<◌, ◌≤◌, length, sym, ap, subst, ◌∙◌, arith}
+use Rattle.std.proofs.Math.Nat.{mul-le-mul_right}
+use Rattle.std.proofs.lemmas.Option.{slice_get_within}
+use Rattle.plane_geom.specs.Along.{way_of}
+use Rattle.walk_model.specs.declared.task.Task.{Task}
+use Rattle.line_arena.specs.Arena.{Arena, IsArena}
+use Rattle.line_lists.specs.Lists.{AreListsOf, number_of}
+use Rattle.route_search.proofs.Matching.{lists_are}
 use Rattle.route_search.proofs.finder.search.Goals as goal
 
-pub returns-in-None-clause-answer : goal.returns-in-None-clause-answer
-returns-in-None-clause-answer c =
-    let p = c.in_ok-problem.problem in
-    let made = c.in_ok-problem.ensures in
-    let none = no_walk p c.spread.new.self made.ready c.in_ok-spread.ensures.spread (c.in-None.ensures.none refl) in
-    subst (λ solids. HasNoWalk solids c.args.task.now) made.solids (subst (HasNoWalk p.solids.now) made.task none)
+-- the row of a stage and a line is within those of all stages and lines
+row_within : (k m l n rows : ℕ) → k ≤ m → l < n → (m + 1) * n * 2 ≤ rows → (k * n + l) * 2 + 1 < rows
+row_within k m l n rows stage line all =
+    let more : (k + 1) * n ≤ (m + 1) * n = mul-le-mul_right n (omega (arith, stage)) in
+    omega (arith, more, line, all)
 
-pub follow-requires-clause-enters : goal.follow-requires-clause-enters
-follow-requires-clause-enters c =
-    first_enters c.in_ok-problem.problem c.spread.new.self c.in_ok-problem.ensures.ready c.in_ok-spread.ensures.spread c.in-Some.entry c.in-Some.ahead c.in-Some.ensures.least
+pub spread-requires-clause-lists : goal.spread-requires-clause-lists
+spread-requires-clause-lists c =
+    let arena = c.in_ok-problem.ensures.arena in
+    subst (λ (a : Arena). AreListsOf a c.args.lines.now.lists) (sym arena)
+    (lists_are c.args.arena.now (subst IsArena arena c.in_ok-problem.ensures.ready.arena) c.args.lines.now.lists c.requires.lines.are_lists)
+
+pub spread-requires-clause-rooms : goal.spread-requires-clause-rooms
+spread-requires-clause-rooms c k c' d at stage here =
+    let arena = c.in_ok-problem.ensures.arena in
+    let lists = c.args.lines.now.lists in
+    let are = subst (λ (a : Arena). AreListsOf a lists) (sym arena)
+    (lists_are c.args.arena.now (subst IsArena arena c.in_ok-problem.ensures.ready.arena) lists c.requires.lines.are_lists) in
+    let numbered = are.numbers c' here.pair (way_of d) here.is in
+    let within = slice_get_within lists.lines (number_of lists c' (way_of d)) numbered.0 numbered.1.listed in
+    let lines : c.fit.new.self.lines ≡ length lists.lines = c.in_ok-fit.ensures.lines ∙ ap length c.lines.ensures in
+    let few : length c.in_ok-problem.problem.task.now.via ≡ length c.as_slice.result.now = ap (λ (t : Task). length t.via) c.in_ok-problem.ensures.task ∙ ap length (sym c.as_slice.ensures) in
+    record {
+      line = omega (arith, within, lines);
+      row = row_within k (length c.as_slice.result.now) (number_of lists c' (way_of d)) c.fit.new.self.lines (length c.fit.new.self.rows.items) (omega (arith, stage, few)) (omega (arith, within, lines))
+          (subst (λ n. (length c.as_slice.result.now + 1) * n * 2 ≤ length c.fit.new.self.rows.items) (sym c.in_ok-fit.ensures.lines) c.in_ok-fit.ensures.rows);
+    }
+
+pub route-requires : goal.route-requires
+route-requires c = record {
+  ready = c.in_ok-problem.ensures.ready;
+  lists = (let arena = c.in_ok-problem.ensures.arena in
+      subst (λ (a : Arena). AreListsOf a c.args.lines.now.lists) (sym arena)
+      (lists_are c.args.arena.now (subst IsArena arena c.in_ok-problem.ensures.ready.arena) c.args.lines.now.lists c.requires.lines.are_lists));
+  spread = c.in_ok-spread.ensures.spread;
+}

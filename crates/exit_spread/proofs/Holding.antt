@@ -1,0 +1,2 @@
+-- Where runs are held.
+pub mod Runs

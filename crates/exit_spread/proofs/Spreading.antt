@@ -1,0 +1,7 @@
+-- How exits are offered, kept and handed on.
+pub mod Stops
+pub mod Adding
+pub mod OnLine
+pub mod Behind
+pub mod Counted
+pub mod Turning

@@ -1,0 +1,38 @@
+-- Turns that cost too much are left out; and a line has at most so many stops.
+use Rattle.std.proofs.Common.{◌≡◌, ◌⊎◌, ℕ, ℤ, ◌<◌, ◌≤◌, ◌<ℤ◌, ◌≤ℤ◌, Bool, true, false, List, [], get_or, length, ap, refl, inl, inr, arith}
+use Rattle.std.specs.Prelude.{int_lt, sum_by}
+use Rattle.std.proofs.lemmas.Bool.{cases_lt}
+use Rattle.std.proofs.lemmas.Int.{ints}
+use Rattle.std.proofs.lemmas.List.{get_or_past}
+use Rattle.std.proofs.lemmas.List.Sums.{get_or-le-sum_by}
+use Rattle.plane_geom.specs.declared.point.Point.{Point}
+use Rattle.plane_geom.specs.declared.point.Dir.{Dir}
+use Rattle.plane_geom.specs.declared.point.Way.{Way}
+use Rattle.plane_geom.specs.Along.{reach}
+use Rattle.line_lists.specs.Lists.{Lists, stops_of}
+use Rattle.line_lists.specs.declared.stop.Stop.{Stop}
+use Rattle.search_labels.specs.declared.problem.Problem.{Problem}
+use Rattle.exit_rows.specs.Exits.{ahead_at}
+use Rattle.exit_spread.specs.declared.run.Run.{Run}
+use Rattle.exit_spread.specs.declared.spread.Spread.{Spread}
+use Rattle.exit_spread.specs.Handing.{IsTurnOffered}
+use Rattle.exit_spread.specs.Searching.{most_stops}
+
+pub left_out : (p : Problem) (line_of : ℕ → Way → ℕ) (s : Spread) (r : Run) (h : Dir) (c : ℕ) (q : Point) → s.best < (ahead_at r.kept (reach r.heading q)).cost → IsTurnOffered p line_of s r h c q
+left_out p line_of s r h c q dear = inl (inl (omega (arith, dear)))
+
+few : (xs : List (List Stop)) (n : ℕ) → length (get_or xs n []) ≤ sum_by length xs
+few xs n = elim (cases_lt n (length xs)) as (λ _. length (get_or xs n []) ≤ sum_by length xs) [
+  | inl lt ↦ get_or-le-sum_by length xs n [] lt
+  | inr past ↦ (let none = ap (λ (ys : List Stop). length ys) (get_or_past xs n [] past) in omega (arith, none))
+]
+
+pub few_stops : (lists : Lists) (n : ℕ) → length (stops_of lists n) ≤ most_stops lists
+few_stops lists n = few lists.stops n
+
+by_test : (a b : ℤ) (t : Bool) → int_lt a b ≡ t → (a <ℤ b) ⊎ (b ≤ℤ a)
+by_test a b true e = inl (grind (arith, ints))
+by_test a b false e = inr (grind (arith, ints))
+
+pub before_or_from : (a b : ℤ) → (a <ℤ b) ⊎ (b ≤ℤ a)
+before_or_from a b = by_test a b (int_lt a b) refl

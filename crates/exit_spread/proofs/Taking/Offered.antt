@@ -1,0 +1,111 @@
+-- What was offered has been offered still, while lines keep more exits and more candidates are queued.
+use Rattle.std.proofs.Common.{◌≡◌, ◌⊎◌, ℕ, ◌≤◌, List, Option, Some, None, sym, subst, inl, inr, arith}
+use Rattle.std.specs.Prelude.{All, Any, Contains}
+use Rattle.std.specs.BinaryHeap.{heap_items}
+use Rattle.std.specs.declared.cmp.Reverse.{Reverse}
+use Rattle.plane_geom.specs.declared.point.Point.{Point}
+use Rattle.plane_geom.specs.declared.point.Dir.{Dir}
+use Rattle.plane_geom.specs.declared.point.Dir.TheVariants.{East, South, West, North}
+use Rattle.plane_geom.specs.declared.point.Way.{Way}
+use Rattle.plane_geom.specs.Along.{reach, way_of}
+use Rattle.plane_geom.specs.Point.{opposite}
+use Rattle.line_arena.specs.Arena.{StandsAt}
+use Rattle.line_lists.specs.Lists.{Lists}
+use Rattle.search_labels.specs.declared.problem.Problem.{Problem}
+use Rattle.exit_rows.specs.Exits.{IsLate, IsUndercut, StandsFor, ahead_at}
+use Rattle.exit_rows.specs.Rows.{HasRow, IsMarked, kept_in}
+use Rattle.exit_rows.specs.declared.exit.Exit.{Exit}
+use Rattle.exit_rows.specs.declared.exit.Kept.{Kept}
+use Rattle.exit_rows.specs.declared.queue.Candidate.{Candidate}
+use Rattle.exit_rows.specs.declared.rows.Rows.{Rows}
+use Rattle.exit_spread.specs.declared.spread.Spread.{Spread}
+use Rattle.exit_spread.specs.Handing.{Adds, IsSound}
+use Rattle.exit_spread.specs.Offers.{IsHandedAt, IsHandedOn, IsOffered, exit_of, kept_of}
+use Rattle.exit_spread.specs.Searching.{IsKeptOf, IsSearching, KeptIn}
+use Rattle.exit_spread.specs.Taking.{Grows}
+use Rattle.exit_spread.specs.Ways.{place_at, turned}
+use Rattle.exit_spread.proofs.Spreading.Adding.{offered_on}
+
+any_in : {X : Type 0} (P : X → Type 0) (xs ys : List X) → ((x : X) → Contains xs x → Contains ys x) → Any P xs → Any P ys
+any_in P xs ys more (k, x, lt, is, h) = let c = more x (k, lt, is) in (c.0, x, c.1, c.2, h)
+
+pub by_heading : (P : Dir → Type 0) → P East → P South → P West → P North → (d : Dir) → P d
+by_heading P e s w n East = e
+by_heading P e s w n South = s
+by_heading P e s w n West = w
+by_heading P e s w n North = n
+
+-- all that lines keep by the one they keep by the other
+abbrev pub AllKept : Spread → Spread → Type 0
+AllKept old new = (k l : ℕ) (d : Dir) (e : Kept) → Contains (kept_in old.rows k l d) e → Contains (kept_in new.rows k l d) e
+
+pub same_kept : (old new : Spread) → new.rows ≡ old.rows → AllKept old new
+same_kept old new same k l d e has = subst (λ (t : Rows). Contains (kept_in t k l d) e) (sym same) has
+
+-- an exit that is late is late still
+pub still_late : (old new : Spread) → AllKept old new → (k l : ℕ) (d : Dir) (e : Kept) → IsLate (kept_in old.rows k l d) e → IsLate (kept_in new.rows k l d) e
+still_late old new rows k l d e late = any_in (λ o. StandsFor o e) (kept_in old.rows k l d) (kept_in new.rows k l d) (rows k l d) late
+
+-- an exit that was offered has been offered still
+pub still_offered : (p : Problem) (old new : Spread) → AllKept old new → ((c : Reverse Candidate) → Contains (heap_items old.queue.heap) c → Contains (heap_items new.queue.heap) c) → new.best ≤ old.best
+    → (hole : Option Exit) (q : Point) (x : Exit) → IsOffered p old hole q x → IsOffered p new hole q x
+still_offered p old new rows queue best hole q x (inl (inl dear)) = inl (inl (omega (arith, dear, best)))
+still_offered p old new rows queue best hole q x (inl (inr long)) = inl (inr long)
+still_offered p old new rows queue best hole q x (inr (inl queued)) = inr (inl (queue _ queued))
+still_offered p old new rows queue best hole q x (inr (inr (inl taken))) =
+    inr (inr (inl (λ k comes. still_late old new rows k x.line x.place.heading (kept_of p k q x) (taken k comes))))
+still_offered p old new rows queue best hole q x (inr (inr (inr same))) = inr (inr (inr same))
+
+-- exits that were handed on are handed on still, if what was offered is
+module _ (p : Problem) (number_of : ℕ → Way → ℕ) (old new : Spread) (hole now : Option Exit)
+    (offered : (q : Point) (x : Exit) → StandsAt p.arena.now x.place.crossing q → IsOffered p old hole q x → IsOffered p new now q x) where
+  pub handed_at : (k : ℕ) (d : Dir) (e : Kept) (c : ℕ) (r : Point) → StandsAt p.arena.now c r → IsHandedAt p number_of old hole k d e c r → IsHandedAt p number_of new now k d e c r
+  handed_at k d e c r here h = record {
+    turns = λ g turns held begins. offered r (exit_of number_of (place_at c k g) (Some d) (turned p g r d (ahead_at e (reach d r)))) here (h.turns g turns held begins);
+    tips = λ via. offered r (exit_of number_of (place_at c k (opposite d)) None (turned p (opposite d) r d (ahead_at e (reach d r)))) here (h.tips via);
+    ons = λ j less comes. offered r (exit_of number_of (place_at c k d) None (ahead_at e (reach d r))) here (h.ons j less comes);
+  }
+
+  pub handed_still : AllKept old new → (k line : ℕ) (d : Dir) (e : Kept) → IsHandedOn p number_of old hole k line d e → IsHandedOn p number_of new now k line d e
+  handed_still rows k line d e h c r here on counts =
+      elim (h c r here on counts) as (λ _. IsUndercut (kept_in new.rows k line d) e (reach d r) ⊎ IsHandedAt p number_of new now k d e c r) [
+        | inl cut ↦ inl (any_in _ (kept_in old.rows k line d) (kept_in new.rows k line d) (rows k line d) cut)
+        | inr at ↦ inr (handed_at k d e c r here at)
+      ]
+
+  -- the rows stay as they are
+  pub same_searching : new.rows ≡ old.rows → IsSound p number_of new → (but : Option KeptIn) → IsSearching p number_of old hole but → IsSearching p number_of new now but
+  same_searching same sound but s = record {
+    kept = λ k c d at here. subst (λ (t : Rows). All (IsKeptOf p number_of k (number_of c (way_of d)) d) (kept_in t k (number_of c (way_of d)) d)) (sym same) (s.kept k c d at here);
+    handed = λ k c d at e here has other. handed_still (same_kept old new same) k (number_of c (way_of d)) d e
+        (s.handed k c d at e here (subst (λ (t : Rows). Contains (kept_in t k (number_of c (way_of d)) d) e) same has) other);
+    candidates = sound.candidates;
+    best = sound.best;
+    marked = subst IsMarked (sym same) s.marked;
+    rooms = λ k c d at few here. subst (λ (t : Rows). HasRow t k (number_of c (way_of d))) (sym same) (s.rooms k c d at few here);
+  }
+
+-- ---- candidates are added
+
+pub sound_of : (p : Problem) (number_of : ℕ → Way → ℕ) (s : Spread) (hole : Option Exit) (but : Option KeptIn) → IsSearching p number_of s hole but → IsSound p number_of s
+sound_of p number_of s hole but h = record { candidates = h.candidates; best = h.best }
+
+pub adds_searching : (p : Problem) (number_of : ℕ → Way → ℕ) (old new : Spread) (n : ℕ) → Adds p number_of old new n → (hole : Option Exit) (but : Option KeptIn) → IsSearching p number_of old hole but → IsSearching p number_of new hole but
+adds_searching p number_of old new n a hole but s =
+    same_searching p number_of old new hole hole (λ q x here h. offered_on p number_of old new n a hole q x h) a.rows a.sound but s
+
+-- ---- lines keep more
+
+pub grows_not : (p : Problem) (lists : Lists) (s : Spread) → Grows p lists s s
+grows_not p lists s = record { rows = λ k l d e has. has; queue = λ c has. has; best = omega arith; weight = omega arith }
+
+pub grows_both : (p : Problem) (lists : Lists) (old mid new : Spread) → Grows p lists old mid → Grows p lists mid new → Grows p lists old new
+grows_both p lists old mid new a b = record {
+  rows = λ k l d e has. b.rows k l d e (a.rows k l d e has);
+  queue = λ c has. b.queue c (a.queue c has);
+  best = omega (arith, a.best, b.best);
+  weight = omega (arith, a.weight, b.weight);
+}
+
+pub grows_offered : (p : Problem) (lists : Lists) (old new : Spread) → Grows p lists old new → (hole : Option Exit) (q : Point) (x : Exit) → IsOffered p old hole q x → IsOffered p new hole q x
+grows_offered p lists old new g hole q x h = still_offered p old new g.rows g.queue g.best hole q x h

@@ -1,0 +1,26 @@
+-- Candidates are queued and removed.
+use Rattle.std.proofs.Common.{◌≡◌, ◌⊎◌, ◌+◌, ◌≤◌, zero, suc, List, [], ◌∷◌, refl, sym, inl, inr, arith}
+use Rattle.std.specs.Prelude.{All, Contains, IsPermutation, length}
+use Rattle.std.proofs.lemmas.List.Elements.{Contains-append_right}
+use Rattle.std.proofs.lemmas.List.Sorted.{All-permutation, Contains-permutation, length_permutation}
+
+pub first_or_rest : {X : Type 0} (x : X) (xs : List X) (y : X) → Contains (x ∷ xs) y → Contains xs y ⊎ (y ≡ x)
+first_or_rest x xs y (zero, lt, e) = inr (sym e)
+first_or_rest x xs y (suc k, lt, e) = inl (k, omega (arith, lt), e)
+
+module _ {X : Type 0} (x : X) (old new : List X) (moved : IsPermutation (x ∷ old) new) where
+  pub push_keeps : (y : X) → Contains old y → Contains new y
+  push_keeps y has = Contains-permutation (x ∷ old) new y moved (Contains-append_right (x ∷ []) old y has)
+
+  pub push_has : Contains new x
+  push_has = Contains-permutation (x ∷ old) new x moved (zero, omega arith, refl)
+
+  pub push_all : (P : X → Type 0) → All P old → P x → All P new
+  push_all P all one = All-permutation P (x ∷ old) new moved (both P all one)
+    where
+      both : (P : X → Type 0) → All P old → P x → All P (x ∷ old)
+      both P all one zero d lt = one
+      both P all one (suc k) d lt = all k d (omega (arith, lt))
+
+  pub push_count : length new ≤ length old + 1
+  push_count = let same = length_permutation (x ∷ old) new moved in omega (arith, same)

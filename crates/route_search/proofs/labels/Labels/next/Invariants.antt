@@ -1,8 +1,0 @@
--- In no direction tried so far does a walk go on.
-use Rattle.std.proofs.Common.{ℕ, ◌<◌, get_or}
-use Rattle.plane_geom.specs.declared.point.Dir.TheVariants.{East}
-use Rattle.route_search.specs.Following.{IsNoneIn}
-use Rattle.route_search.proofs.labels.Labels.next.Given as goal
-
-abbrev pub invariant-loop-dir : goal.invariant-loop-dir
-invariant-loop-dir l = (k : ℕ) → k < l.dir-index → IsNoneIn l.problem l.self l.standing (get_or l.dir-items k East)
