@@ -7,7 +7,7 @@ use Rattle.line_arena.specs.Stands.{StandsFor}
 use Rattle.walk_model.specs.declared.task.Task.{Task}
 use Rattle.search_labels.specs.declared.problem.Problem.{Problem}
 use Rattle.search_labels.specs.Problems.{IsReady}
-use Rattle.route_search.proofs.Moving.Sizes.{small_ending}
+use Rattle.exit_spread.proofs.Sizes.{small_ending}
 use Rattle.proof_model.specs.declared.proof.Claim.{Claim}
 use Rattle.proof_model.specs.declared.proof.LabelRow.{LabelRow}
 use Rattle.proof_model.specs.Rules.{IsRow}

@@ -12,7 +12,7 @@ use Rattle.search_labels.specs.declared.label.Label.TheVariants.{Open, Closed}
 use Rattle.search_labels.specs.declared.problem.Problem.{Problem}
 use Rattle.proof_model.specs.declared.next.Next.{Next}
 use Rattle.proof_model.specs.Rules.{Suffices}
-use Rattle.route_search.proofs.Offers.Offering.{one_place}
+use Rattle.proof_search.proofs.Offers.OnePlace.{one_place}
 use Rattle.proof_search.specs.declared.labels.Labels.{Labels}
 use Rattle.proof_search.specs.declared.scope.Scope.{Scope}
 use Rattle.proof_search.specs.Scopes.{claim_of}

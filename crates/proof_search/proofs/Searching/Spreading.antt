@@ -49,8 +49,8 @@ use Rattle.search_labels.specs.declared.label.Row.{Row}
 use Rattle.search_labels.specs.declared.problem.Problem.{Problem}
 use Rattle.search_labels.specs.declared.queue.Candidate.{Candidate}
 use Rattle.search_labels.specs.declared.queue.Queue.{Queue}
-use Rattle.route_search.proofs.Offers.Falling.{by_heading}
-use Rattle.route_search.proofs.Offers.Queues.{first_or_rest}
+use Rattle.exit_spread.proofs.Taking.Offered.{by_heading}
+use Rattle.exit_spread.proofs.Taking.Queues.{first_or_rest}
 use Rattle.proof_search.specs.declared.labels.Labels.{Labels}
 use Rattle.proof_search.specs.declared.scope.Scope.{Scope}
 use Rattle.proof_search.specs.Scopes.{most_of}

@@ -12,7 +12,7 @@ use Rattle.search_labels.specs.declared.label.Label.TheVariants.{Absent, Open}
 use Rattle.search_labels.specs.declared.label.Label.{Label}
 use Rattle.search_labels.specs.declared.queue.Candidate.{Candidate}
 use Rattle.proof_model.specs.Rules.{Suffices}
-use Rattle.route_search.proofs.Offers.Queues.{All-only, push_has, push_keeps, push_only}
+use Rattle.exit_spread.proofs.Taking.Queues.{push_all, push_has, push_keeps}
 use Rattle.proof_search.specs.Scopes.{claim_of, label_for}
 use Rattle.proof_search.specs.Search.{IsPlace, IsReachedAt, cost_at, cost_in, label_at, label_weight, row_weight}
 use Rattle.proof_search.specs.declared.labels.Labels.{Labels}
@@ -70,7 +70,7 @@ places c =
     let old = heap_items c.args.self.now.queue.heap in
     let new = heap_items c.push.new.self.heap in
     let coming = c.requires.coming in
-    All-only (λ (d : Reverse Candidate). IsPlace c.args.problem.now d.0.place) (candidate c) old new (push_only (candidate c) old new c.in_ok-push.ensures.ok)
+    push_all (candidate c) old new c.in_ok-push.ensures.ok (λ (d : Reverse Candidate). IsPlace c.args.problem.now d.0.place)
     c.requires.searching.1.candidates (record { at = coming.at; here = coming.here; stage = coming.stage })
 
 pub returns-clause-searching : goal.returns-clause-searching
