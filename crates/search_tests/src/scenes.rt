@@ -47,7 +47,7 @@ const SOURCE: Place = Place(1, 0, 0, 20_000, 20_000);
 
 const TARGET: Place = Place(2, 100_000, 0, 20_000, 20_000);
 
-const ROWS: [Row; 10] = [
+const ROWS: [Row; 12] = [
     // Around a box.
     Row {
         plan: Plan {
@@ -203,6 +203,57 @@ const ROWS: [Row; 10] = [
         },
         cost: Some(95_000),
         corners: &[Corner(0, 0), Corner(90_000, 0)],
+    },
+    // Two walks that tie but in their directions: on one line, the run of the one is held by the box
+    // to the north, and that of the other by the box to the south.
+    Row {
+        plan: Plan {
+            places: &[
+                Place(1, 0, 60_000, 20_000, 20_000),
+                Place(2, 210_000, 0, 20_000, 100_000),
+                Place(3, 30_000, 54_000, 20_000, 100_000),
+                Place(4, 70_000, -54_000, 100_000, 100_000),
+            ],
+            starts: &[Offset(0, -10_000, Dirs::NORTH, 0)],
+            ends: &[
+                Offset(-10_000, -40_000, Dirs::WEST, 0),
+                Offset(-10_000, 40_000, Dirs::WEST, 0),
+            ],
+            via: &[],
+        },
+        cost: Some(440_000),
+        corners: &[
+            Corner(0, 50_000),
+            Corner(0, 0),
+            Corner(124_000, 0),
+            Corner(124_000, -40_000),
+            Corner(200_000, -40_000),
+        ],
+    },
+    // The same with x and y exchanged, where the other walk is first.
+    Row {
+        plan: Plan {
+            places: &[
+                Place(1, 60_000, 0, 20_000, 20_000),
+                Place(2, 0, 210_000, 100_000, 20_000),
+                Place(3, 54_000, 30_000, 100_000, 20_000),
+                Place(4, -54_000, 70_000, 100_000, 100_000),
+            ],
+            starts: &[Offset(-10_000, 0, Dirs::WEST, 0)],
+            ends: &[
+                Offset(-40_000, -10_000, Dirs::NORTH, 0),
+                Offset(40_000, -10_000, Dirs::NORTH, 0),
+            ],
+            via: &[],
+        },
+        cost: Some(440_000),
+        corners: &[
+            Corner(50_000, 0),
+            Corner(0, 0),
+            Corner(0, 44_000),
+            Corner(40_000, 44_000),
+            Corner(40_000, 200_000),
+        ],
     },
 ];
 
