@@ -1,9 +1,10 @@
 -- The list of a checkpoint.
 use Rattle.std.specs.Prelude.{pos, ◌||◌, codes, Option, Some, None, if◌then◌else◌}
+use Rattle.fixed_milli.specs.Steps.{◌>>=◌}
 use Rattle.plane_geom.specs.declared.point.Point.{Point}
 use Rattle.gml_text.specs.Tree.{Content}
 use Rattle.scene_model.specs.Edits.{is_off}
-use Rattle.diagram_read.specs.Values.{◌>>=◌, as_list, exact_at}
+use Rattle.diagram_read.specs.Values.{as_list, exact_at}
 
 -- a point of the field
 abbrev pub on_field : Point → Option Point

@@ -1,5 +1,6 @@
 -- The list of a pin.
 use Rattle.std.specs.Prelude.{ℕ, ◌==◌, ◌||◌, ◌^◌, ℤ, pos, int_lt, codes, Option, Some, None, option_and_then, if◌then◌else◌}
+use Rattle.fixed_milli.specs.Steps.{◌>>=◌}
 use Rattle.gml_text.specs.Tree.{Content, number, text, list}
 use Rattle.scene_model.specs.declared.node.Node.{Node}
 use Rattle.scene_model.specs.declared.pin.Pin.{Pin}
@@ -7,7 +8,7 @@ use Rattle.scene_model.specs.declared.pin.Dirs.{Dirs}
 use Rattle.scene_model.specs.Edits.{is_outside}
 use Rattle.scene_model.specs.Letters.{dirs_of}
 use Rattle.scene_model.specs.Routing.{centre_pin}
-use Rattle.diagram_read.specs.Values.{◌>>=◌, value_at, as_list, in_range, exact_at, milli_of, class_of}
+use Rattle.diagram_read.specs.Values.{value_at, as_list, in_range, exact_at, milli_of, class_of}
 
 -- an added pin has a class of its own, and 0 is the centre's
 abbrev pub added_class : ℕ → Option ℕ

@@ -7,11 +7,6 @@ use Rattle.fixed_milli.specs.Value.{read}
 use Rattle.fixed_milli.specs.Whole.{read_whole}
 use Rattle.gml_text.specs.Tree.{Content, number, text, list, Pairs, no_pairs, pair}
 
--- the next step with a value, if there is one
-infixl 10 ◌>>=◌
-abbrev pub ◌>>=◌ : {A B : Type 0} → Option A → (A → Option B) → Option B
-o >>= next = option_and_then next o
-
 -- the pairs of a value that is a list
 abbrev pub as_list : Content → Option Pairs
 as_list (number bytes) = None

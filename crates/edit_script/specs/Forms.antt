@@ -1,15 +1,12 @@
 -- The forms of a script's lines, each by its name and the words after it.
-use Rattle.std.specs.Prelude.{ℕ, List, [], ◌∷◌, codes, bytes_eq, Option, Some, None, option_and_then, option_map, if◌then◌else◌}
+use Rattle.std.specs.Prelude.{ℕ, List, [], ◌∷◌, codes, bytes_eq, Option, Some, None, option_map, if◌then◌else◌}
+use Rattle.fixed_milli.specs.Steps.{◌>>=◌}
 use Rattle.scene_model.specs.declared.edit.Edit.{Edit as SceneEdit}
 use Rattle.scene_model.specs.declared.edit.Edit.TheVariants.{AddNode, MoveNode, SizeNode, DropNode, AddPin, DropPin, AddEdge, CutEdge, SetClasses, AddVia, DropVia, Set}
 use Rattle.scene_model.specs.declared.edit.Command.{Command}
 use Rattle.scene_model.specs.declared.edit.Command.TheVariants.{Begin, Edit, Commit, Abort, Undo, Redo}
 use Rattle.scene_model.specs.Letters.{dirs_of}
 use Rattle.edit_script.specs.Values.{number_of, id_of_word, count_of, setting_of}
-
-infixl 10 ◌>>=◌
-abbrev pub ◌>>=◌ : {A B : Type 0} → Option A → (A → Option B) → Option B
-o >>= f = option_and_then f o
 
 -- ID X Y W H
 abbrev pub node_form : List (List ℕ) → Option SceneEdit

@@ -7,3 +7,4 @@ pub mod Digits
 pub mod Milli
 pub mod Value
 pub mod Whole
+pub mod Steps

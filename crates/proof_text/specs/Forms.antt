@@ -1,14 +1,11 @@
 -- The forms of lines, each by its name and the words after it. No public clause cites this module.
-use Rattle.std.specs.Prelude.{ℕ, ◌==◌, List, [], ◌∷◌, codes, bytes_eq, Option, None, Some, option_and_then, option_map, if◌then◌else◌}
+use Rattle.std.specs.Prelude.{ℕ, ◌==◌, List, [], ◌∷◌, codes, bytes_eq, Option, None, Some, option_map, if◌then◌else◌}
 use Rattle.std.specs.List.{slice_split}
+use Rattle.fixed_milli.specs.Steps.{◌>>=◌}
 use Rattle.plane_geom.specs.declared.point.Point.{Point}
 use Rattle.proof_text.specs.declared.line.Line.{Line}
 use Rattle.proof_text.specs.declared.line.Line.TheVariants.{Edge, Corner, Row}
 use Rattle.proof_text.specs.Values.{natural, whole, index, label}
-
-infixl 10 ◌>>=◌
-abbrev pub ◌>>=◌ : {A B : Type 0} → Option A → (A → Option B) → Option B
-o >>= f = option_and_then f o
 
 -- cut, or cost C
 abbrev pub claim_form : List (List ℕ) → Option (Option ℕ)
