@@ -1,5 +1,6 @@
 -- Bytes are read as a tree, or as proofs, or they have a fault there.
 use Rattle.std.proofs.Common.{◌≡◌, ◌⊎◌, inl, inr, ℕ, zero, suc, ◌+◌, ◌<◌, ◌≤◌, List, [], ◌∷◌, length, get_or, Option, Some, None, Result, Ok, Err, refl, ap, subst, arith}
+use Rattle.std.proofs.Math.Decide.{ℕ_discrete}
 use Rattle.std.proofs.lemmas.Bool.{cases_lt}
 use Rattle.gml_text.specs.Tree.{Pairs}
 use Rattle.gml_text.specs.Parse.{ParsesAs, most_open}
@@ -12,7 +13,6 @@ use Rattle.proof_text.specs.Lines.{IsOneLine, newline}
 use Rattle.proof_text.specs.Reading.{BeginsWith, GoesOn, IsStuck, State as Lines, after_line, bad_line, no_line, proofs_of}
 use Rattle.proof_text.proofs.Parting as parting
 use Rattle.existence_laws.specs.Readings.{HaveProofReadings, HaveReadings, IsRead}
-use Rattle.existence_laws.proofs.Deciding.Decided.{Decided, holds, fails, same_nat}
 
 -- ---- trees
 
@@ -55,14 +55,14 @@ data Split (bytes : List ℕ) : Type 0 where
   no_end : IsOneLine bytes → Split bytes
   ends : (line after : List ℕ) → BeginsWith bytes line after → Split bytes
 
-split_on : (b : ℕ) (bytes : List ℕ) → Decided (b ≡ newline) → Split bytes → Split (b ∷ bytes)
-split_on b bytes (holds end) rest = ends [] bytes (record { spelled = ap (λ c. c ∷ bytes) end; one = tt })
-split_on b bytes (fails other) (no_end one) = no_end (other, one)
-split_on b bytes (fails other) (ends line after begins) = ends (b ∷ line) after (record { spelled = ap (λ bs. b ∷ bs) begins.spelled; one = (other, begins.one) })
+split_on : (b : ℕ) (bytes : List ℕ) → Dec (b ≡ newline) → Split bytes → Split (b ∷ bytes)
+split_on b bytes (yes end) rest = ends [] bytes (record { spelled = ap (λ c. c ∷ bytes) end; one = tt })
+split_on b bytes (no other) (no_end one) = no_end (other, one)
+split_on b bytes (no other) (ends line after begins) = ends (b ∷ line) after (record { spelled = ap (λ bs. b ∷ bs) begins.spelled; one = (other, begins.one) })
 
 split : (bytes : List ℕ) → Split bytes
 split [] = no_end tt
-split (b ∷ bytes) = split_on b bytes (same_nat b newline) (split bytes)
+split (b ∷ bytes) = split_on b bytes (ℕ_discrete b newline) (split bytes)
 
 module _ (bytes : List ℕ) where
   stuck : (b : ℕ) (rest : List ℕ) (count : ℕ) (s : Lines) → parting.HaveRead bytes (b ∷ rest) count s → IsStuck (b ∷ rest) s → IsRead bytes

@@ -23,16 +23,15 @@ use Rattle.scene_model.specs.Answers.{IsAnswerOf}
 use Rattle.scene_model.proofs.Editing.Entries.{each_weaker}
 use Rattle.scene_model.proofs.ForRouting.Floors.{floors_fit, floors_hold_tasks}
 use Rattle.existence_laws.specs.Answers.{HaveAnswers, TasksHaveAnswers}
-use Rattle.existence_laws.proofs.Deciding.Decided.{Decided, holds, fails}
 use Rattle.existence_laws.proofs.Walking.Walks.{HasShort, short_decided}
 
 -- a walk costs at least as much as it has steps
 module _ (floor : Floor) (task : Task) (is_floor : IsFloor floor) (is_task : IsTask task) (on : IsFloorOf floor task) where
-  by_short : Decided (HasShort floor.solids task (3 * 10 ^ 17)) → (answer : Option Route) × IsAnswer floor.solids task answer
-  by_short (holds (t, legal, few)) =
+  by_short : Dec (HasShort floor.solids task (3 * 10 ^ 17)) → (answer : Option Route) × IsAnswer floor.solids task answer
+  by_short (yes (t, legal, few)) =
       let first = (one_first floor.solids task).some t legal in
       let route = some_route task first.0 in (Some route.0, (first.0, first.1, route.1))
-  by_short (fails not) = (
+  by_short (no not) = (
     None,
     λ t legal.
         let first = (one_first floor.solids task).some t legal in

@@ -1,5 +1,7 @@
 -- Each line has a verdict: its rules are decided one after the other.
 use Rattle.std.proofs.Common.{◌≡◌, ◌≢◌, ◌⊎◌, inl, inr, ℕ, zero, suc, ◌+◌, ◌-◌, ◌<◌, ◌≤◌, ℤ, List, [], ◌∷◌, length, take, slice_get, Option, Some, None, Result, Ok, Err, refl, sym, ap, ◌∙◌, subst, arith}
+use Rattle.std.proofs.Math.Decide.{map_dec, dec_le, ℕ_discrete}
+use Rattle.std.proofs.Math.IntN.{ℤ_discrete}
 use Rattle.std.specs.Prelude.{Contains}
 use Rattle.std.proofs.lemmas.Bool.{cases_lt}
 use Rattle.std.proofs.lemmas.Option.{slice_get-get_or, same_Some}
@@ -13,20 +15,19 @@ use Rattle.walk_model.specs.Choice.{stub_length}
 use Rattle.walk_model.specs.Walk.{Walk, MeetsAt, point_at, step_at}
 use Rattle.walk_model.specs.Line.{AreStraight, steps_of, walk_through}
 use Rattle.walk_model.specs.Legal.{Arrives, Leaves, IsFree, IsLegal, Passes, cost_with}
-use Rattle.walk_model.proofs.Ranking.Deciding.{legal_told}
+use Rattle.walk_model.proofs.Ranking.Deciding.{told, legal_told}
 use Rattle.scene_model.proofs.Editing.Entries.{each_weaker}
 use Rattle.route_check.specs.declared.verdict.Breach.{Breach}
 use Rattle.route_check.specs.declared.verdict.Breach.TheVariants.{Slanted, StartOff, EndOff, Hits as HitsAt, MissesVia}
 use Rattle.route_check.specs.Verdict.{FirstSlanted, HitsNone, IsLegalLine, IsOnSegment, IsVerdict, Joins, MayMeet, StepHits, at_start, at_end}
 use Rattle.existence_laws.specs.Answers.{HaveVerdicts}
-use Rattle.existence_laws.proofs.Deciding.Decided.{Decided, holds, fails, HasLeast, decided_as, both, denied, least_of, nat_le, one_of, same_int, same_nat, some_below, some_in}
+use Rattle.existence_laws.proofs.Deciding.Decided.{HasLeast, both, denied, least_of, one_of, some_below, some_in}
 use Rattle.existence_laws.proofs.Walking.Lines.{arrives_decided, leaves_decided, passes_decided, segment_decided, step_decided, straight_decided}
-use Rattle.existence_laws.proofs.Walking.Walks.{told}
 
 -- a line that is not straight has a first slanted segment
-slanted_here : (p q : Point) (qs : List Point) → (IsStraight p q → (k : ℕ) × FirstSlanted q qs (suc k)) → Decided (IsStraight p q) → (k : ℕ) × FirstSlanted p (q ∷ qs) (suc k)
-slanted_here p q qs later (fails slanted) = (0, slanted)
-slanted_here p q qs later (holds straight) = let rest = later straight in (suc rest.0, (straight, rest.1))
+slanted_here : (p q : Point) (qs : List Point) → (IsStraight p q → (k : ℕ) × FirstSlanted q qs (suc k)) → Dec (IsStraight p q) → (k : ℕ) × FirstSlanted p (q ∷ qs) (suc k)
+slanted_here p q qs later (no slanted) = (0, slanted)
+slanted_here p q qs later (yes straight) = let rest = later straight in (suc rest.0, (straight, rest.1))
 
 first_slanted : (p : Point) (qs : List Point) → (AreStraight p qs → ⊥) → (k : ℕ) × FirstSlanted p qs (suc k)
 first_slanted p [] not = absurd (not tt)
@@ -39,7 +40,7 @@ take_all (p ∷ ps) = ap (λ rest. p ∷ rest) (take_all ps)
 -- the step of a list of steps is on one segment
 on_segment : (points : List Point) (k : ℕ) → k < length (steps_of points) → (segment : ℕ) × IsOnSegment points k segment
 on_segment points k within =
-    by_least (least_of (λ m. k < length (steps_of (take m points))) (λ m. nat_le (suc k) (length (steps_of (take m points)))) (length points)
+    by_least (least_of (λ m. k < length (steps_of (take m points))) (λ m. dec_le (suc k) (length (steps_of (take m points)))) (length points)
     (subst (λ ps. k < length (steps_of ps)) (sym (take_all points)) within))
   where
     by_number : (m : ℕ) → k < length (steps_of (take m points)) → ((n : ℕ) → n < m → k < length (steps_of (take n points)) → ⊥) → (segment : ℕ) × IsOnSegment points k segment
@@ -70,14 +71,14 @@ module _ (solids : List Solid) (task : Task) (p : Point) (qs : List Point) (stra
 
   -- the line leads from stub to stub
   module _ (s e : Choice) (joins : Joins task (p ∷ qs) s w e) (not : NotLegal) where
-    hits_decided : (k : ℕ) (solid : Solid) → Decided (StepHits s w e k solid)
+    hits_decided : (k : ℕ) (solid : Solid) → Dec (StepHits s w e k solid)
     hits_decided k solid =
         both (step_decided solid.rect (point_at w k) (step_at w k))
-        (denied (decided_as {P = ((suc k ≤ stub_length s) × (solid.node ≡ s.node)) ⊎ ((length w.steps - stub_length e ≤ k) × (solid.node ≡ e.node))}
+        (denied (map_dec {A = ((suc k ≤ stub_length s) × (solid.node ≡ s.node)) ⊎ ((length w.steps - stub_length e ≤ k) × (solid.node ≡ e.node))}
         (λ h. elim h as (λ _. MayMeet s w e k solid.node) [ inl g ↦ at_start g.0 g.1 | inr g ↦ at_end g.0 g.1 ])
         (λ h. elim h as (λ _. ((suc k ≤ stub_length s) × (solid.node ≡ s.node)) ⊎ ((length w.steps - stub_length e ≤ k) × (solid.node ≡ e.node)))
         [ at_start l same ↦ inl (l, same) | at_end l same ↦ inr (l, same) ])
-        (one_of (both (nat_le (suc k) (stub_length s)) (same_int solid.node s.node)) (both (nat_le (length w.steps - stub_length e) k) (same_int solid.node e.node)))))
+        (one_of (both (dec_le (suc k) (stub_length s)) (ℤ_discrete solid.node s.node)) (both (dec_le (length w.steps - stub_length e) k) (ℤ_discrete solid.node e.node)))))
 
     Hits : ℕ → Type 0
     Hits k = (solid : Solid) × Contains solids solid × StepHits s w e k solid
@@ -85,10 +86,10 @@ module _ (solids : List Solid) (task : Task) (p : Point) (qs : List Point) (stra
     HitsPlace : ℕ → ℕ → Type 0
     HitsPlace k j = (solid : Solid) × (slice_get solids j ≡ Some solid) × StepHits s w e k solid
 
-    place_decided : (k j : ℕ) (o : Option Solid) → slice_get solids j ≡ o → Decided (HitsPlace k j)
+    place_decided : (k j : ℕ) (o : Option Solid) → slice_get solids j ≡ o → Dec (HitsPlace k j)
     unfolding HitsPlace
-    place_decided k j None at = fails (λ h. let wrong : None ≡ Some h.0 = sym at ∙ h.1 in cc)
-    place_decided k j (Some solid) at = decided_as
+    place_decided k j None at = no (λ h. let wrong : None ≡ Some h.0 = sym at ∙ h.1 in cc)
+    place_decided k j (Some solid) at = map_dec
         (λ h. (solid, at, h))
         (λ h. subst (StepHits s w e k) (same_Some _ _ (sym h.1 ∙ at)) h.2)
         (hits_decided k solid)
@@ -155,7 +156,7 @@ module _ (solids : List Solid) (task : Task) (p : Point) (qs : List Point) (stra
       Misses : ℕ → Type 0
       Misses k = Passes w (stub_length s) (length w.steps - stub_length e) (take k task.via) → ⊥
 
-      passes_first : (k : ℕ) → Decided (Passes w (stub_length s) (length w.steps - stub_length e) (take k task.via))
+      passes_first : (k : ℕ) → Dec (Passes w (stub_length s) (length w.steps - stub_length e) (take k task.via))
       passes_first k = passes_decided w (length w.steps - stub_length e) (take k task.via) (stub_length s)
 
       by_place : (place : ℕ) → place ≤ length task.via → Misses place → ((k : ℕ) → k < place → Misses k → ⊥) → Verdict
@@ -179,9 +180,9 @@ module _ (solids : List Solid) (task : Task) (p : Point) (qs : List Point) (stra
         ),
       )
         where
-          by_passes : Decided (Passes w (stub_length s) (length w.steps - stub_length e) (take k task.via)) → Passes w (stub_length s) (length w.steps - stub_length e) (take k task.via)
-          by_passes (holds passes) = passes
-          by_passes (fails fewer) = absurd (none k (omega arith) fewer)
+          by_passes : Dec (Passes w (stub_length s) (length w.steps - stub_length e) (take k task.via)) → Passes w (stub_length s) (length w.steps - stub_length e) (take k task.via)
+          by_passes (yes passes) = passes
+          by_passes (no fewer) = absurd (none k (omega arith) fewer)
 
       missed : Verdict
       unfolding Misses NotLegal
@@ -197,10 +198,10 @@ module _ (solids : List Solid) (task : Task) (p : Point) (qs : List Point) (stra
             legal = legal (subst (Passes w (stub_length s) (length w.steps - stub_length e)) (take_all task.via) passes);
           })) in by_place first.least first.within first.has first.none_below
 
-    by_hits : Decided ((k : ℕ) × (k < length w.steps) × Hits k) → Verdict
+    by_hits : Dec ((k : ℕ) × (k < length w.steps) × Hits k) → Verdict
     unfolding Hits
-    by_hits (holds (k, l, hits)) = by_hit k l (least_of Hits (λ n. some_in (StepHits s w e n) (hits_decided n) solids) k hits)
-    by_hits (fails none) = missed (λ k l solid has hits. none (k, l, (solid, has, hits)))
+    by_hits (yes (k, l, hits)) = by_hit k l (least_of Hits (λ n. some_in (StepHits s w e n) (hits_decided n) solids) k hits)
+    by_hits (no none) = missed (λ k l solid has hits. none (k, l, (solid, has, hits)))
 
     joined : Verdict
     unfolding Hits
@@ -210,9 +211,9 @@ module _ (solids : List Solid) (task : Task) (p : Point) (qs : List Point) (stra
   Costs : Walk → ℕ → Type 0
   Costs v n = (s : Choice) × Contains task.starts s × ((e : Choice) × Contains task.ends e × (IsLegal solids task.via s v e × (cost_with task.penalty s v e ≡ n)))
 
-  costs_decided : (n : ℕ) → Decided (Costs w n)
+  costs_decided : (n : ℕ) → Dec (Costs w n)
   unfolding Costs
-  costs_decided n = some_in _ (λ s. some_in _ (λ e. both (told (legal_told solids task.via s w e)) (same_nat (cost_with task.penalty s w e) n)) task.ends) task.starts
+  costs_decided n = some_in _ (λ s. some_in _ (λ e. both (told (legal_told solids task.via s w e)) (ℕ_discrete (cost_with task.penalty s w e) n)) task.ends) task.starts
 
   by_cost : (n : ℕ) → HasLeast (Costs w) n → Verdict
   unfolding Costs Verdict
@@ -244,17 +245,17 @@ module _ (solids : List Solid) (task : Task) (p : Point) (qs : List Point) (stra
   unfolding AreLegal
   legal_of l = subst AreLegal l.draws.1 (l.start, l.is_start, (l.end, l.is_end, l.legal))
 
-  by_legal : Decided (AreLegal w) → AreJoined w → Verdict
+  by_legal : Dec (AreLegal w) → AreJoined w → Verdict
   unfolding AreLegal AreJoined NotLegal Costs
-  by_legal (holds (s, is_start, (e, is_end, legal))) pair =
+  by_legal (yes (s, is_start, (e, is_end, legal))) pair =
       let cost = cost_with task.penalty s w e in by_cost cost (least_of (Costs w) costs_decided cost (s, is_start, (e, is_end, (legal, refl))))
-  by_legal (fails none) (s, is_start, (leaves, (e, is_end, (arrives, fit)))) =
+  by_legal (no none) (s, is_start, (leaves, (e, is_end, (arrives, fit)))) =
       joined s e (record { draws = (straight, refl); is_start = is_start; is_end = is_end; leaves = leaves; arrives = arrives; stubs_fit = fit }) (λ l. none (legal_of l))
 
-  by_joined : Decided (AreJoined w) → AreLeft w → Verdict
+  by_joined : Dec (AreJoined w) → AreLeft w → Verdict
   unfolding AreLegal AreJoined AreLeft Verdict
-  by_joined (holds pair) left = by_legal (some_in _ (λ s. some_in _ (λ e. told (legal_told solids task.via s w e)) task.ends) task.starts) pair
-  by_joined (fails none) (s, is_start, leaves) = (
+  by_joined (yes pair) left = by_legal (some_in _ (λ s. some_in _ (λ e. told (legal_told solids task.via s w e)) task.ends) task.starts) pair
+  by_joined (no none) (s, is_start, leaves) = (
     Err EndOff,
     (
       λ l. none (subst AreJoined l.draws.1 (l.start, l.is_start, (l.legal.leaves, (l.end, l.is_end, (l.legal.arrives, l.legal.stubs_fit))))),
@@ -269,12 +270,12 @@ module _ (solids : List Solid) (task : Task) (p : Point) (qs : List Point) (stra
     ),
   )
 
-  by_left : Decided (AreLeft w) → Verdict
+  by_left : Dec (AreLeft w) → Verdict
   unfolding AreJoined AreLeft Verdict
-  by_left (holds left) =
+  by_left (yes left) =
       by_joined
-      (some_in _ (λ s. both (leaves_decided w s) (some_in _ (λ e. both (arrives_decided w e) (nat_le (stub_length s + stub_length e) (length w.steps))) task.ends)) task.starts) left
-  by_left (fails none) = (
+      (some_in _ (λ s. both (leaves_decided w s) (some_in _ (λ e. both (arrives_decided w e) (dec_le (stub_length s + stub_length e) (length w.steps))) task.ends)) task.starts) left
+  by_left (no none) = (
     Err StartOff,
     (
       λ l. none (subst AreLeft l.draws.1 (l.start, l.is_start, l.legal.leaves)),
@@ -291,6 +292,6 @@ unfolding Verdict
 some_verdict solids task [] = (Err StartOff, (λ l. l.draws, record { straight = tt; none = λ w draws s is leaves. draws }))
 some_verdict solids task (p ∷ qs) = by_straight (straight_decided p qs)
   where
-    by_straight : Decided (AreStraight p qs) → (verdict : Result ℕ Breach) × IsVerdict solids task (p ∷ qs) verdict
-    by_straight (holds straight) = verdict solids task p qs straight
-    by_straight (fails not) = let slanted = first_slanted p qs not in (Err (Slanted (suc slanted.0)), (λ l. not l.draws.0, slanted.1))
+    by_straight : Dec (AreStraight p qs) → (verdict : Result ℕ Breach) × IsVerdict solids task (p ∷ qs) verdict
+    by_straight (yes straight) = verdict solids task p qs straight
+    by_straight (no not) = let slanted = first_slanted p qs not in (Err (Slanted (suc slanted.0)), (λ l. not l.draws.0, slanted.1))

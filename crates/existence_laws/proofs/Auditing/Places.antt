@@ -1,5 +1,7 @@
 -- It is decided whether walks enter a floor at a place, move to it or end there, at a cost.
 use Rattle.std.proofs.Common.{◌≡◌, ◌≢◌, ◌⊎◌, inl, inr, ℕ, suc, ◌+◌, ◌*◌, ◌<◌, ◌≤◌, List, length, slice_get, Some, refl, sym, subst, arith}
+use Rattle.std.proofs.Math.Decide.{map_dec, dec_le, ℕ_discrete}
+use Rattle.std.proofs.Math.IntN.{ℤ_discrete}
 use Rattle.std.specs.Prelude.{Contains}
 use Rattle.plane_geom.specs.declared.point.Point.{Point}
 use Rattle.plane_geom.specs.declared.point.Dir.{Dir}
@@ -16,41 +18,41 @@ use Rattle.walk_model.specs.Cost.{turn}
 use Rattle.move_model.specs.Places.{ComesTo, HasFreeStub}
 use Rattle.proof_model.specs.Crossings.{IsNextCrossing}
 use Rattle.proof_model.specs.Places.{IsExit, IsEntry, IsMove, Place}
-use Rattle.existence_laws.proofs.Deciding.Decided.{Decided, holds, fails, both, decided_as, denied, nat_le, one_of, same_int, same_nat, same_option, some_below}
+use Rattle.existence_laws.proofs.Deciding.Decided.{both, denied, one_of, same_option, some_below}
 use Rattle.existence_laws.proofs.Deciding.Alike.{same_point}
 use Rattle.existence_laws.proofs.Auditing.Floors.{all_decided, crossing_decided, few_ahead, meets_decided, next_decided}
 
-free_decided : (solids : List Solid) (c : Choice) → Decided (HasFreeStub solids c)
+free_decided : (solids : List Solid) (c : Choice) → Dec (HasFreeStub solids c)
 free_decided solids c = all_decided (λ s. s.node ≢ c.node → Meets s.rect c.pin c.port → ⊥) each solids
   where
-    of_node : (s : Solid) → Decided (s.node ≡ c.node) → Decided (Meets s.rect c.pin c.port) → Decided (s.node ≢ c.node → Meets s.rect c.pin c.port → ⊥)
-    of_node s (holds own) meets = holds (λ other. absurd (other own))
-    of_node s (fails other) (fails apart) = holds (λ _. apart)
-    of_node s (fails other) (holds meets) = fails (λ free. free other meets)
+    of_node : (s : Solid) → Dec (s.node ≡ c.node) → Dec (Meets s.rect c.pin c.port) → Dec (s.node ≢ c.node → Meets s.rect c.pin c.port → ⊥)
+    of_node s (yes own) meets = yes (λ other. absurd (other own))
+    of_node s (no other) (no apart) = yes (λ _. apart)
+    of_node s (no other) (yes meets) = no (λ free. free other meets)
 
-    each : (s : Solid) → Decided (s.node ≢ c.node → Meets s.rect c.pin c.port → ⊥)
-    each s = of_node s (same_int s.node c.node) (meets_decided s.rect c.pin c.port)
+    each : (s : Solid) → Dec (s.node ≢ c.node → Meets s.rect c.pin c.port → ⊥)
+    each s = of_node s (ℤ_discrete s.node c.node) (meets_decided s.rect c.pin c.port)
 
 -- the checkpoints from one number to another are at the point
-passed_decided : (via : List Point) (k : ℕ) (p : Point) (j : ℕ) → Decided ((i : ℕ) → k ≤ i → i < j → slice_get via i ≡ Some p)
-passed_decided via k p j = decided_as
+passed_decided : (via : List Point) (k : ℕ) (p : Point) (j : ℕ) → Dec ((i : ℕ) → k ≤ i → i < j → slice_get via i ≡ Some p)
+passed_decided via k p j = map_dec
     (λ none i low high. still i low high none (same_option same_point (slice_get via i) (Some p)))
     (λ all. λ h. let low : k ≤ h.0 = h.2.0 in h.2.1 (all h.0 low h.1))
-    (denied (some_below j (λ i. (k ≤ i) × (slice_get via i ≡ Some p → ⊥)) (λ i. both (nat_le k i) (denied (same_option same_point (slice_get via i) (Some p))))))
+    (denied (some_below j (λ i. (k ≤ i) × (slice_get via i ≡ Some p → ⊥)) (λ i. both (dec_le k i) (denied (same_option same_point (slice_get via i) (Some p))))))
   where
-    still : (i : ℕ) → k ≤ i → i < j → ((h : ℕ) × (h < j) × ((k ≤ h) × (slice_get via h ≡ Some p → ⊥)) → ⊥) → Decided (slice_get via i ≡ Some p) → slice_get via i ≡ Some p
-    still i low high none (holds same) = same
-    still i low high none (fails other) = absurd (none (i, high, (low, other)))
+    still : (i : ℕ) → k ≤ i → i < j → ((h : ℕ) × (h < j) × ((k ≤ h) × (slice_get via h ≡ Some p → ⊥)) → ⊥) → Dec (slice_get via i ≡ Some p) → slice_get via i ≡ Some p
+    still i low high none (yes same) = same
+    still i low high none (no other) = absurd (none (i, high, (low, other)))
 
-comes_decided : (via : List Point) (k : ℕ) (p : Point) (j : ℕ) → Decided (ComesTo via k p j)
-comes_decided via k p j = decided_as
+comes_decided : (via : List Point) (k : ℕ) (p : Point) (j : ℕ) → Dec (ComesTo via k p j)
+comes_decided via k p j = map_dec
     (λ h. record { from = h.0.0; within = h.0.1; passed = h.1.0; no_more = h.1.1 })
     (λ c. ((c.from, c.within), (c.passed, c.no_more)))
-    (both (both (nat_le k j) (nat_le j (length via))) (both (passed_decided via k p j) (denied (same_option same_point (slice_get via j) (Some p)))))
+    (both (both (dec_le k j) (dec_le j (length via))) (both (passed_decided via k p j) (denied (same_option same_point (slice_get via j) (Some p)))))
 
 -- some direction, and all
-pub some_dir : (P : Dir → Type 0) → ((d : Dir) → Decided (P d)) → Decided ((d : Dir) × P d)
-some_dir P each = decided_as {P = (P East ⊎ P South) ⊎ (P West ⊎ P North)} into back (one_of (one_of (each East) (each South)) (one_of (each West) (each North)))
+pub some_dir : (P : Dir → Type 0) → ((d : Dir) → Dec (P d)) → Dec ((d : Dir) × P d)
+some_dir P each = map_dec {A = (P East ⊎ P South) ⊎ (P West ⊎ P North)} into back (one_of (one_of (each East) (each South)) (one_of (each West) (each North)))
   where
     into : (P East ⊎ P South) ⊎ (P West ⊎ P North) → (d : Dir) × P d
     into (inl (inl p)) = (East, p)
@@ -64,8 +66,8 @@ some_dir P each = decided_as {P = (P East ⊎ P South) ⊎ (P West ⊎ P North)}
     back (West, p) = inr (inl p)
     back (North, p) = inr (inr p)
 
-pub all_dirs : (P : Dir → Type 0) → ((d : Dir) → Decided (P d)) → Decided ((d : Dir) → P d)
-all_dirs P each = decided_as {P = (P East × P South) × (P West × P North)} into (λ f. ((f East, f South), (f West, f North))) (both (both (each East) (each South)) (both (each West) (each North)))
+pub all_dirs : (P : Dir → Type 0) → ((d : Dir) → Dec (P d)) → Dec ((d : Dir) → P d)
+all_dirs P each = map_dec {A = (P East × P South) × (P West × P North)} into (λ f. ((f East, f South), (f West, f North))) (both (both (each East) (each South)) (both (each West) (each North)))
   where
     into : (P East × P South) × (P West × P North) → (d : Dir) → P d
     into h East = h.0.0
@@ -82,7 +84,7 @@ module _ (floor : Floor) (task : Task) where
   unfoldable pub Enters : Choice → ℕ → Type 0
   Enters c stage = (IsCrossing floor c.port × HasFreeStub floor.solids c) × ComesTo task.via 0 c.port stage
 
-  pub enters_decided : (c : Choice) (stage : ℕ) → Decided (Enters c stage)
+  pub enters_decided : (c : Choice) (stage : ℕ) → Dec (Enters c stage)
   unfolding Enters
   enters_decided c stage = both (both (crossing_decided floor c.port) (free_decided floor.solids c)) (comes_decided task.via 0 c.port stage)
 
@@ -105,7 +107,7 @@ module _ (floor : Floor) (task : Task) where
   unfoldable pub Moves : Place → Dir → ℕ → ℕ → Type 0
   Moves x d n stage = IsNextCrossing floor d x.at n (forward d n x.at) × ComesTo task.via x.stage (forward d n x.at) stage
 
-  pub moves_decided : (x : Place) (d : Dir) (n stage : ℕ) → Decided (Moves x d n stage)
+  pub moves_decided : (x : Place) (d : Dir) (n stage : ℕ) → Dec (Moves x d n stage)
   unfolding Moves
   moves_decided x d n stage = both (next_decided floor d x.at n) (comes_decided task.via x.stage (forward d n x.at) stage)
 
@@ -134,9 +136,9 @@ module _ (floor : Floor) (task : Task) where
   pub Ends : Place → Choice → Type 0
   Ends x c = ((IsCrossing floor x.at × HasFreeStub floor.solids c) × (x.stage ≡ length task.via)) × (x.at ≡ c.port)
 
-  pub ends_decided : (x : Place) (c : Choice) → Decided (Ends x c)
+  pub ends_decided : (x : Place) (c : Choice) → Dec (Ends x c)
   unfolding Ends
-  ends_decided x c = both (both (both (crossing_decided floor x.at) (free_decided floor.solids c)) (same_nat x.stage (length task.via))) (same_point x.at c.port)
+  ends_decided x c = both (both (both (crossing_decided floor x.at) (free_decided floor.solids c)) (ℕ_discrete x.stage (length task.via))) (same_point x.at c.port)
 
   abbrev pub end_cost : Place → Choice → ℕ
   end_cost x c = task.penalty * turn x.heading (opposite c.dir) + stub_length c + c.cost

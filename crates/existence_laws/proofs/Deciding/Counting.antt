@@ -3,7 +3,7 @@ use Rattle.std.proofs.Common.{◌≡◌, inl, inr, ℕ, zero, suc, ◌+◌, ◌-
 use Rattle.std.specs.Prelude.{Contains}
 use Rattle.std.specs.List.{AllByRecursion as Each}
 use Rattle.std.proofs.lemmas.Bool.{cases_lt}
-use Rattle.existence_laws.proofs.Deciding.Decided.{Decided, holds, fails, both, denied, settled, some_in}
+use Rattle.existence_laws.proofs.Deciding.Decided.{both, denied, settled, some_in}
 
 -- the lists of the numbers below a bound, one after the other
 unfoldable pub below : {X : Type 0} → ℕ → (ℕ → List X) → List X
@@ -37,42 +37,42 @@ contains_below part (suc n) i x l has = elim (cases_lt i n) as (λ _. Contains (
 ]
 
 -- how many elements have a decided property
-unfoldable pub tally : {P : Type 0} → Decided P → ℕ
-tally (holds p) = 1
-tally (fails n) = 0
+unfoldable pub tally : {P : Type 0} → Dec P → ℕ
+tally (yes p) = 1
+tally (no n) = 0
 
-tally_most : {P : Type 0} (d : Decided P) → tally d ≤ 1
+tally_most : {P : Type 0} (d : Dec P) → tally d ≤ 1
 unfolding tally
-tally_most (holds p) = omega arith
-tally_most (fails n) = omega arith
+tally_most (yes p) = omega arith
+tally_most (no n) = omega arith
 
-pub tally_grows : {P Q : Type 0} (d : Decided P) (e : Decided Q) → (P → Q) → tally d ≤ tally e
+pub tally_grows : {P Q : Type 0} (d : Dec P) (e : Dec Q) → (P → Q) → tally d ≤ tally e
 unfolding tally
-tally_grows (holds p) (holds q) f = omega arith
-tally_grows (holds p) (fails n) f = absurd (n (f p))
-tally_grows (fails m) e f = omega arith
+tally_grows (yes p) (yes q) f = omega arith
+tally_grows (yes p) (no n) f = absurd (n (f p))
+tally_grows (no m) e f = omega arith
 
-tally_new : {P Q : Type 0} (d : Decided P) (e : Decided Q) → (P → ⊥) → Q → tally d < tally e
+tally_new : {P Q : Type 0} (d : Dec P) (e : Dec Q) → (P → ⊥) → Q → tally d < tally e
 unfolding tally
-tally_new (holds p) e not q = absurd (not p)
-tally_new (fails m) (holds r) not q = omega arith
-tally_new (fails m) (fails n) not q = absurd (n q)
+tally_new (yes p) e not q = absurd (not p)
+tally_new (no m) (yes r) not q = omega arith
+tally_new (no m) (no n) not q = absurd (n q)
 
-count : {X : Type 0} (P : X → Type 0) → ((x : X) → Decided (P x)) → List X → ℕ
+count : {X : Type 0} (P : X → Type 0) → ((x : X) → Dec (P x)) → List X → ℕ
 count P each [] = 0
 count P each (x ∷ xs) = tally (each x) + count P each xs
 
-count_most : {X : Type 0} (P : X → Type 0) (each : (x : X) → Decided (P x)) (xs : List X) → count P each xs ≤ length xs
+count_most : {X : Type 0} (P : X → Type 0) (each : (x : X) → Dec (P x)) (xs : List X) → count P each xs ≤ length xs
 unfolding count
 count_most P each [] = omega arith
 count_most P each (x ∷ xs) = omega (arith, tally_most (each x), count_most P each xs)
 
-count_grows : {X : Type 0} (P Q : X → Type 0) (d : (x : X) → Decided (P x)) (e : (x : X) → Decided (Q x)) → ((x : X) → P x → Q x) → (xs : List X) → count P d xs ≤ count Q e xs
+count_grows : {X : Type 0} (P Q : X → Type 0) (d : (x : X) → Dec (P x)) (e : (x : X) → Dec (Q x)) → ((x : X) → P x → Q x) → (xs : List X) → count P d xs ≤ count Q e xs
 unfolding count
 count_grows P Q d e f [] = omega arith
 count_grows P Q d e f (x ∷ xs) = omega (arith, tally_grows (d x) (e x) (f x), count_grows P Q d e f xs)
 
-count_new : {X : Type 0} (P Q : X → Type 0) (d : (x : X) → Decided (P x)) (e : (x : X) → Decided (Q x)) → ((x : X) → P x → Q x) → (xs : List X) (x : X) → Contains xs x → (P x → ⊥) → Q x → count P d xs < count Q e xs
+count_new : {X : Type 0} (P Q : X → Type 0) (d : (x : X) → Dec (P x)) (e : (x : X) → Dec (Q x)) → ((x : X) → P x → Q x) → (xs : List X) (x : X) → Contains xs x → (P x → ⊥) → Q x → count P d xs < count Q e xs
 unfolding count
 count_new P Q d e f [] x (k, l, same) not q = absurd (omega (arith, l))
 count_new P Q d e f (y ∷ xs) x (zero, l, same) not q =
@@ -80,15 +80,15 @@ count_new P Q d e f (y ∷ xs) x (zero, l, same) not q =
 count_new P Q d e f (y ∷ xs) x (suc k, l, same) not q = omega (arith, tally_grows (d y) (e y) (f y), count_new P Q d e f xs x (k, omega (arith, l), same) not q)
 
 -- a property that grows from number to number stops growing on a list
-module _ {X : Type 0} (xs : List X) (R : ℕ → X → Type 0) (each : (k : ℕ) (x : X) → Decided (R k x)) (up : (k : ℕ) (x : X) → R k x → R (suc k) x) where
+module _ {X : Type 0} (xs : List X) (R : ℕ → X → Type 0) (each : (k : ℕ) (x : X) → Dec (R k x)) (up : (k : ℕ) (x : X) → R k x → R (suc k) x) where
   Stops : Type 0
   Stops = (k : ℕ) × ((x : X) → Contains xs x → R (suc k) x → R k x)
 
-  by_new : (fuel k : ℕ) → length xs ≤ count (R k) (each k) xs + fuel → Decided ((x : X) × Contains xs x × (R (suc k) x × (R k x → ⊥)))
+  by_new : (fuel k : ℕ) → length xs ≤ count (R k) (each k) xs + fuel → Dec ((x : X) × Contains xs x × (R (suc k) x × (R k x → ⊥)))
       → (length xs ≤ count (R (suc k)) (each (suc k)) xs + (fuel - 1) → 0 < fuel → Stops) → Stops
   unfolding Stops
-  by_new fuel k few (fails none) on = (k, λ x has more. settled (each k x) (λ not. none (x, has, (more, not))))
-  by_new fuel k few (holds (x, has, (more, not))) on =
+  by_new fuel k few (no none) on = (k, λ x has more. settled (each k x) (λ not. none (x, has, (more, not))))
+  by_new fuel k few (yes (x, has, (more, not))) on =
       let new = count_new (R k) (R (suc k)) (each k) (each (suc k)) (up k) xs x has not more in
       let most = count_most (R (suc k)) (each (suc k)) xs in on (omega (arith, few, new, most)) (omega (arith, few, new, most))
 

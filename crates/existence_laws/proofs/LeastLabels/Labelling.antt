@@ -31,7 +31,6 @@ use Rattle.proof_model.specs.Places.{Place}
 use Rattle.proof_model.specs.Rules.{Suffices}
 use Rattle.proof_model.proofs.LeastLabels.{place_in, row_itself}
 use Rattle.existence_laws.specs.Audits.{HaveLeastProofs}
-use Rattle.existence_laws.proofs.Deciding.Decided.{Decided, holds, fails}
 use Rattle.existence_laws.proofs.Answering.Answered.{partners, some_answer}
 use Rattle.existence_laws.proofs.Auditing.Audits.{labelled, some_decided}
 use Rattle.existence_laws.proofs.Deciding.Counting.{below, each_append, each_below}
@@ -109,33 +108,33 @@ label_below part (suc n) i z l miss = elim (cases_lt i n) as (λ _. label_of (be
 
 -- ---- the rows
 
-kept_row : (r : LabelRow) → Decided ((h : Dir) × IsSome (label_in r h)) → List LabelRow
-kept_row r (holds some) = r ∷ []
-kept_row r (fails none) = []
+kept_row : (r : LabelRow) → Dec ((h : Dir) × IsSome (label_in r h)) → List LabelRow
+kept_row r (yes some) = r ∷ []
+kept_row r (no none) = []
 
-kept_each : (P : LabelRow → Type 0) (r : LabelRow) (d : Decided ((h : Dir) × IsSome (label_in r h))) → P r → Each P (kept_row r d)
+kept_each : (P : LabelRow → Type 0) (r : LabelRow) (d : Dec ((h : Dir) × IsSome (label_in r h))) → P r → Each P (kept_row r d)
 unfolding kept_row
-kept_each P r (holds some) p = (p, tt)
-kept_each P r (fails none) p = tt
+kept_each P r (yes some) p = (p, tt)
+kept_each P r (no none) p = tt
 
-kept_some : (r : LabelRow) (d : Decided ((h : Dir) × IsSome (label_in r h))) → Each (λ q. (h : Dir) × IsSome (label_in q h)) (kept_row r d)
+kept_some : (r : LabelRow) (d : Dec ((h : Dir) × IsSome (label_in r h))) → Each (λ q. (h : Dir) × IsSome (label_in q h)) (kept_row r d)
 unfolding kept_row
-kept_some r (holds some) = (some, tt)
-kept_some r (fails none) = tt
+kept_some r (yes some) = (some, tt)
+kept_some r (no none) = tt
 
-kept_rises : (r : LabelRow) (d : Decided ((h : Dir) × IsSome (label_in r h))) → Rises (kept_row r d)
+kept_rises : (r : LabelRow) (d : Dec ((h : Dir) × IsSome (label_in r h))) → Rises (kept_row r d)
 unfolding kept_row
-kept_rises r (holds some) = (tt, tt)
-kept_rises r (fails none) = tt
+kept_rises r (yes some) = (tt, tt)
+kept_rises r (no none) = tt
 
 none_there : (o : Option ℕ) → (IsSome o → ⊥) → None ≡ o
 none_there None not = refl
 none_there (Some n) not = absurd (not refl)
 
-kept_label : (r : LabelRow) (h : Dir) (d : Decided ((g : Dir) × IsSome (label_in r g))) → label_of (kept_row r d) (place_in r h) ≡ label_in r h
+kept_label : (r : LabelRow) (h : Dir) (d : Dec ((g : Dir) × IsSome (label_in r g))) → label_of (kept_row r d) (place_in r h) ≡ label_in r h
 unfolding kept_row
-kept_label r h (holds some) = ap (λ b. if b then label_in r h else None) (row_itself r h)
-kept_label r h (fails none) = none_there (label_in r h) (λ is. none (h, is))
+kept_label r h (yes some) = ap (λ b. if b then label_in r h else None) (row_itself r h)
+kept_label r h (no none) = none_there (label_in r h) (λ is. none (h, is))
 
 each_has : (P : LabelRow → Type 0) (rs : List LabelRow) (r : LabelRow) → Each P rs → Contains rs r → P r
 each_has P [] r each (k, l, e) = absurd (omega (arith, l))
@@ -163,7 +162,7 @@ module _ (floor : Floor) (task : Task) (claim : Claim) where
   abbrev point : ℕ → ℕ → Point
   point j i = record { x = coordinate i; y = coordinate j }
 
-  kept : (r : LabelRow) → Decided ((h : Dir) × IsSome (label_in r h))
+  kept : (r : LabelRow) → Dec ((h : Dir) × IsSome (label_in r h))
   kept r = some_dir (λ h. IsSome (label_in r h)) (λ h. some_decided (label_in r h))
 
   cell : ℕ → ℕ → ℕ → List LabelRow

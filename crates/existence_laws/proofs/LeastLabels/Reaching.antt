@@ -1,5 +1,6 @@
 -- It is decided whether walks come to a place, and at which least cost.
 use Rattle.std.proofs.Common.{◌≡◌, ◌⊎◌, inl, inr, ℕ, zero, suc, ◌+◌, ◌-◌, ◌<◌, ◌≤◌, ℤ, pos, ◌+ℤ◌, ◌-ℤ◌, List, [], ◌∷◌, length, Option, Some, None, refl, sym, ap, ◌∙◌, subst, arith}
+use Rattle.std.proofs.Math.Decide.{map_dec, dec_le, ℕ_discrete}
 use Rattle.std.specs.Prelude.{Contains, unsigned_abs}
 use Rattle.std.proofs.lemmas.Bool.{cases_lt}
 use Rattle.std.proofs.lemmas.Int.{ints}
@@ -19,7 +20,7 @@ use Rattle.proof_model.specs.Crossings.{IsNextCrossing}
 use Rattle.proof_model.specs.LeastLabels.{Comes, IsLabelReached, Step}
 use Rattle.proof_model.specs.Places.{IsEntry, IsMove, Place}
 use Rattle.proof_model.specs.Rules.{Suffices}
-use Rattle.existence_laws.proofs.Deciding.Decided.{Decided, holds, fails, HasLeast, both, decided_as, least_below, nat_le, one_of, same_nat, some_below, some_in}
+use Rattle.existence_laws.proofs.Deciding.Decided.{HasLeast, both, least_below, one_of, some_below, some_in}
 use Rattle.existence_laws.proofs.Deciding.Alike.{same_point}
 use Rattle.existence_laws.proofs.Deciding.Counting.{below, contains_below, stops}
 use Rattle.existence_laws.proofs.Auditing.Floors.{crossing_on_sheet, few_ahead}
@@ -100,33 +101,33 @@ module _ (floor : Floor) (task : Task) where
         ),
       )
 
-  before_decided : (P : Place → ℕ → Type 0) → ((y : Place) (cost : ℕ) → Decided (P y cost)) → (x : Place) → Decided (Before P x)
+  before_decided : (P : Place → ℕ → Type 0) → ((y : Place) (cost : ℕ) → Dec (P y cost)) → (x : Place) → Dec (Before P x)
   unfolding HasBehind
-  before_decided P each x = decided_as (before_from P x) (before_back P x)
+  before_decided P each x = map_dec (before_from P x) (before_back P x)
       (some_below 8000000001 _ (λ n. some_below (suc x.stage) _ (λ stage. some_dir _ (λ h.
       both (moves_decided floor task (behind x n stage h) x.heading n x.stage) (each (behind x n stage h) (move_cost floor task (behind x n stage h) x.heading n))))))
 
-  entry_decided : (x : Place) (cost : ℕ) → Decided (IsEntry floor task x cost)
+  entry_decided : (x : Place) (cost : ℕ) → Dec (IsEntry floor task x cost)
   unfolding Enters
-  entry_decided x cost = decided_as
+  entry_decided x cost = map_dec
       (λ h. record { start = h.0; is_start = h.1; crossing = subst (IsCrossing floor) (sym h.2.1.0.0) h.2.0.0.0; free = h.2.0.0.1; stage = h.2.0.1; at = h.2.1.0.0; heading = h.2.1.0.1; costs = h.2.1.1 })
       (λ e. (e.start, e.is_start, (((subst (IsCrossing floor) e.at e.crossing, e.free), e.stage), ((e.at, e.heading), e.costs))))
       (some_in (λ c. Enters floor task c x.stage × (((x.at ≡ c.port) × (x.heading ≡ c.dir)) × (cost ≡ stub_length c + c.cost)))
-      (λ c. both (enters_decided floor task c x.stage) (both (both (same_point x.at c.port) (same_dir x.heading c.dir)) (same_nat cost (stub_length c + c.cost)))) task.starts)
+      (λ c. both (enters_decided floor task c x.stage) (both (both (same_point x.at c.port) (same_dir x.heading c.dir)) (ℕ_discrete cost (stub_length c + c.cost)))) task.starts)
 
   -- a walk of at most k moves comes here at this cost
   Within : ℕ → ℕ → Place → Type 0
   Within k cost x = (steps : List Step) × Comes floor task steps x cost × (length steps ≤ k)
 
-  within_decided : (k cost : ℕ) (x : Place) → Decided (Within k cost x)
+  within_decided : (k cost : ℕ) (x : Place) → Dec (Within k cost x)
   unfolding Within Before
-  within_decided zero cost x = decided_as (λ e. ([], e, omega arith)) (no_moves) (entry_decided x cost)
+  within_decided zero cost x = map_dec (λ e. ([], e, omega arith)) (no_moves) (entry_decided x cost)
     where
       no_moves : (steps : List Step) × Comes floor task steps x cost × (length steps ≤ 0) → IsEntry floor task x cost
       no_moves ([], e, few) = e
       no_moves (s ∷ ss, e, few) = absurd (omega (arith, few))
-  within_decided (suc k) cost x = decided_as {P = IsEntry floor task x cost ⊎ Before (λ y c. (c ≤ cost) × Within k (cost - c) y) x} into back
-      (one_of (entry_decided x cost) (before_decided (λ y c. (c ≤ cost) × Within k (cost - c) y) (λ y c. both (nat_le c cost) (within_decided k (cost - c) y)) x))
+  within_decided (suc k) cost x = map_dec {A = IsEntry floor task x cost ⊎ Before (λ y c. (c ≤ cost) × Within k (cost - c) y) x} into back
+      (one_of (entry_decided x cost) (before_decided (λ y c. (c ≤ cost) × Within k (cost - c) y) (λ y c. both (dec_le c cost) (within_decided k (cost - c) y)) x))
     where
       into : IsEntry floor task x cost ⊎ Before (λ y c. (c ≤ cost) × Within k (cost - c) y) x → (steps : List Step) × Comes floor task steps x cost × (length steps ≤ suc k)
       into (inl e) = ([], e, omega arith)
@@ -148,18 +149,18 @@ module _ (floor : Floor) (task : Task) where
   pub Reaches : Place → ℕ → Type 0
   Reaches x cost = (steps : List Step) × Comes floor task steps x cost
 
-  pub reaches_decided : (x : Place) (cost : ℕ) → Decided (Reaches x cost)
+  pub reaches_decided : (x : Place) (cost : ℕ) → Dec (Reaches x cost)
   unfolding Reaches Within
-  reaches_decided x cost = decided_as (λ h. (h.0, h.1)) (λ h. (h.0, h.1, few_moves h.0 x cost h.1)) (within_decided cost cost x)
+  reaches_decided x cost = map_dec (λ h. (h.0, h.1)) (λ h. (h.0, h.1, few_moves h.0 x cost h.1)) (within_decided cost cost x)
 
   -- a walk of at most this number of moves comes here, at whatever cost
   Grows : ℕ → Place → Type 0
   Grows zero x = (cost : ℕ) × IsEntry floor task x cost
   Grows (suc k) x = Grows k x ⊎ Before (λ y cost. Grows k y) x
 
-  some_entry : (x : Place) → Decided ((cost : ℕ) × IsEntry floor task x cost)
+  some_entry : (x : Place) → Dec ((cost : ℕ) × IsEntry floor task x cost)
   unfolding Enters
-  some_entry x = decided_as
+  some_entry x = map_dec
       (λ h. (
         stub_length h.0 + h.0.cost,
         record {
@@ -177,7 +178,7 @@ module _ (floor : Floor) (task : Task) where
       (some_in (λ c. Enters floor task c x.stage × ((x.at ≡ c.port) × (x.heading ≡ c.dir)))
       (λ c. both (enters_decided floor task c x.stage) (both (same_point x.at c.port) (same_dir x.heading c.dir))) task.starts)
 
-  grows_decided : (k : ℕ) (x : Place) → Decided (Grows k x)
+  grows_decided : (k : ℕ) (x : Place) → Dec (Grows k x)
   unfolding Grows
   grows_decided zero x = some_entry x
   grows_decided (suc k) x = one_of (grows_decided k x) (before_decided (λ y cost. Grows k y) (λ y cost. grows_decided k y) x)
@@ -236,11 +237,11 @@ module _ (floor : Floor) (task : Task) where
   closed m stable (s ∷ ss) x cost (before, comes, move, e) =
       stable x (in_places x (comes_in_range (s ∷ ss) x cost (before, comes, move, e))) (inr (s.from, s.cost, move, closed m stable ss s.from before comes))
 
-  pub some_cost_decided : (x : Place) → Decided ((cost : ℕ) × Reaches x cost)
+  pub some_cost_decided : (x : Place) → Dec ((cost : ℕ) × Reaches x cost)
   unfolding Reaches Grows
   some_cost_decided x =
       let end = stops places Grows grows_decided (λ k y g. inl g) in
-      decided_as (grown_reaches end.0 x) (λ h. closed end.0 end.1 h.1.0 x h.0 h.1.1) (grows_decided end.0 x)
+      map_dec (grown_reaches end.0 x) (λ h. closed end.0 end.1 h.1.0 x h.0 h.1.1) (grows_decided end.0 x)
 
   -- the label of a place: what a walk costs at least that comes there, below the claim; for a cut, 0
   pub record IsLabel (claim : Claim) (x : Place) (label : Option ℕ) : Type 0 where
@@ -264,10 +265,10 @@ module _ (floor : Floor) (task : Task) where
     },
   )
 
-  label_by_reach : (x : Place) → Decided ((cost : ℕ) × Reaches x cost) → (label : Option ℕ) × IsLabel Cut x label
+  label_by_reach : (x : Place) → Dec ((cost : ℕ) × Reaches x cost) → (label : Option ℕ) × IsLabel Cut x label
   unfolding Reaches
-  label_by_reach x (holds (cost, (steps, comes))) = (Some 0, record { reached = λ n e. (sym (same_Some _ _ e), steps, cost, comes); least = λ steps cost comes. refl })
-  label_by_reach x (fails none) = (None, record { reached = λ n e. absurd (none-some _ e); least = λ steps cost comes. absurd (none (cost, (steps, comes))) })
+  label_by_reach x (yes (cost, (steps, comes))) = (Some 0, record { reached = λ n e. (sym (same_Some _ _ e), steps, cost, comes); least = λ steps cost comes. refl })
+  label_by_reach x (no none) = (None, record { reached = λ n e. absurd (none-some _ e); least = λ steps cost comes. absurd (none (cost, (steps, comes))) })
 
   pub label_at : (claim : Claim) (x : Place) → (label : Option ℕ) × IsLabel claim x label
   label_at (Cost most points) x = label_by_cost most points x (least_below (Reaches x) (reaches_decided x) most)

@@ -6,7 +6,6 @@ use Rattle.separation_model.specs.Sum.{sum_below}
 use Rattle.separation_model.proofs.Arithmetic.Ring.{ring, var, num, ◌⊗◌, ◌⊕◌, ◌⊖◌}
 use Rattle.separation_model.proofs.Arithmetic.Order.{is_zero_or, mul-mono, mul-nonneg}
 use Rattle.separation_model.proofs.Arithmetic.Sums.{part_of_sum, sum_below-add, sum_below-le, sum_below-same, sum_below-scale, sum_below-sign}
-use Rattle.existence_laws.proofs.Deciding.Decided.{Decided, holds, fails}
 use Rattle.existence_laws.proofs.Deciding.Counting.{tally, tally_grows}
 
 -- a multiple of the number
@@ -18,13 +17,13 @@ small_multiple d (pos zero) l = refl
 small_multiple d (pos (suc q)) l = absurd (omega (arith, ints, l, mul-mono (pos d) (pos 1) (pos (suc q)) (omega (arith, ints)) (omega (arith, ints))))
 small_multiple d (negsuc q) l = absurd (omega (arith, ints, l, mul-mono (pos d) (negsuc q) (negsuc 0) (omega (arith, ints)) (omega (arith, ints))))
 
-pub divides_or : (d : ℕ) (z : ℤ) → 0 < d → Decided (Divides d z)
+pub divides_or : (d : ℕ) (z : ℤ) → 0 < d → Dec (Divides d z)
 divides_or d z some =
     let rest = int_rem z (pos d) in
     let parts : int_div z (pos d) *ℤ pos d +ℤ rest ≡ z = quot-rem z (pos d) in
     ⊎_elim
-    (λ none. holds (int_div z (pos d), (let e = ring (int_div z (pos d) ∷ pos d ∷ []) (var 0 ⊗ var 1) (var 1 ⊗ var 0) refl in omega (arith, ints, e, parts, none))))
-    (λ more. fails (λ h.
+    (λ none. yes (int_div z (pos d), (let e = ring (int_div z (pos d) ∷ pos d ∷ []) (var 0 ⊗ var 1) (var 1 ⊗ var 0) refl in omega (arith, ints, e, parts, none))))
+    (λ more. no (λ h.
     let e : pos d *ℤ (h.0 -ℤ int_div z (pos d)) ≡ rest = ring (pos d ∷ h.0 ∷ int_div z (pos d) ∷ []) (var 0 ⊗ (var 1 ⊖ var 2)) ((var 0 ⊗ var 1) ⊖ (var 2 ⊗ var 0)) refl ∙ omega (arith, ints, parts, h.1) in
     let low : unsigned_abs rest < d = rem_below z (pos d) some in
     let q : h.0 -ℤ int_div z (pos d) ≡ pos 0 = small_multiple d (h.0 -ℤ int_div z (pos d)) (subst (λ r. unsigned_abs r < d) (sym e) low) in
@@ -32,47 +31,47 @@ divides_or d z some =
     (is_zero_or rest)
 
 -- how often the number goes in, if it does
-pub quotient : (d : ℕ) (z : ℤ) → Decided (Divides d z) → ℤ
-quotient d z (holds h) = h.0
-quotient d z (fails n) = pos 0
+pub quotient : (d : ℕ) (z : ℤ) → Dec (Divides d z) → ℤ
+quotient d z (yes h) = h.0
+quotient d z (no n) = pos 0
 
-pub quotient_is : (d : ℕ) (z : ℤ) (at : Decided (Divides d z)) → Divides d z → z ≡ pos d *ℤ quotient d z at
+pub quotient_is : (d : ℕ) (z : ℤ) (at : Dec (Divides d z)) → Divides d z → z ≡ pos d *ℤ quotient d z at
 unfolding quotient
-quotient_is d z (holds h) k = h.1
-quotient_is d z (fails n) k = absurd (n k)
+quotient_is d z (yes h) k = h.1
+quotient_is d z (no n) k = absurd (n k)
 
-tally_holds : {P : Type 0} (d : Decided P) → P → tally d ≡ 1
+tally_holds : {P : Type 0} (d : Dec P) → P → tally d ≡ 1
 unfolding tally
-tally_holds (holds p) q = refl
-tally_holds (fails n) q = absurd (n q)
+tally_holds (yes p) q = refl
+tally_holds (no n) q = absurd (n q)
 
-pub tally_fails : {P : Type 0} (d : Decided P) → (P → ⊥) → tally d ≡ 0
+pub tally_fails : {P : Type 0} (d : Dec P) → (P → ⊥) → tally d ≡ 0
 unfolding tally
-tally_fails (holds p) n = absurd (n p)
-tally_fails (fails m) n = refl
+tally_fails (yes p) n = absurd (n p)
+tally_fails (no m) n = refl
 
-tally_same : {P Q : Type 0} (d : Decided P) (e : Decided Q) → (P → Q) → (Q → P) → tally d ≡ tally e
+tally_same : {P Q : Type 0} (d : Dec P) (e : Dec Q) → (P → Q) → (Q → P) → tally d ≡ tally e
 tally_same d e f g = omega (arith, tally_grows d e f, tally_grows e d g)
 
-tally_light : {P : Type 0} (d : Decided P) (w : ℕ) → w ≤ 4 → (pos (tally d) *ℤ pos w) ≤ℤ pos 4
+tally_light : {P : Type 0} (d : Dec P) (w : ℕ) → w ≤ 4 → (pos (tally d) *ℤ pos w) ≤ℤ pos 4
 unfolding tally
-tally_light (holds p) w l = omega (arith, ints, l)
-tally_light (fails n) w l = omega (arith, ints)
+tally_light (yes p) w l = omega (arith, ints, l)
+tally_light (no n) w l = omega (arith, ints)
 
 -- how often the denominator goes into what an item of the class lacks
-part : (d : ℕ) (w pu pv want : ℤ) → Decided (Divides d (pu -ℤ pv)) → ℤ
-part d w pu pv want (holds h) = w *ℤ (h.0 -ℤ want)
-part d w pu pv want (fails n) = pos 0
+part : (d : ℕ) (w pu pv want : ℤ) → Dec (Divides d (pu -ℤ pv)) → ℤ
+part d w pu pv want (yes h) = w *ℤ (h.0 -ℤ want)
+part d w pu pv want (no n) = pos 0
 
-part_is : (d : ℕ) (w pu pv want : ℤ) (at : Decided (Divides d (pu -ℤ pv))) →
+part_is : (d : ℕ) (w pu pv want : ℤ) (at : Dec (Divides d (pu -ℤ pv))) →
     pos (tally at) *ℤ (pos 2 *ℤ w *ℤ (pu -ℤ (pos d *ℤ want))) ≡ (pos 2 *ℤ (pv *ℤ (pos (tally at) *ℤ w))) +ℤ (pos 2 *ℤ (pos d *ℤ part d w pu pv want at))
 unfolding tally part
-part_is d w pu pv want (holds h) =
+part_is d w pu pv want (yes h) =
     let e : pu ≡ pv +ℤ (pos d *ℤ h.0) = omega (arith, ints, h.1) in
     ap (λ x. pos 1 *ℤ (pos 2 *ℤ w *ℤ (x -ℤ (pos d *ℤ want)))) e
     ∙ ring (pos d ∷ w ∷ pv ∷ want ∷ h.0 ∷ []) (num (pos 1) ⊗ (num (pos 2) ⊗ var 1 ⊗ ((var 2 ⊕ (var 0 ⊗ var 4)) ⊖ (var 0 ⊗ var 3))))
     ((num (pos 2) ⊗ (var 2 ⊗ (num (pos 1) ⊗ var 1))) ⊕ (num (pos 2) ⊗ (var 0 ⊗ (var 1 ⊗ (var 4 ⊖ var 3))))) refl
-part_is d w pu pv want (fails n) =
+part_is d w pu pv want (no n) =
     ring (pos d ∷ w ∷ pv ∷ want ∷ pu ∷ []) (num (pos 0) ⊗ (num (pos 2) ⊗ var 1 ⊗ (var 4 ⊖ (var 0 ⊗ var 3))))
     ((num (pos 2) ⊗ (var 2 ⊗ (num (pos 0) ⊗ var 1))) ⊕ (num (pos 2) ⊗ (var 0 ⊗ num (pos 0)))) refl
 
@@ -86,7 +85,7 @@ module _ (n d : ℕ) (some : 0 < d) (P : ℕ → ℤ) (weight : ℕ → ℕ) whe
   abbrev pub InClass : ℕ → ℕ → Type 0
   InClass v u = Divides d (P u -ℤ P v)
 
-  pub in_class_or : (v u : ℕ) → Decided (InClass v u)
+  pub in_class_or : (v u : ℕ) → Dec (InClass v u)
   in_class_or v u = divides_or d (P u -ℤ P v) some
 
   class_later : (v u x : ℕ) → InClass v u → InClass v x → InClass u x

@@ -1,5 +1,6 @@
 -- A flow along links between nodes brings each node what it is to have, or some nodes cannot give away what they have too much of.
 use Rattle.std.proofs.Common.{◌≡◌, ◌⊎◌, inl, inr, ℕ, zero, suc, ◌<◌, ℤ, pos, negsuc, ◌+ℤ◌, ◌-ℤ◌, ◌*ℤ◌, ◌≤ℤ◌, ◌<ℤ◌, List, [], ◌∷◌, refl, sym, ap, subst, ◌∙◌, ⊎_elim, arith}
+use Rattle.std.proofs.Math.Decide.{ℕ_discrete}
 use Rattle.std.specs.Prelude.{unsigned_abs, Contains}
 use Rattle.std.proofs.lemmas.Int.{by_lt_z, ints}
 use Rattle.std.proofs.lemmas.Bool.{cases_eq}
@@ -8,7 +9,7 @@ use Rattle.separation_model.proofs.Arithmetic.Ring.{mul-add, mul_comm, ring, var
 use Rattle.separation_model.proofs.Arithmetic.Order.{mul-mono}
 use Rattle.separation_model.proofs.Arithmetic.Sums.{negative_sum, part_of_sum, sum_below-add, sum_below-at, sum_below-le, sum_below-same, sum_below-sign, sum_below-single, sum_below-sub, sum_below-zero}
 use Rattle.separation_model.proofs.Arithmetic.Exchange.{here_other, here_same}
-use Rattle.existence_laws.proofs.Deciding.Decided.{Decided, holds, fails, both, int_lt, one_of, same_nat, some_below}
+use Rattle.existence_laws.proofs.Deciding.Decided.{both, int_lt, one_of, some_below}
 use Rattle.existence_laws.proofs.Deciding.Counting.{below, contains_below, stops, tally, tally_grows}
 
 -- ---- sums at a node
@@ -110,20 +111,20 @@ pub record IsCut (nodes links : ℕ) (from to : ℕ → ℕ) (Open : ℕ → Typ
   pub lacks : sum_below nodes (λ x. inside x *ℤ supply x) <ℤ pos 0
 
 -- what holds counts 1, and what fails 0
-tally_is : {P : Type 0} (d : Decided P) → (pos (tally d) ≡ pos 0) ⊎ (pos (tally d) ≡ pos 1)
+tally_is : {P : Type 0} (d : Dec P) → (pos (tally d) ≡ pos 0) ⊎ (pos (tally d) ≡ pos 1)
 unfolding tally
-tally_is (holds p) = inr refl
-tally_is (fails n) = inl refl
+tally_is (yes p) = inr refl
+tally_is (no n) = inl refl
 
-tally_low : {P : Type 0} (d : Decided P) (z : ℤ) → (P → z ≤ℤ pos 0) → (pos (tally d) *ℤ z) ≤ℤ pos 0
+tally_low : {P : Type 0} (d : Dec P) (z : ℤ) → (P → z ≤ℤ pos 0) → (pos (tally d) *ℤ z) ≤ℤ pos 0
 unfolding tally
-tally_low (holds p) z h = omega (arith, ints, h p)
-tally_low (fails n) z h = omega (arith, ints)
+tally_low (yes p) z h = omega (arith, ints, h p)
+tally_low (no n) z h = omega (arith, ints)
 
-tally_less : {P : Type 0} (d : Decided P) (z : ℤ) → P → z <ℤ pos 0 → (pos (tally d) *ℤ z) <ℤ pos 0
+tally_less : {P : Type 0} (d : Dec P) (z : ℤ) → P → z <ℤ pos 0 → (pos (tally d) *ℤ z) <ℤ pos 0
 unfolding tally
-tally_less (holds p) z q h = omega (arith, ints, h)
-tally_less (fails n) z q h = absurd (n q)
+tally_less (yes p) z q h = omega (arith, ints, h)
+tally_less (no n) z q h = absurd (n q)
 
 -- all nodes in a list
 nodes_list : ℕ → List ℕ
@@ -133,7 +134,7 @@ in_nodes : (nodes x : ℕ) → x < nodes → Contains (nodes_list nodes) x
 unfolding nodes_list
 in_nodes nodes x l = contains_below (λ i. i ∷ []) nodes x x l (0, omega arith, refl)
 
-module _ (nodes links : ℕ) (from to : ℕ → ℕ) (Open : ℕ → Type 0) (open_or : (j : ℕ) → Decided (Open j)) (from_in : (j : ℕ) → j < links → from j < nodes) (to_in : (j : ℕ) → j < links → to j < nodes) where
+module _ (nodes links : ℕ) (from to : ℕ → ℕ) (Open : ℕ → Type 0) (open_or : (j : ℕ) → Dec (Open j)) (from_in : (j : ℕ) → j < links → from j < nodes) (to_in : (j : ℕ) → j < links → to j < nodes) where
   -- one unit can go over the link from the first node to the second: forward if it is open, back if it has flow
   abbrev Goes : (ℕ → ℤ) → ℕ → ℕ → ℕ → Type 0
   Goes m u v j = (Open j × ((from j ≡ u) × (to j ≡ v))) ⊎ ((pos 0 <ℤ m j) × ((from j ≡ v) × (to j ≡ u)))
@@ -141,17 +142,17 @@ module _ (nodes links : ℕ) (from to : ℕ → ℕ) (Open : ℕ → Type 0) (op
   abbrev Leads : (ℕ → ℤ) → ℕ → ℕ → Type 0
   Leads m u v = (j : ℕ) × (j < links) × Goes m u v j
 
-  leads_or : (m : ℕ → ℤ) (u v : ℕ) → Decided (Leads m u v)
+  leads_or : (m : ℕ → ℤ) (u v : ℕ) → Dec (Leads m u v)
   leads_or m u v = some_below links (Goes m u v)
-      (λ j. one_of (both (open_or j) (both (same_nat (from j) u) (same_nat (to j) v))) (both (int_lt (pos 0) (m j)) (both (same_nat (from j) v) (same_nat (to j) u))))
+      (λ j. one_of (both (open_or j) (both (ℕ_discrete (from j) u) (ℕ_discrete (to j) v))) (both (int_lt (pos 0) (m j)) (both (ℕ_discrete (from j) v) (ℕ_discrete (to j) u))))
 
   -- one unit can go from the start to the node over so many links at most
   abbrev Comes : (ℕ → ℤ) → ℕ → ℕ → ℕ → Type 0
   Comes m s zero v = v ≡ s
   Comes m s (suc l) v = Comes m s l v ⊎ ((u : ℕ) × (u < nodes) × (Comes m s l u × Leads m u v))
 
-  comes_or : (m : ℕ → ℤ) (s l v : ℕ) → Decided (Comes m s l v)
-  comes_or m s zero v = same_nat v s
+  comes_or : (m : ℕ → ℤ) (s l v : ℕ) → Dec (Comes m s l v)
+  comes_or m s zero v = ℕ_discrete v s
   comes_or m s (suc l) v = one_of (comes_or m s l v) (some_below nodes (λ u. Comes m s l u × Leads m u v) (λ u. both (comes_or m s l u) (leads_or m u v)))
 
   start_comes : (m : ℕ → ℤ) (s l : ℕ) → Comes m s l s
@@ -260,8 +261,8 @@ module _ (nodes links : ℕ) (from to : ℕ → ℕ) (Open : ℕ → Type 0) (op
   send m s is (suc l) v (inl near) = later_sent m s l v (send m s is l v near)
   send m s is (suc l) v (inr (u, u_in, (near, (j, j_in, inl (opened, (e, g)))))) =
       elim (comes_or m s l v) as (λ _. Sent m s (suc l) v) [
-        | holds c ↦ later_sent m s l v (send m s is l v c)
-        | fails new ↦ let p = send m s is l u near in
+        | yes c ↦ later_sent m s l v (send m s is l v c)
+        | no new ↦ let p = send m s is l u near in
             further_sent m s l u v p u_in near new j j_in (inl (opened, (e, g))) (pos 1)
             (λ x. omega (arith, ints, ap (λ a. here a x (pos 1)) e, ap (λ a. here a x (pos 1)) g))
             (λ x. omega (arith, ints, ap (λ a. here a x (pos 1)) e, ap (λ a. here a x (pos 1)) g))
@@ -269,8 +270,8 @@ module _ (nodes links : ℕ) (from to : ℕ → ℕ) (Open : ℕ → Type 0) (op
       ]
   send m s is (suc l) v (inr (u, u_in, (near, (j, j_in, inr (some, (e, g)))))) =
       elim (comes_or m s l v) as (λ _. Sent m s (suc l) v) [
-        | holds c ↦ later_sent m s l v (send m s is l v c)
-        | fails new ↦ let p = send m s is l u near in
+        | yes c ↦ later_sent m s l v (send m s is l v c)
+        | no new ↦ let p = send m s is l u near in
             further_sent m s l u v p u_in near new j j_in (inr (some, (e, g))) (negsuc 0)
             (λ x. omega (arith, ints, ap (λ a. here a x (pos 1)) e, ap (λ a. here a x (pos 1)) g, here_minus (to j) x, here_minus (from j) x))
             (λ x. let sign = λ (a : ℕ). here_sign a x (pos 1) (omega (arith, ints)) in omega (arith, ints, here_minus (to j) x, here_minus (from j) x, sign (to j), sign (from j), sign v, sign u))
@@ -386,13 +387,13 @@ module _ (nodes links : ℕ) (from to : ℕ → ℕ) (Open : ℕ → Type 0) (op
         inl (all_met m is small (λ x l much. omega (arith, ints, much, few, part_of_sum nodes (λ y. pos (unsigned_abs (excess m y))) x l (λ y k. omega (arith, ints)))))
     solve (suc fuel) m is small few =
         elim (some_below nodes (λ x. excess m x <ℤ pos 0) (λ x. int_lt (excess m x) (pos 0))) as (λ _. Outcome) [
-          | fails none ↦ inl (all_met m is small (λ x l much. none (x, l, much)))
-          | holds (s, s_in, much) ↦
+          | no none ↦ inl (all_met m is small (λ x l much. none (x, l, much)))
+          | yes (s, s_in, much) ↦
               let level = stops (nodes_list nodes) (Comes m s) (comes_or m s) (λ l x c. inl c) in
               let l = level.0 in
               elim (some_below nodes (λ x. Comes m s l x × (pos 0 <ℤ excess m x)) (λ x. both (comes_or m s l x) (int_lt (pos 0) (excess m x)))) as (λ _. Outcome) [
-                | fails none ↦ inr (cut_off m s l is s_in much (λ x k c. level.1 x (in_nodes nodes x k) c) (λ x k c some. none (x, k, (c, some))))
-                | holds (t, t_in, (c, some)) ↦
+                | no none ↦ inr (cut_off m s l is s_in much (λ x k c. level.1 x (in_nodes nodes x k) c) (λ x k c some. none (x, k, (c, some))))
+                | yes (t, t_in, (c, some)) ↦
                     let p = send m s is l t c in
                     let less = sent_size m s l t p s_in t_in much some in
                     solve fuel p.flow p.is (λ x. omega (arith, ints, less, small x, p.most x)) (omega (arith, ints, less, few))

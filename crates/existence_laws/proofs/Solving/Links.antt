@@ -1,5 +1,6 @@
 -- The rules and limits of a bundle as links between its items and a wall, which stands at 0.
 use Rattle.std.proofs.Common.{◌≡◌, ℕ, zero, suc, ◌+◌, ◌-◌, ◌<◌, ◌≤◌, cond, ltb, ℤ, pos, ◌+ℤ◌, ◌-ℤ◌, ◌*ℤ◌, [], ◌∷◌, length, refl, sym, ap, subst, ◌∙◌, ⊎_elim, arith}
+use Rattle.std.proofs.Math.IntN.{ℤ_discrete}
 use Rattle.std.proofs.lemmas.Int.{ints}
 use Rattle.std.proofs.lemmas.Bool.{cases_lt, le-ltb, lt-ltb}
 use Rattle.separation_model.specs.declared.bundle.Bundle.{Bundle}
@@ -8,7 +9,6 @@ use Rattle.separation_model.specs.Sum.{sum_below}
 use Rattle.separation_model.proofs.Arithmetic.Ring.{ring, var, num, ◌⊗◌, ◌⊖◌}
 use Rattle.separation_model.proofs.Arithmetic.Sums.{sum_below-same}
 use Rattle.separation_model.proofs.Optimum.Positions.{ends_within}
-use Rattle.existence_laws.proofs.Deciding.Decided.{Decided, same_int}
 
 -- a link: its second node is to be at least the gap to the right of its first one
 pub record Link : Type 0 where
@@ -149,5 +149,5 @@ module _ (b : Bundle) (gap : ℤ) where
   abbrev pub IsTight : ℕ → (ℕ → ℤ) → ℕ → Type 0
   IsTight d X j = IsTightLink d X (link j)
 
-  pub tight_or : (d : ℕ) (X : ℕ → ℤ) (j : ℕ) → Decided (IsTight d X j)
-  tight_or d X j = same_int (at_node count X (to j) -ℤ at_node count X (from j)) ((link j).gap *ℤ pos d)
+  pub tight_or : (d : ℕ) (X : ℕ → ℤ) (j : ℕ) → Dec (IsTight d X j)
+  tight_or d X j = ℤ_discrete (at_node count X (to j) -ℤ at_node count X (from j)) ((link j).gap *ℤ pos d)

@@ -9,7 +9,6 @@ use Rattle.separation_model.proofs.Arithmetic.Ring.{ring, var, num, ◌⊗◌, �
 use Rattle.separation_model.proofs.Arithmetic.Order.{is_zero_or, mul-less, mul-nonneg}
 use Rattle.separation_model.proofs.Arithmetic.Sums.{sum_below-same, sum_below-scale, sum_below-sign, sum_below-zero}
 use Rattle.separation_model.proofs.Optimum.Duality.{force}
-use Rattle.existence_laws.proofs.Deciding.Decided.{holds, fails}
 use Rattle.existence_laws.proofs.Deciding.Counting.{tally}
 use Rattle.existence_laws.proofs.Solving.Flows.{IsCut, IsMet, flow_or_cut, net, net_exchange}
 use Rattle.existence_laws.proofs.Solving.Links.{IsTight, link, link_count, at_item, at_node, at_wall, ends_in, from, supply, supply_even, supply_sum, tight_or, to}
@@ -74,8 +73,8 @@ module _ (b : Bundle) (gap : ℤ) (ok : IsBundle b) (d : ℕ) (some : 0 < d) (X 
 
   weight_divides : (v : ℕ) → Divides d (W v *ℤ P v)
   weight_divides v = elim (divides_or d (P v) some) as (λ _. Divides d (W v *ℤ P v)) [
-    | holds h ↦ (W v *ℤ h.0, ap (λ z. W v *ℤ z) h.1 ∙ ring (W v ∷ pos d ∷ h.0 ∷ []) (var 0 ⊗ (var 1 ⊗ var 2)) (var 1 ⊗ (var 0 ⊗ var 2)) refl)
-    | fails apart ↦ class_divides n d some P weight v want
+    | yes h ↦ (W v *ℤ h.0, ap (λ z. W v *ℤ z) h.1 ∙ ring (W v ∷ pos d ∷ h.0 ∷ []) (var 0 ⊗ (var 1 ⊗ var 2)) (var 1 ⊗ (var 0 ⊗ var 2)) refl)
+    | no apart ↦ class_divides n d some P weight v want
         (sum_below-same n (λ u. pos (tally (in_class_or n d some P weight v u)) *ℤ (pos 2 *ℤ pos (weight u) *ℤ (P u -ℤ (pos d *ℤ want u)))) (λ u. pos (tally (in_class_or n d some P weight v u)) *ℤ f u)
         (λ u l. ap (λ z. pos (tally (in_class_or n d some P weight v u)) *ℤ (pos 2 *ℤ pos (weight u) *ℤ (z -ℤ (pos d *ℤ want u)))) (at_item n X u l))
         ∙ class_even v apart)

@@ -1,5 +1,6 @@
 -- Of the walks of few steps one is legal, or none is.
 use Rattle.std.proofs.Common.{◌≡◌, ◌⊎◌, inl, inr, Bool, ℕ, zero, suc, ◌<◌, ◌≤◌, List, [], ◌∷◌, length, Option, Some, None, refl, sym, subst, ◌∙◌, arith}
+use Rattle.std.proofs.Math.Decide.{map_dec}
 use Rattle.std.specs.Prelude.{slice_get}
 use Rattle.std.proofs.lemmas.Option.{slice_get_within}
 use Rattle.plane_geom.specs.declared.point.Point.{Point}
@@ -11,12 +12,8 @@ use Rattle.walk_model.specs.declared.task.Task.{Task}
 use Rattle.walk_model.specs.Walk.{Walk}
 use Rattle.walk_model.specs.Legal.{IsLegal}
 use Rattle.walk_model.specs.Order.{Triple, IsLegalTriple}
-use Rattle.walk_model.proofs.Ranking.Deciding.{Tells, yes, no, legal_told}
-use Rattle.existence_laws.proofs.Deciding.Decided.{Decided, holds, fails, decided_as, one_of, some_below}
-
-pub told : {P : Type 0} {test : Bool} → Tells test P → Decided P
-told (yes e p) = holds p
-told (no e n) = fails n
+use Rattle.walk_model.proofs.Ranking.Deciding.{told, legal_told}
+use Rattle.existence_laws.proofs.Deciding.Decided.{one_of, some_below}
 
 -- a list of at most n steps
 abbrev Few : ℕ → (List Dir → Type 0) → Type 0
@@ -51,11 +48,11 @@ no_steps : (P : List Dir → Type 0) → Few 0 P → P []
 no_steps P ([], l, p) = p
 no_steps P (d ∷ ds, l, p) = absurd (omega (arith, l))
 
-some_steps : (n : ℕ) (P : List Dir → Type 0) → ((ds : List Dir) → Decided (P ds)) → Decided (Few n P)
-some_steps zero P each = decided_as {P = P []} (λ p. ([], omega arith, p)) (no_steps P) (each [])
+some_steps : (n : ℕ) (P : List Dir → Type 0) → ((ds : List Dir) → Dec (P ds)) → Dec (Few n P)
+some_steps zero P each = map_dec {A = P []} (λ p. ([], omega arith, p)) (no_steps P) (each [])
 some_steps (suc n) P each =
-    let rest : (d : Dir) → Decided (Begin n P d) = λ d. some_steps n (λ ds. P (d ∷ ds)) (λ ds. each (d ∷ ds)) in
-    decided_as {P = Cases n P} (from_cases n P) (to_cases n P)
+    let rest : (d : Dir) → Dec (Begin n P d) = λ d. some_steps n (λ ds. P (d ∷ ds)) (λ ds. each (d ∷ ds)) in
+    map_dec {A = Cases n P} (from_cases n P) (to_cases n P)
     (one_of (one_of (each []) (one_of (rest East) (rest South))) (one_of (rest West) (rest North)))
 
 -- the walk from the pin of the choice
@@ -72,10 +69,10 @@ record IsShort (solids : List Solid) (task : Task) (n i j : ℕ) : Type 0 where
   few : length steps ≤ n
   legal : IsLegal solids task.via start (from_pin start steps) end
 
-short_by : (solids : List Solid) (task : Task) (n i j : ℕ) (s e : Option Choice) → slice_get task.starts i ≡ s → slice_get task.ends j ≡ e → Decided (IsShort solids task n i j)
-short_by solids task n i j None e h k = fails (λ w. let wrong : None ≡ Some w.start = sym h ∙ w.is_start in cc)
-short_by solids task n i j (Some s) None h k = fails (λ w. let wrong : None ≡ Some w.end = sym k ∙ w.is_end in cc)
-short_by solids task n i j (Some s) (Some e) h k = decided_as
+short_by : (solids : List Solid) (task : Task) (n i j : ℕ) (s e : Option Choice) → slice_get task.starts i ≡ s → slice_get task.ends j ≡ e → Dec (IsShort solids task n i j)
+short_by solids task n i j None e h k = no (λ w. let wrong : None ≡ Some w.start = sym h ∙ w.is_start in cc)
+short_by solids task n i j (Some s) None h k = no (λ w. let wrong : None ≡ Some w.end = sym k ∙ w.is_end in cc)
+short_by solids task n i j (Some s) (Some e) h k = map_dec
     (λ g. record { start = s; end = e; is_start = h; is_end = k; steps = g.0; few = g.1; legal = g.2 })
     (λ w.
     let same : w.start ≡ s = let both : Some w.start ≡ Some s = sym w.is_start ∙ h in cc in
@@ -87,8 +84,8 @@ short_by solids task n i j (Some s) (Some e) h k = decided_as
 abbrev pub HasShort : List Solid → Task → ℕ → Type 0
 HasShort solids task n = (t : Triple) × IsLegalTriple solids task t × (length t.walk.steps ≤ n)
 
-pub short_decided : (solids : List Solid) (task : Task) (n : ℕ) → Decided (HasShort solids task n)
-short_decided solids task n = decided_as
+pub short_decided : (solids : List Solid) (task : Task) (n : ℕ) → Dec (HasShort solids task n)
+short_decided solids task n = map_dec
     (λ h. let w = h.2.2 in (
       record { start = h.0; walk = from_pin w.start w.steps; end = h.2.0 },
       record { start = w.start; end = w.end; is_start = w.is_start; is_end = w.is_end; legal = w.legal },

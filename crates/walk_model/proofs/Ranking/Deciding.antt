@@ -25,6 +25,10 @@ pub data Tells (test : Bool) (P : Type 0) : Type 0 where
   yes : test ≡ true → P → Tells test P
   no : test ≡ false → (P → ⊥) → Tells test P
 
+pub told : {P : Type 0} {test : Bool} → Tells test P → Dec P
+told (yes e p) = Dec.yes p
+told (no e n) = Dec.no n
+
 -- what a test that answers yes shows, and what one that answers no refutes
 pub shown : {P : Type 0} (test : Bool) → Tells test P → test ≡ true → P
 shown test (yes e p) t = p

@@ -1,5 +1,6 @@
 -- The order of walks is total, and of the legal walks of a task one is first.
-use Rattle.std.proofs.Common.{Bool, ◌≡◌, ◌⊎◌, ℕ, suc, zero, ◌<◌, ◌≤◌, List, [], ◌∷◌, ◌++◌, length, get_or, Option, Some, None, refl, sym, ap, subst, ◌∙◌, inl, inr, arith, append_assoc, append-nil}
+use Rattle.std.proofs.Common.{◌≡◌, ◌⊎◌, ℕ, suc, zero, ◌<◌, ◌≤◌, List, [], ◌∷◌, ◌++◌, length, get_or, Option, Some, None, refl, sym, ap, subst, ◌∙◌, inl, inr, arith, append_assoc, append-nil}
+use Rattle.std.proofs.Math.Decide.{map_dec}
 use Rattle.std.specs.declared.cmp.Ordering.{Ordering}
 use Rattle.std.specs.declared.cmp.Ordering.TheVariants.{Less, Equal, Greater}
 use Rattle.std.specs.Ordering.{nat_cmp, int_cmp, ordering_then, ordering_reverse}
@@ -19,7 +20,7 @@ use Rattle.walk_model.specs.Lean.{lean}
 use Rattle.walk_model.specs.Legal.{IsLegal, cost_with}
 use Rattle.walk_model.specs.Order.{Triple, IsLegalTriple, triple_cost, rank, dir_cmp, compare_triples, IsBefore, IsFirst}
 use Rattle.walk_model.specs.OneFirst.{HasOneFirst}
-use Rattle.walk_model.proofs.Ranking.Deciding.{Tells, yes, no, legal_told, rank_below, same_rank, unrank, unrank-rank}
+use Rattle.walk_model.proofs.Ranking.Deciding.{told, legal_told, rank_below, same_rank, unrank, unrank-rank}
 
 -- the order of walks is a total order of their keys
 pub triples_total : (task : Task) → IsTotalOrder (compare_triples task)
@@ -113,29 +114,20 @@ record Continues (solids : List Solid) (task : Task) (i j : ℕ) (p : Point) (fr
   few : length more ≤ n
   steps : t.walk.steps ≡ front ++ more
 
--- a fact that holds or is refuted
-data Decided (P : Type 0) : Type 0 where
-  holds : P → Decided P
-  fails : (P → ⊥) → Decided P
-
-decided_by : {P Q : Type 0} {test : Bool} → (P → Q) → (Q → P) → Tells test P → Decided Q
-decided_by f g (yes e p) = holds (f p)
-decided_by f g (no e n) = fails (λ q. n (g q))
-
-triple_decided : (solids : List Solid) (task : Task) (t : Triple) → Decided (IsLegalTriple solids task t)
+triple_decided : (solids : List Solid) (task : Task) (t : Triple) → Dec (IsLegalTriple solids task t)
 triple_decided solids task t = by_start (slice_get task.starts t.start) refl
   where
-    by_end : (s : Choice) → slice_get task.starts t.start ≡ Some s → (e : Option Choice) → slice_get task.ends t.end ≡ e → Decided (IsLegalTriple solids task t)
-    by_end s h None g = fails (λ l. let wrong : None ≡ Some l.end = sym g ∙ l.is_end in cc)
-    by_end s h (Some e) g = decided_by
+    by_end : (s : Choice) → slice_get task.starts t.start ≡ Some s → (e : Option Choice) → slice_get task.ends t.end ≡ e → Dec (IsLegalTriple solids task t)
+    by_end s h None g = no (λ l. let wrong : None ≡ Some l.end = sym g ∙ l.is_end in cc)
+    by_end s h (Some e) g = map_dec
         (λ l. record { start = s; end = e; is_start = h; is_end = g; legal = l })
         (λ l. let same : l.start ≡ s = let both : Some l.start ≡ Some s = sym l.is_start ∙ h in cc in
         let also : l.end ≡ e = let both : Some l.end ≡ Some e = sym l.is_end ∙ g in cc in
         subst (λ (c : Choice). IsLegal solids task.via c t.walk e) same (subst (λ (c : Choice). IsLegal solids task.via l.start t.walk c) also l.legal))
-        (legal_told solids task.via s t.walk e)
+        (told (legal_told solids task.via s t.walk e))
 
-    by_start : (s : Option Choice) → slice_get task.starts t.start ≡ s → Decided (IsLegalTriple solids task t)
-    by_start None h = fails (λ l. let wrong : None ≡ Some l.start = sym h ∙ l.is_start in cc)
+    by_start : (s : Option Choice) → slice_get task.starts t.start ≡ s → Dec (IsLegalTriple solids task t)
+    by_start None h = no (λ l. let wrong : None ≡ Some l.start = sym h ∙ l.is_start in cc)
     by_start (Some s) h = by_end s h (slice_get task.ends t.end) refl
 
 -- triples with equal parts are equal
@@ -160,12 +152,12 @@ module _ (solids : List Solid) (task : Task) (i j : ℕ) (p : Point) where
   is_stop front u c = same_triple u (stops front) c.is_start c.begins
       (c.steps ∙ ap (λ ds. front ++ ds) (empty_from_length c.more c.few) ∙ append-nil front) c.is_end
 
-  search_stop : (front : List Dir) → Decided (IsLegalTriple solids task (stops front)) → Outcome task (Continues solids task i j p front 0)
+  search_stop : (front : List Dir) → Dec (IsLegalTriple solids task (stops front)) → Outcome task (Continues solids task i j p front 0)
   unfolding stops
-  search_stop front (holds l) = found (stops front)
+  search_stop front (yes l) = found (stops front)
       (record { is_start = refl; is_end = refl; begins = refl; legal = l; more = []; few = omega arith; steps = sym (append-nil front) })
       (λ u c b. let same : IsBefore task (stops front) (stops front) = subst (λ v. IsBefore task v (stops front)) (is_stop front u c) b in before_one_way task _ _ same same)
-  search_stop front (fails not) = none (λ u c. not (subst (IsLegalTriple solids task) (is_stop front u c) c.legal))
+  search_stop front (no not) = none (λ u c. not (subst (IsLegalTriple solids task) (is_stop front u c) c.legal))
 
   Longer : List Dir → ℕ → Triple → Type 0
   Longer front n t = (k : ℕ) × (k < 4) × Continues solids task i j p (front ++ unrank k ∷ []) n t
