@@ -42,21 +42,14 @@ near_behind North = refl
 -- of one way are a direction and the one back
 pub one_way : (d e : Dir) → way_of d ≡ way_of e → (d ≡ e) ⊎ (d ≡ opposite e)
 one_way East East w = inl refl
-one_way East South w = cc
 one_way East West w = inr refl
-one_way East North w = cc
-one_way South East w = cc
 one_way South South w = inl refl
-one_way South West w = cc
 one_way South North w = inr refl
 one_way West East w = inr refl
-one_way West South w = cc
 one_way West West w = inl refl
-one_way West North w = cc
-one_way North East w = cc
 one_way North South w = inr refl
-one_way North West w = cc
 one_way North North w = inl refl
+one_way d e w = cc
 
 pub rising_of : (d : Dir) → (rising (way_of d) ≡ d) ⊎ (rising (way_of d) ≡ opposite d)
 rising_of East = inl refl
@@ -75,31 +68,16 @@ turned West Right = North
 turned North Left = West
 turned North Right = East
 
-left : (d e : Dir) (side : Side) → e ≡ turned d Left → Some Left ≡ Some side → e ≡ turned d side
-left d e Left t h = t
-left d e Right t h = cc
-
-right : (d e : Dir) (side : Side) → e ≡ turned d Right → Some Right ≡ Some side → e ≡ turned d side
-right d e Left t h = cc
-right d e Right t h = t
-
 pub turned_so : (d e : Dir) (side : Side) → turn_to d e ≡ Some side → e ≡ turned d side
-turned_so East East side h = cc
-turned_so East South side h = right East South side refl h
-turned_so East West side h = cc
-turned_so East North side h = left East North side refl h
-turned_so South East side h = left South East side refl h
-turned_so South South side h = cc
-turned_so South West side h = right South West side refl h
-turned_so South North side h = cc
-turned_so West East side h = cc
-turned_so West South side h = left West South side refl h
-turned_so West West side h = cc
-turned_so West North side h = right West North side refl h
-turned_so North East side h = right North East side refl h
-turned_so North South side h = cc
-turned_so North West side h = left North West side refl h
-turned_so North North side h = cc
+turned_so East South Right h = refl
+turned_so East North Left h = refl
+turned_so South East Left h = refl
+turned_so South West Right h = refl
+turned_so West South Left h = refl
+turned_so West North Right h = refl
+turned_so North East Right h = refl
+turned_so North West Left h = refl
+turned_so d e side h = cc
 
 -- one who comes back turns to the other hand there
 pub turns_back : (d : Dir) (side : Side) → turn_to (opposite (turned d side)) (opposite d) ≡ Some (other_side side)
