@@ -1,5 +1,8 @@
 //! Audits of the least labels of small scenes, and of certificates with one fault.
-use crate::scenes::{Corner, Place, Plan, SOURCE, TARGET, fill, graph_of};
+use crate::scenes::{
+    BOTH_WAYS, BY_WAY, Corner, LOOP, NO_EDGES, Place, Plan, SOURCE, STRAIGHT, TARGET, fill,
+    graph_of,
+};
 use plane_geom::{Point, Points};
 use route_audit::{AuditFault, Claim, LabelRow, Proof, Rows, audit};
 use scene_store::Scene;
@@ -12,14 +15,9 @@ type Label = Option<u64>;
 #[derive(Clone, Copy)]
 struct Row(u32, i64, i64, Label, Label, Label, Label);
 
-/// A proof; without a cost it is a cut.
+/// A proof: its edge, its cost, its line and its rows. Without a cost it is a cut.
 #[derive(Clone, Copy)]
-struct Given {
-    edge: u32,
-    cost: Option<u64>,
-    line: &'static [Corner],
-    rows: &'static [Row],
-}
+struct Given(u32, Option<u64>, &'static [Corner], &'static [Row]);
 
 /// What is changed in the last of the proofs.
 #[derive(Clone, Copy)]
@@ -39,20 +37,9 @@ enum Change {
     Row(usize, Row),
 }
 
-/// The scene, its certificate, and the edge and the rule of the fault that is to be found.
+/// The scene, its certificate, what is changed in it, and the edge and the rule of the fault that is to be found.
 #[derive(Clone, Copy)]
-struct Case {
-    plan: Plan,
-    proofs: &'static [Given],
-    change: Change,
-    no: Option<(u32, u32)>,
-}
-
-const STRAIGHT: Plan = Plan {
-    places: &[SOURCE, TARGET],
-    edges: &[(1, 2)],
-    via: &[],
-};
+struct Case(Plan, &'static [Given], Change, Option<(u32, u32)>);
 
 const COVERED_START: Plan = Plan {
     places: &[SOURCE, TARGET, Place(3, 0, 0, 60_000, 60_000)],
@@ -66,34 +53,10 @@ const COVERED_END: Plan = Plan {
     via: &[],
 };
 
-const LOOP: Plan = Plan {
-    places: &[SOURCE, TARGET],
-    edges: &[(1, 1)],
-    via: &[],
-};
-
 const LOOP_AND_MORE: Plan = Plan {
     places: &[SOURCE, TARGET],
     edges: &[(1, 1), (1, 2)],
     via: &[],
-};
-
-const NO_EDGES: Plan = Plan {
-    places: &[SOURCE, TARGET],
-    edges: &[],
-    via: &[],
-};
-
-const BOTH_WAYS: Plan = Plan {
-    places: &[SOURCE, TARGET],
-    edges: &[(1, 2), (2, 1)],
-    via: &[],
-};
-
-const BY_WAY: Plan = Plan {
-    places: &[SOURCE, TARGET],
-    edges: &[(1, 2)],
-    via: &[Corner(50_000, 0)],
 };
 
 const STRAIGHT_ROWS: [Row; 9] = [
@@ -135,7 +98,7 @@ const COVERED_END_ROWS: [Row; 24] = [
     Row(0, 134_000, 34_000, Some(0), Some(0), None, None),
 ];
 
-const BOTH_WAYS_2_ROWS: [Row; 9] = [
+const BACK_ROWS: [Row; 9] = [
     Row(0, 86_000, -14_000, None, None, Some(78_000), Some(78_000)),
     Row(0, 100_000, -14_000, None, None, None, Some(14_000)),
     Row(0, 114_000, -14_000, Some(78_000), None, None, Some(78_000)),
@@ -179,424 +142,247 @@ const CUT_EVERY_ROWS: [Row; 16] = [
     Row(0, 114_000, 14_000, Some(0), Some(0), Some(0), Some(0)),
 ];
 
-const STRAIGHT_PROOFS: [Given; 1] = [Given {
-    edge: 1,
-    cost: Some(100_000),
-    line: &[Corner(0, 0), Corner(100_000, 0)],
-    rows: &STRAIGHT_ROWS,
-}];
+const THERE: &[Corner] = &[Corner(0, 0), Corner(100_000, 0)];
 
-const COVERED_START_PROOFS: [Given; 1] = [Given {
-    edge: 1,
-    cost: None,
-    line: &[],
-    rows: &[],
-}];
+const BACK: &[Corner] = &[Corner(100_000, 0), Corner(0, 0)];
 
-const COVERED_END_PROOFS: [Given; 1] = [Given {
-    edge: 1,
-    cost: None,
-    line: &[],
-    rows: &COVERED_END_ROWS,
-}];
+const STRAIGHT_PROOF: Given = Given(1, Some(100_000), THERE, &STRAIGHT_ROWS);
 
-const LOOP_AND_MORE_PROOFS: [Given; 1] = [Given {
-    edge: 2,
-    cost: Some(100_000),
-    line: &[Corner(0, 0), Corner(100_000, 0)],
-    rows: &STRAIGHT_ROWS,
-}];
+const STRAIGHT_PROOFS: [Given; 1] = [STRAIGHT_PROOF];
 
-const BOTH_WAYS_PROOFS: [Given; 2] = [
-    Given {
-        edge: 1,
-        cost: Some(100_000),
-        line: &[Corner(0, 0), Corner(100_000, 0)],
-        rows: &STRAIGHT_ROWS,
-    },
-    Given {
-        edge: 2,
-        cost: Some(100_000),
-        line: &[Corner(100_000, 0), Corner(0, 0)],
-        rows: &BOTH_WAYS_2_ROWS,
-    },
-];
+const COVERED_END_PROOFS: [Given; 1] = [Given(1, None, &[], &COVERED_END_ROWS)];
 
-const BY_WAY_PROOFS: [Given; 1] = [Given {
-    edge: 1,
-    cost: Some(100_000),
-    line: &[Corner(0, 0), Corner(100_000, 0)],
-    rows: &BY_WAY_ROWS,
-}];
+const LOOP_AND_MORE_PROOFS: [Given; 1] = [Given(2, Some(100_000), THERE, &STRAIGHT_ROWS)];
 
-const NONE_PROOFS: [Given; 0] = [];
+const BOTH_WAYS_PROOFS: [Given; 2] = [STRAIGHT_PROOF, Given(2, Some(100_000), BACK, &BACK_ROWS)];
 
-const TWO_PROOFS: [Given; 2] = [
-    Given {
-        edge: 1,
-        cost: Some(100_000),
-        line: &[Corner(0, 0), Corner(100_000, 0)],
-        rows: &STRAIGHT_ROWS,
-    },
-    Given {
-        edge: 2,
-        cost: None,
-        line: &[],
-        rows: &[],
-    },
-];
+const BY_WAY_PROOFS: [Given; 1] = [Given(1, Some(100_000), THERE, &BY_WAY_ROWS)];
 
-const CUT_PROOFS: [Given; 1] = [Given {
-    edge: 1,
-    cost: None,
-    line: &[],
-    rows: &[],
-}];
+const NO_PROOFS: [Given; 0] = [];
 
-const CUT_EVERY_PROOFS: [Given; 1] = [Given {
-    edge: 1,
-    cost: None,
-    line: &[],
-    rows: &CUT_EVERY_ROWS,
-}];
+const TWO_PROOFS: [Given; 2] = [STRAIGHT_PROOF, Given(2, None, &[], &[])];
+
+const CUT_PROOFS: [Given; 1] = [Given(1, None, &[], &[])];
+
+const CUT_EVERY_PROOFS: [Given; 1] = [Given(1, None, &[], &CUT_EVERY_ROWS)];
 
 const CASES: [Case; 45] = [
     // The least labels.
-    Case {
-        plan: STRAIGHT,
-        proofs: &STRAIGHT_PROOFS,
-        change: Change::None,
-        no: None,
-    },
+    Case(STRAIGHT, &STRAIGHT_PROOFS, Change::None, None),
     // No proof.
-    Case {
-        plan: STRAIGHT,
-        proofs: &NONE_PROOFS,
-        change: Change::None,
-        no: Some((1, 1)),
-    },
+    Case(STRAIGHT, &NO_PROOFS, Change::None, Some((1, 1))),
     // A proof too many.
-    Case {
-        plan: STRAIGHT,
-        proofs: &TWO_PROOFS,
-        change: Change::None,
-        no: Some((0, 1)),
-    },
+    Case(STRAIGHT, &TWO_PROOFS, Change::None, Some((0, 1))),
     // Another edge.
-    Case {
-        plan: STRAIGHT,
-        proofs: &STRAIGHT_PROOFS,
-        change: Change::Edge(2),
-        no: Some((1, 1)),
-    },
+    Case(STRAIGHT, &STRAIGHT_PROOFS, Change::Edge(2), Some((1, 1))),
     // Too low a cost.
-    Case {
-        plan: STRAIGHT,
-        proofs: &STRAIGHT_PROOFS,
-        change: Change::Cost(99_999),
-        no: Some((1, 3)),
-    },
+    Case(
+        STRAIGHT,
+        &STRAIGHT_PROOFS,
+        Change::Cost(99_999),
+        Some((1, 3)),
+    ),
     // Too high a cost.
-    Case {
-        plan: STRAIGHT,
-        proofs: &STRAIGHT_PROOFS,
-        change: Change::Cost(100_001),
-        no: Some((1, 3)),
-    },
+    Case(
+        STRAIGHT,
+        &STRAIGHT_PROOFS,
+        Change::Cost(100_001),
+        Some((1, 3)),
+    ),
     // A cost that labels reach, which is rule 2 before rule 3.
-    Case {
-        plan: STRAIGHT,
-        proofs: &STRAIGHT_PROOFS,
-        change: Change::Cost(86_000),
-        no: Some((1, 2)),
-    },
+    Case(
+        STRAIGHT,
+        &STRAIGHT_PROOFS,
+        Change::Cost(86_000),
+        Some((1, 2)),
+    ),
     // A cost of 10^18.
-    Case {
-        plan: STRAIGHT,
-        proofs: &STRAIGHT_PROOFS,
-        change: Change::Cost(1_000_000_000_000_000_000),
-        no: Some((1, 3)),
-    },
+    Case(
+        STRAIGHT,
+        &STRAIGHT_PROOFS,
+        Change::Cost(1_000_000_000_000_000_000),
+        Some((1, 3)),
+    ),
     // A label of the cost.
-    Case {
-        plan: STRAIGHT,
-        proofs: &STRAIGHT_PROOFS,
-        change: Change::Row(
+    Case(
+        STRAIGHT,
+        &STRAIGHT_PROOFS,
+        Change::Row(
             0,
             Row(0, -14_000, -14_000, None, None, Some(78_000), Some(100_000)),
         ),
-        no: Some((1, 2)),
-    },
+        Some((1, 2)),
+    ),
     // A row twice.
-    Case {
-        plan: STRAIGHT,
-        proofs: &STRAIGHT_PROOFS,
-        change: Change::Row(
+    Case(
+        STRAIGHT,
+        &STRAIGHT_PROOFS,
+        Change::Row(
             1,
             Row(0, -14_000, -14_000, None, None, Some(78_000), Some(78_000)),
         ),
-        no: Some((1, 2)),
-    },
+        Some((1, 2)),
+    ),
     // A stage too high.
-    Case {
-        plan: STRAIGHT,
-        proofs: &STRAIGHT_PROOFS,
-        change: Change::Row(
+    Case(
+        STRAIGHT,
+        &STRAIGHT_PROOFS,
+        Change::Row(
             8,
             Row(1, 14_000, 14_000, Some(78_000), Some(78_000), None, None),
         ),
-        no: Some((1, 2)),
-    },
+        Some((1, 2)),
+    ),
     // No crossing.
-    Case {
-        plan: STRAIGHT,
-        proofs: &STRAIGHT_PROOFS,
-        change: Change::Row(
+    Case(
+        STRAIGHT,
+        &STRAIGHT_PROOFS,
+        Change::Row(
             0,
             Row(0, -14_001, -14_000, None, None, Some(78_000), Some(78_000)),
         ),
-        no: Some((1, 2)),
-    },
+        Some((1, 2)),
+    ),
     // No crossing, beyond the last one of its line.
-    Case {
-        plan: STRAIGHT,
-        proofs: &STRAIGHT_PROOFS,
-        change: Change::Row(
+    Case(
+        STRAIGHT,
+        &STRAIGHT_PROOFS,
+        Change::Row(
             8,
             Row(0, 500_000, 14_000, Some(78_000), Some(78_000), None, None),
         ),
-        no: Some((1, 2)),
-    },
+        Some((1, 2)),
+    ),
     // A row without labels.
-    Case {
-        plan: STRAIGHT,
-        proofs: &STRAIGHT_PROOFS,
-        change: Change::Row(3, Row(0, -14_000, 0, None, None, None, None)),
-        no: Some((1, 2)),
-    },
+    Case(
+        STRAIGHT,
+        &STRAIGHT_PROOFS,
+        Change::Row(3, Row(0, -14_000, 0, None, None, None, None)),
+        Some((1, 2)),
+    ),
     // A line that ends elsewhere.
-    Case {
-        plan: STRAIGHT,
-        proofs: &STRAIGHT_PROOFS,
-        change: Change::End(100_000, 1000),
-        no: Some((1, 3)),
-    },
+    Case(
+        STRAIGHT,
+        &STRAIGHT_PROOFS,
+        Change::End(100_000, 1000),
+        Some((1, 3)),
+    ),
     // A line that leaves the sheet.
-    Case {
-        plan: STRAIGHT,
-        proofs: &STRAIGHT_PROOFS,
-        change: Change::End(1_000_000_000_000, 0),
-        no: Some((1, 3)),
-    },
+    Case(
+        STRAIGHT,
+        &STRAIGHT_PROOFS,
+        Change::End(1_000_000_000_000, 0),
+        Some((1, 3)),
+    ),
     // No line.
-    Case {
-        plan: STRAIGHT,
-        proofs: &STRAIGHT_PROOFS,
-        change: Change::NoLine,
-        no: Some((1, 3)),
-    },
+    Case(STRAIGHT, &STRAIGHT_PROOFS, Change::NoLine, Some((1, 3))),
     // The line alone.
-    Case {
-        plan: STRAIGHT,
-        proofs: &STRAIGHT_PROOFS,
-        change: Change::NoRows,
-        no: Some((1, 4)),
-    },
+    Case(STRAIGHT, &STRAIGHT_PROOFS, Change::NoRows, Some((1, 4))),
     // An entry without a label.
-    Case {
-        plan: STRAIGHT,
-        proofs: &STRAIGHT_PROOFS,
-        change: Change::Drop(4),
-        no: Some((1, 4)),
-    },
+    Case(STRAIGHT, &STRAIGHT_PROOFS, Change::Drop(4), Some((1, 4))),
     // An entry with too high a label.
-    Case {
-        plan: STRAIGHT,
-        proofs: &STRAIGHT_PROOFS,
-        change: Change::Row(4, Row(0, 14_000, 0, Some(14_001), None, None, None)),
-        no: Some((1, 4)),
-    },
+    Case(
+        STRAIGHT,
+        &STRAIGHT_PROOFS,
+        Change::Row(4, Row(0, 14_000, 0, Some(14_001), None, None, None)),
+        Some((1, 4)),
+    ),
     // The end of a move without a label.
-    Case {
-        plan: STRAIGHT,
-        proofs: &STRAIGHT_PROOFS,
-        change: Change::Drop(5),
-        no: Some((1, 5)),
-    },
+    Case(STRAIGHT, &STRAIGHT_PROOFS, Change::Drop(5), Some((1, 5))),
     // The end of a move with too high a label.
-    Case {
-        plan: STRAIGHT,
-        proofs: &STRAIGHT_PROOFS,
-        change: Change::Row(5, Row(0, 86_000, 0, Some(86_001), None, None, None)),
-        no: Some((1, 5)),
-    },
+    Case(
+        STRAIGHT,
+        &STRAIGHT_PROOFS,
+        Change::Row(5, Row(0, 86_000, 0, Some(86_001), None, None, None)),
+        Some((1, 5)),
+    ),
     // The end of a bend with too high a label.
-    Case {
-        plan: STRAIGHT,
-        proofs: &STRAIGHT_PROOFS,
-        change: Change::Row(
+    Case(
+        STRAIGHT,
+        &STRAIGHT_PROOFS,
+        Change::Row(
             8,
             Row(0, 14_000, 14_000, Some(78_001), Some(78_000), None, None),
         ),
-        no: Some((1, 5)),
-    },
+        Some((1, 5)),
+    ),
     // A label too low for the ending.
-    Case {
-        plan: STRAIGHT,
-        proofs: &STRAIGHT_PROOFS,
-        change: Change::Row(5, Row(0, 86_000, 0, Some(85_999), None, None, None)),
-        no: Some((1, 6)),
-    },
+    Case(
+        STRAIGHT,
+        &STRAIGHT_PROOFS,
+        Change::Row(5, Row(0, 86_000, 0, Some(85_999), None, None, None)),
+        Some((1, 6)),
+    ),
     // A cut where walks go on.
-    Case {
-        plan: STRAIGHT,
-        proofs: &STRAIGHT_PROOFS,
-        change: Change::Cut,
-        no: Some((1, 5)),
-    },
+    Case(STRAIGHT, &STRAIGHT_PROOFS, Change::Cut, Some((1, 5))),
     // A cut where walks enter.
-    Case {
-        plan: STRAIGHT,
-        proofs: &CUT_PROOFS,
-        change: Change::None,
-        no: Some((1, 4)),
-    },
+    Case(STRAIGHT, &CUT_PROOFS, Change::None, Some((1, 4))),
     // A cut with a label that is not 0.
-    Case {
-        plan: STRAIGHT,
-        proofs: &CUT_EVERY_PROOFS,
-        change: Change::Row(
+    Case(
+        STRAIGHT,
+        &CUT_EVERY_PROOFS,
+        Change::Row(
             0,
             Row(0, -14_000, -14_000, Some(1), Some(0), Some(0), Some(0)),
         ),
-        no: Some((1, 2)),
-    },
+        Some((1, 2)),
+    ),
     // A cut where a walk ends.
-    Case {
-        plan: STRAIGHT,
-        proofs: &CUT_EVERY_PROOFS,
-        change: Change::None,
-        no: Some((1, 6)),
-    },
+    Case(STRAIGHT, &CUT_EVERY_PROOFS, Change::None, Some((1, 6))),
     // No walk leaves the start.
-    Case {
-        plan: COVERED_START,
-        proofs: &COVERED_START_PROOFS,
-        change: Change::None,
-        no: None,
-    },
+    Case(COVERED_START, &CUT_PROOFS, Change::None, None),
     // A cost where there is no walk.
-    Case {
-        plan: COVERED_START,
-        proofs: &STRAIGHT_PROOFS,
-        change: Change::None,
-        no: Some((1, 2)),
-    },
+    Case(COVERED_START, &STRAIGHT_PROOFS, Change::None, Some((1, 2))),
     // No walk reaches the end.
-    Case {
-        plan: COVERED_END,
-        proofs: &COVERED_END_PROOFS,
-        change: Change::None,
-        no: None,
-    },
+    Case(COVERED_END, &COVERED_END_PROOFS, Change::None, None),
     // A cut without the label of an entry.
-    Case {
-        plan: COVERED_END,
-        proofs: &COVERED_END_PROOFS,
-        change: Change::Row(11, Row(0, 14_000, 0, None, Some(0), Some(0), Some(0))),
-        no: Some((1, 4)),
-    },
+    Case(
+        COVERED_END,
+        &COVERED_END_PROOFS,
+        Change::Row(11, Row(0, 14_000, 0, None, Some(0), Some(0), Some(0))),
+        Some((1, 4)),
+    ),
     // A cut without the label of a move.
-    Case {
-        plan: COVERED_END,
-        proofs: &COVERED_END_PROOFS,
-        change: Change::Drop(0),
-        no: Some((1, 5)),
-    },
+    Case(
+        COVERED_END,
+        &COVERED_END_PROOFS,
+        Change::Drop(0),
+        Some((1, 5)),
+    ),
     // A cost of 0 for a cut.
-    Case {
-        plan: COVERED_END,
-        proofs: &COVERED_END_PROOFS,
-        change: Change::Cost(0),
-        no: Some((1, 2)),
-    },
+    Case(
+        COVERED_END,
+        &COVERED_END_PROOFS,
+        Change::Cost(0),
+        Some((1, 2)),
+    ),
     // A loop needs no proof.
-    Case {
-        plan: LOOP,
-        proofs: &NONE_PROOFS,
-        change: Change::None,
-        no: None,
-    },
+    Case(LOOP, &NO_PROOFS, Change::None, None),
     // Nor does a scene without edges.
-    Case {
-        plan: NO_EDGES,
-        proofs: &NONE_PROOFS,
-        change: Change::None,
-        no: None,
-    },
+    Case(NO_EDGES, &NO_PROOFS, Change::None, None),
     // A proof where there is no connector.
-    Case {
-        plan: NO_EDGES,
-        proofs: &STRAIGHT_PROOFS,
-        change: Change::None,
-        no: Some((0, 1)),
-    },
+    Case(NO_EDGES, &STRAIGHT_PROOFS, Change::None, Some((0, 1))),
     // A loop before the connector.
-    Case {
-        plan: LOOP_AND_MORE,
-        proofs: &LOOP_AND_MORE_PROOFS,
-        change: Change::None,
-        no: None,
-    },
+    Case(LOOP_AND_MORE, &LOOP_AND_MORE_PROOFS, Change::None, None),
     // Both ways.
-    Case {
-        plan: BOTH_WAYS,
-        proofs: &BOTH_WAYS_PROOFS,
-        change: Change::None,
-        no: None,
-    },
+    Case(BOTH_WAYS, &BOTH_WAYS_PROOFS, Change::None, None),
     // The other connector has no proof.
-    Case {
-        plan: BOTH_WAYS,
-        proofs: &STRAIGHT_PROOFS,
-        change: Change::None,
-        no: Some((2, 1)),
-    },
+    Case(BOTH_WAYS, &STRAIGHT_PROOFS, Change::None, Some((2, 1))),
     // The other connector fails.
-    Case {
-        plan: BOTH_WAYS,
-        proofs: &BOTH_WAYS_PROOFS,
-        change: Change::NoRows,
-        no: Some((2, 4)),
-    },
+    Case(BOTH_WAYS, &BOTH_WAYS_PROOFS, Change::NoRows, Some((2, 4))),
     // By way of a checkpoint.
-    Case {
-        plan: BY_WAY,
-        proofs: &BY_WAY_PROOFS,
-        change: Change::None,
-        no: None,
-    },
+    Case(BY_WAY, &BY_WAY_PROOFS, Change::None, None),
     // Without the stage after the checkpoint.
-    Case {
-        plan: BY_WAY,
-        proofs: &BY_WAY_PROOFS,
-        change: Change::Drop(8),
-        no: Some((1, 5)),
-    },
+    Case(BY_WAY, &BY_WAY_PROOFS, Change::Drop(8), Some((1, 5))),
     // In the stage before the checkpoint.
-    Case {
-        plan: BY_WAY,
-        proofs: &BY_WAY_PROOFS,
-        change: Change::Row(8, Row(0, 50_000, 0, Some(50_000), None, None, None)),
-        no: Some((1, 2)),
-    },
+    Case(
+        BY_WAY,
+        &BY_WAY_PROOFS,
+        Change::Row(8, Row(0, 50_000, 0, Some(50_000), None, None, None)),
+        Some((1, 2)),
+    ),
     // The line passes, the labels are of the task without a checkpoint.
-    Case {
-        plan: BY_WAY,
-        proofs: &STRAIGHT_PROOFS,
-        change: Change::None,
-        no: Some((1, 5)),
-    },
+    Case(BY_WAY, &STRAIGHT_PROOFS, Change::None, Some((1, 5))),
 ];
 
 /// The row, for a cut with 0 for each label.
@@ -614,12 +400,12 @@ fn label_row(row: Row, change: Change) -> LabelRow {
 }
 
 /// The rows after the change.
-fn rows(alloc: Global, given: Given, change: Change) -> Result<Rows, AllocError> {
+fn rows(alloc: Global, given: &[Row], change: Change) -> Result<Rows, AllocError> {
     let mut rows = Vec::new(alloc);
     if matches!(change, Change::NoRows) {
         return Ok(Rows(rows));
     }
-    for (place, row) in given.rows.iter().enumerate() {
+    for (place, row) in given.iter().enumerate() {
         match change {
             Change::Drop(at) if at == place => {}
             Change::Row(at, other) if at == place => rows.push(label_row(other, change))?,
@@ -630,12 +416,12 @@ fn rows(alloc: Global, given: Given, change: Change) -> Result<Rows, AllocError>
 }
 
 /// The line after the change.
-fn line(alloc: Global, given: Given, change: Change) -> Result<Points, AllocError> {
+fn line(alloc: Global, given: &[Corner], change: Change) -> Result<Points, AllocError> {
     let mut points = Vec::new(alloc);
     if matches!(change, Change::NoLine) {
         return Ok(Points(points));
     }
-    for Corner(x, y) in given.line {
+    for Corner(x, y) in given {
         points.push(Point { x: *x, y: *y })?;
     }
     if let Change::End(x, y) = change {
@@ -647,26 +433,28 @@ fn line(alloc: Global, given: Given, change: Change) -> Result<Points, AllocErro
 
 /// The claim after the change.
 fn claim(alloc: Global, given: Given, change: Change) -> Result<Claim, AllocError> {
+    let Given(_, known, corners, _) = given;
     let cost = match change {
         Change::Cost(cost) => Some(cost),
         Change::Cut => None,
-        _ => given.cost,
+        _ => known,
     };
     match cost {
         None => Ok(Claim::Cut),
         Some(cost) => Ok(Claim::Cost {
             cost,
-            points: line(alloc, given, change)?,
+            points: line(alloc, corners, change)?,
         }),
     }
 }
 
 /// The proof after the change.
 fn proof(alloc: Global, given: Given, change: Change) -> Result<Proof, AllocError> {
-    let rows = rows(alloc, given, change)?;
+    let Given(known, _, _, labels) = given;
+    let rows = rows(alloc, labels, change)?;
     let edge = match change {
         Change::Edge(edge) => edge,
-        _ => given.edge,
+        _ => known,
     };
     Ok(Proof {
         edge,
@@ -676,11 +464,16 @@ fn proof(alloc: Global, given: Given, change: Change) -> Result<Proof, AllocErro
 }
 
 /// Puts in the proofs, of which the last one is changed.
-fn put_proofs(alloc: Global, proofs: &mut Vec<Proof>, case: Case) -> Result<(), AllocError> {
-    for (place, given) in case.proofs.iter().enumerate() {
-        let is_last = place == case.proofs.len() - 1;
-        let change = if is_last { case.change } else { Change::None };
-        proofs.push(proof(alloc, *given, change)?)?;
+fn put_proofs(
+    alloc: Global,
+    proofs: &mut Vec<Proof>,
+    given: &[Given],
+    last: Change,
+) -> Result<(), AllocError> {
+    for (place, one) in given.iter().enumerate() {
+        let is_last = place == given.len() - 1;
+        let change = if is_last { last } else { Change::None };
+        proofs.push(proof(alloc, *one, change)?)?;
     }
     Ok(())
 }
@@ -698,10 +491,11 @@ fn audited_by(
     proofs: &mut Vec<Proof>,
     case: Case,
 ) -> Result<(), AuditFault> {
-    if fill(alloc, scene, case.plan).is_err() {
+    let Case(plan, given, change, _) = case;
+    if fill(alloc, scene, plan).is_err() {
         return Err(AuditFault::Memory);
     }
-    put_proofs(alloc, proofs, case)?;
+    put_proofs(alloc, proofs, given, change)?;
     audited(alloc, scene, proofs)
 }
 
@@ -714,7 +508,8 @@ fn answer(alloc: Global, case: Case) -> Result<(), AuditFault> {
 
 /// What an audit is to answer of the case.
 fn wanted(case: Case) -> Result<(), AuditFault> {
-    match case.no {
+    let Case(_, _, _, no) = case;
+    match no {
         None => Ok(()),
         Some((edge, rule)) => Err(AuditFault::No { edge, rule }),
     }

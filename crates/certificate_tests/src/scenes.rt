@@ -26,6 +26,36 @@ pub const SOURCE: Place = Place(1, 0, 0, 20_000, 20_000);
 
 pub const TARGET: Place = Place(2, 100_000, 0, 20_000, 20_000);
 
+pub const STRAIGHT: Plan = Plan {
+    places: &[SOURCE, TARGET],
+    edges: &[(1, 2)],
+    via: &[],
+};
+
+pub const NO_EDGES: Plan = Plan {
+    places: &[SOURCE, TARGET],
+    edges: &[],
+    via: &[],
+};
+
+pub const BOTH_WAYS: Plan = Plan {
+    places: &[SOURCE, TARGET],
+    edges: &[(1, 2), (2, 1)],
+    via: &[],
+};
+
+pub const BY_WAY: Plan = Plan {
+    places: &[SOURCE, TARGET],
+    edges: &[(1, 2)],
+    via: &[Corner(50_000, 0)],
+};
+
+pub const LOOP: Plan = Plan {
+    places: &[SOURCE, TARGET],
+    edges: &[(1, 1)],
+    via: &[],
+};
+
 /// Puts in an edge with the next number, which may be a loop.
 fn load_edge(alloc: Global, scene: &mut Scene, from: i64, to: i64) -> Result<(), SceneFault> {
     let number = scene.next_edge();

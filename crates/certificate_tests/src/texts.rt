@@ -1,6 +1,7 @@
-//! Certificates of small scenes, as the definitions of least labels give them.
+//! Certificates of small scenes, as the definitions of least labels give them, in parts.
 
-pub const STRAIGHT: &str = "\
+/// The line from box 1 to box 2, and the labels round box 1 that stand above and beside its centre.
+const THERE: &str = "\
     edge 1 cost 100000\n\
     point 0 0\n\
     point 100000 0\n\
@@ -8,26 +9,42 @@ pub const STRAIGHT: &str = "\
     label 0 0 -14000 - - - 14000\n\
     label 0 14000 -14000 78000 - - 78000\n\
     label 0 -14000 0 - - 14000 -\n\
-    label 0 14000 0 14000 - - -\n\
-    label 0 86000 0 86000 - - -\n\
+    label 0 14000 0 14000 - - -\n";
+
+/// The label at box 2.
+const ARRIVED: &str = "label 0 86000 0 86000 - - -\n";
+
+/// The labels round box 1 that stand below its centre.
+const BELOW: &str = "\
     label 0 -14000 14000 - 78000 78000 -\n\
     label 0 0 14000 - 14000 - -\n\
     label 0 14000 14000 78000 78000 - -\n";
 
-pub const BY_WAY: &str = "\
-    edge 1 cost 100000\n\
-    point 0 0\n\
-    point 100000 0\n\
-    label 0 -14000 -14000 - - 78000 78000\n\
-    label 0 0 -14000 - - - 14000\n\
-    label 0 14000 -14000 78000 - - 78000\n\
-    label 0 -14000 0 - - 14000 -\n\
-    label 0 14000 0 14000 - - -\n\
-    label 0 -14000 14000 - 78000 78000 -\n\
-    label 0 0 14000 - 14000 - -\n\
-    label 0 14000 14000 78000 78000 - -\n\
+/// The stage after the checkpoint.
+const ON: &str = "\
     label 1 50000 0 50000 - - -\n\
     label 1 86000 0 86000 - - -\n";
+
+/// The proof of the connector from box 2 to box 1.
+const BACK: &str = "\
+    edge 2 cost 100000\n\
+    point 100000 0\n\
+    point 0 0\n\
+    label 0 86000 -14000 - - 78000 78000\n\
+    label 0 100000 -14000 - - - 14000\n\
+    label 0 114000 -14000 78000 - - 78000\n\
+    label 0 14000 0 - - 86000 -\n\
+    label 0 86000 0 - - 14000 -\n\
+    label 0 114000 0 14000 - - -\n\
+    label 0 86000 14000 - 78000 78000 -\n\
+    label 0 100000 14000 - 14000 - -\n\
+    label 0 114000 14000 78000 78000 - -\n";
+
+pub const STRAIGHT: [&str; 3] = [THERE, ARRIVED, BELOW];
+
+pub const BY_WAY: [&str; 3] = [THERE, BELOW, ON];
+
+pub const BOTH_WAYS: [&str; 4] = [THERE, ARRIVED, BELOW, BACK];
 
 pub const ROUND: &str = "\
     edge 1 cost 248000\n\
@@ -254,29 +271,3 @@ pub const CUT: &str = "\
     label 0 56000 44000 0 0 0 -\n\
     label 0 100000 44000 0 - 0 -\n\
     label 0 144000 44000 0 0 - -\n";
-
-pub const BOTH_WAYS: &str = "\
-    edge 1 cost 100000\n\
-    point 0 0\n\
-    point 100000 0\n\
-    label 0 -14000 -14000 - - 78000 78000\n\
-    label 0 0 -14000 - - - 14000\n\
-    label 0 14000 -14000 78000 - - 78000\n\
-    label 0 -14000 0 - - 14000 -\n\
-    label 0 14000 0 14000 - - -\n\
-    label 0 86000 0 86000 - - -\n\
-    label 0 -14000 14000 - 78000 78000 -\n\
-    label 0 0 14000 - 14000 - -\n\
-    label 0 14000 14000 78000 78000 - -\n\
-    edge 2 cost 100000\n\
-    point 100000 0\n\
-    point 0 0\n\
-    label 0 86000 -14000 - - 78000 78000\n\
-    label 0 100000 -14000 - - - 14000\n\
-    label 0 114000 -14000 78000 - - 78000\n\
-    label 0 14000 0 - - 86000 -\n\
-    label 0 86000 0 - - 14000 -\n\
-    label 0 114000 0 14000 - - -\n\
-    label 0 86000 14000 - 78000 78000 -\n\
-    label 0 100000 14000 - 14000 - -\n\
-    label 0 114000 14000 78000 78000 - -\n";
