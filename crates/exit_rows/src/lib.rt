@@ -5,9 +5,7 @@
 #![tactic(auto)]
 
 mod exit;
-mod queue;
 mod rows;
 
 pub use exit::{Exit, Kept, reach};
-pub use queue::{Candidate, Exits};
 pub use rows::Rows;

@@ -3,6 +3,7 @@ use Rattle.std.proofs.Common.{◌≡◌, ◌⊎◌, ℕ, ◌≤◌, List, Option
 use Rattle.std.specs.Prelude.{All, Any, Contains}
 use Rattle.std.specs.BinaryHeap.{heap_items}
 use Rattle.std.specs.declared.cmp.Reverse.{Reverse}
+use Rattle.candidate_queue.specs.declared.queue.Candidate.{Candidate}
 use Rattle.plane_geom.specs.declared.point.Point.{Point}
 use Rattle.plane_geom.specs.declared.point.Dir.{Dir}
 use Rattle.plane_geom.specs.declared.point.Dir.TheVariants.{East, South, West, North}
@@ -16,7 +17,6 @@ use Rattle.exit_rows.specs.Exits.{IsLate, IsUndercut, StandsFor, ahead_at}
 use Rattle.exit_rows.specs.Rows.{HasRow, IsMarked, kept_in}
 use Rattle.exit_rows.specs.declared.exit.Exit.{Exit}
 use Rattle.exit_rows.specs.declared.exit.Kept.{Kept}
-use Rattle.exit_rows.specs.declared.queue.Candidate.{Candidate}
 use Rattle.exit_rows.specs.declared.rows.Rows.{Rows}
 use Rattle.exit_spread.specs.declared.spread.Spread.{Spread}
 use Rattle.exit_spread.specs.Handing.{Adds, IsSound}
@@ -47,7 +47,7 @@ pub still_late : (old new : Spread) → AllKept old new → (k l : ℕ) (d : Dir
 still_late old new rows k l d e late = any_in (λ o. StandsFor o e) (kept_in old.rows k l d) (kept_in new.rows k l d) (rows k l d) late
 
 -- an exit that was offered has been offered still
-pub still_offered : (p : Problem) (old new : Spread) → AllKept old new → ((c : Reverse Candidate) → Contains (heap_items old.queue.heap) c → Contains (heap_items new.queue.heap) c) → new.best ≤ old.best
+pub still_offered : (p : Problem) (old new : Spread) → AllKept old new → ((c : Reverse (Candidate Exit)) → Contains (heap_items old.queue.heap) c → Contains (heap_items new.queue.heap) c) → new.best ≤ old.best
     → (hole : Option Exit) (q : Point) (x : Exit) → IsOffered p old hole q x → IsOffered p new hole q x
 still_offered p old new rows queue best hole q x (inl (inl dear)) = inl (inl (omega (arith, dear, best)))
 still_offered p old new rows queue best hole q x (inl (inr long)) = inl (inr long)
