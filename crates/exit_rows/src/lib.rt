@@ -7,5 +7,5 @@
 mod exit;
 mod rows;
 
-pub use exit::{Exit, Kept, reach};
-pub use rows::Rows;
+pub use exit::{Exit, Kept};
+pub use rows::{Rows, lesser};

@@ -6,8 +6,7 @@ use Rattle.std.specs.declared.alloc.Global.{Global}
 use Rattle.std.specs.declared.cmp.Reverse.{Reverse}
 use Rattle.std.proofs.lemmas.Bool.{cases_lt}
 use Rattle.std.proofs.lemmas.List.{get_or_default}
-use Rattle.std.proofs.lemmas.List.Elements.{All-nil, All-tail}
-use Rattle.std.proofs.lemmas.List.Sorted.{All-permutation, Contains-permutation, length_permutation}
+use Rattle.std.proofs.lemmas.List.Elements.{All-nil}
 use Rattle.candidate_queue.specs.declared.queue.Candidate.{Candidate}
 use Rattle.candidate_queue.specs.declared.queue.Queue.{Queue}
 use Rattle.plane_geom.specs.declared.point.Point.{Point}
@@ -32,7 +31,8 @@ use Rattle.exit_spread.specs.Offers.{IsOffered, IsTaken, kept_of}
 use Rattle.exit_spread.specs.Searching.{AreNone, HasRooms, IsCandidate, IsKeptOf, IsSearching, IsSpread, IsStubOffered, weight}
 use Rattle.exit_spread.specs.Taking.{Grows, IsExit}
 use Rattle.exit_spread.proofs.Sizes.{small_ending}
-use Rattle.exit_spread.proofs.Taking.Offered.{grows_both, grows_offered, same_searching, still_late}
+use Rattle.exit_spread.proofs.Spreading.Still.{still_late}
+use Rattle.exit_spread.proofs.Taking.Offered.{grows_both, grows_offered, same_searching}
 use Rattle.candidate_queue.proofs.Queues.{pop_all, pop_count, pop_one, pop_or_rest}
 
 -- ---- without exits

@@ -20,12 +20,12 @@ ghost use Rattle.exit_spread.specs.Ways.{IsWayAhead, place_at};
 
 use crate::run::{Run, counts_from};
 use candidate_queue::{Candidate, Queue};
-use exit_rows::{Exit, Kept, Rows, reach};
+use exit_rows::{Exit, Kept, Rows};
 use line_lists::LineLists;
 use move_model::{Place, Stretch};
 use plane_geom::{Dir, Point};
 use search_labels::{Ending, MOST_COST, MOST_RUNS, NOTHING, Problem, stage_at};
-use side_touches::Touches;
+use side_touches::{Touches, reach};
 use std::alloc::{AllocError, Global};
 
 /// What a search keeps: the exits that lines keep, those that are still to be taken, and the cost

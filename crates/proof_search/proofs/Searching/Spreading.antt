@@ -35,8 +35,7 @@ use Rattle.std.specs.BinaryHeap.{heap_items}
 use Rattle.std.specs.declared.cmp.Reverse.{Reverse}
 use Rattle.std.proofs.lemmas.Bool.{cases_lt}
 use Rattle.std.proofs.lemmas.List.{get_or_past}
-use Rattle.std.proofs.lemmas.List.Elements.{All-nil, All-tail}
-use Rattle.std.proofs.lemmas.List.Sorted.{All-permutation, Contains-permutation, length_permutation}
+use Rattle.std.proofs.lemmas.List.Elements.{All-nil}
 use Rattle.candidate_queue.specs.declared.queue.Candidate.{Candidate}
 use Rattle.candidate_queue.specs.declared.queue.Queue.{Queue}
 use Rattle.plane_geom.specs.declared.point.Dir.{Dir}
