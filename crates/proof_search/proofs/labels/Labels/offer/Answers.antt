@@ -7,6 +7,7 @@ use Rattle.std.proofs.lemmas.Bool.{cases_lt, false≢true, lt-ltb}
 use Rattle.std.proofs.lemmas.List.Sorted.{length_permutation}
 use Rattle.std.proofs.lemmas.Nat.{mul-add-lt}
 use Rattle.candidate_queue.specs.declared.queue.Candidate.{Candidate}
+use Rattle.move_model.specs.declared.place.Place.{Place}
 use Rattle.search_labels.specs.Labels.{empty_row, label_in, with_label}
 use Rattle.search_labels.specs.Tables.{HasRow, row_of}
 use Rattle.search_labels.specs.declared.label.Label.TheVariants.{Absent, Open}
