@@ -1,8 +1,16 @@
--- What a queue has once an item is added or removed.
-use Rattle.std.proofs.Common.{◌≡◌, ◌⊎◌, ◌+◌, ◌≤◌, zero, suc, List, [], ◌∷◌, refl, sym, inl, inr, arith}
+-- What a queue has: without items, and once an item is added or removed.
+use Rattle.std.proofs.Common.{◌≡◌, ◌⊎◌, ◌+◌, ◌≤◌, zero, suc, List, [], ◌∷◌, refl, sym, subst, inl, inr, arith}
 use Rattle.std.specs.Prelude.{All, Contains, IsPermutation, length}
-use Rattle.std.proofs.lemmas.List.Elements.{All-tail, Contains-append_right}
+use Rattle.std.proofs.lemmas.List.Elements.{All-nil, All-tail, Contains-append_right}
 use Rattle.std.proofs.lemmas.List.Sorted.{All-permutation, Contains-permutation, length_permutation}
+
+-- there is no item
+module _ {X : Type 0} (xs : List X) (none : xs ≡ []) where
+  pub none_all : (P : X → Type 0) → All P xs
+  none_all P = subst (All P) (sym none) (All-nil P)
+
+  pub none_has : (x : X) → Contains xs x → ⊥
+  none_has x has = let in_none : Contains [] x = subst (λ ys. Contains ys x) none has in omega (arith, in_none.1)
 
 -- the item is added
 module _ {X : Type 0} (x : X) (old new : List X) (moved : IsPermutation (x ∷ old) new) where

@@ -6,7 +6,6 @@ use Rattle.std.specs.declared.alloc.Global.{Global}
 use Rattle.std.specs.declared.cmp.Reverse.{Reverse}
 use Rattle.std.proofs.lemmas.Bool.{cases_lt}
 use Rattle.std.proofs.lemmas.List.{get_or_default}
-use Rattle.std.proofs.lemmas.List.Elements.{All-nil}
 use Rattle.candidate_queue.specs.declared.queue.Candidate.{Candidate}
 use Rattle.candidate_queue.specs.declared.queue.Queue.{Queue}
 use Rattle.plane_geom.specs.declared.point.Point.{Point}
@@ -33,7 +32,7 @@ use Rattle.exit_spread.specs.Taking.{Grows, IsExit}
 use Rattle.exit_spread.proofs.Sizes.{small_ending}
 use Rattle.exit_spread.proofs.Spreading.Still.{still_late}
 use Rattle.exit_spread.proofs.Taking.Offered.{grows_both, grows_offered, same_searching}
-use Rattle.candidate_queue.proofs.Queues.{pop_all, pop_count, pop_one, pop_or_rest}
+use Rattle.candidate_queue.proofs.Queues.{none_all, none_has, pop_all, pop_count, pop_one, pop_or_rest}
 
 -- ---- without exits
 
@@ -48,19 +47,16 @@ none_both false es none = refl
 no_exit : (t : Rows) → IsClear t → (k l : ℕ) (d : Dir) → kept_in t k l d ≡ []
 no_exit t clear k l d = none_both (nat_lt l t.lines) (exits_in (slice_get t.rows.items (row_of t k l d))) (none_in t.rows.items (row_of t k l d) (slice_get t.rows.items (row_of t k l d)) refl clear.rows)
 
-not_in_none : {X : Type 0} (xs : List X) (x : X) → xs ≡ [] → Contains xs x → ⊥
-not_in_none xs x none has = let in_none : Contains [] x = subst (λ ys. Contains ys x) none has in omega (arith, in_none.1)
-
 module _ (p : Problem) (line_of : ℕ → Way → ℕ) where
   pub searching_begins : (s : Spread) → AreNone s → HasRooms p line_of s → IsSearching p line_of s None None
   searching_begins s none rooms = record {
-    kept = λ k c d at here. subst (All (IsKeptOf p line_of k (line_of c (way_of d)) d)) (sym (no_exit s.rows none.rows k (line_of c (way_of d)) d)) (All-nil (IsKeptOf p line_of k (line_of c (way_of d)) d));
-    handed = λ k c d at e here has but. absurd (not_in_none (kept_in s.rows k (line_of c (way_of d)) d) e (no_exit s.rows none.rows k (line_of c (way_of d)) d) has);
-    candidates = subst (All (λ (c : Reverse (Candidate Exit)). IsCandidate p line_of c.0)) (sym none.queue) (All-nil (λ (c : Reverse (Candidate Exit)). IsCandidate p line_of c.0));
+    kept = λ k c d at here. none_all (kept_in s.rows k (line_of c (way_of d)) d) (no_exit s.rows none.rows k (line_of c (way_of d)) d) (IsKeptOf p line_of k (line_of c (way_of d)) d);
+    handed = λ k c d at e here has but. absurd (none_has (kept_in s.rows k (line_of c (way_of d)) d) (no_exit s.rows none.rows k (line_of c (way_of d)) d) e has);
+    candidates = none_all (heap_items s.queue.heap) none.queue (λ c. IsCandidate p line_of c.0);
     best = record { most = omega (arith, none.best); of_walk = inl none.best };
     marked = record {
       rows = λ k row is. inl (chosen (λ (r : Vec Kept Global). r.items ≡ []) s.rows.rows.items k row is none.rows.rows);
-      marks = subst (All (λ (k : ℕ). k < length s.rows.rows.items)) (sym none.rows.marks) (All-nil (λ (k : ℕ). k < length s.rows.rows.items));
+      marks = none_all s.rows.marked.items none.rows.marks (λ k. k < length s.rows.rows.items);
     };
     rooms = rooms;
   }
@@ -115,7 +111,8 @@ module _ (p : Problem) (line_of : ℕ → Way → ℕ) where
       lighter lists = let less = pop_count (record { 0 = c }) (heap_items s.queue.heap) (heap_items q.heap) removed in omega (arith, less)
 
       -- the stubs of the endings stay offered when it is taken
-      pub stubs_stay : IsReady p → (lists : Lists) (new : Spread) → Grows p lists left new → ((at : Point) → StandsAt p.arena.now c.item.place.crossing at → IsTaken p new at c.item) →
+      pub stubs_stay : IsReady p → (lists : Lists) (new : Spread) → Grows p lists left new →
+          ((at : Point) → StandsAt p.arena.now c.item.place.crossing at → IsTaken p new at c.item) →
           All (IsStubOffered p line_of s None) p.endings.items → All (IsStubOffered p line_of new None) p.endings.items
       stubs_stay ready lists new grows taken stubs k d lt g =
           let e : Ending = get_or p.endings.items k d in
@@ -151,16 +148,16 @@ module _ (p : Problem) (line_of : ℕ → Way → ℕ) where
     module _ (was : heap_items s.queue.heap ≡ []) (none : heap_items q.heap ≡ []) where
       kept_on : (r : Point) (x : Exit) → IsOffered p s None r x → IsOffered p left None r x
       kept_on r x (inl out) = inl out
-      kept_on r x (inr (inl queued)) = absurd (not_in_none (heap_items s.queue.heap) _ was queued)
+      kept_on r x (inr (inl queued)) = absurd (none_has (heap_items s.queue.heap) was _ queued)
       kept_on r x (inr (inr (inl taken))) = inr (inr (inl taken))
       kept_on r x (inr (inr (inr same))) = absurd (let wrong : ◌≡◌ {A = Option Exit} None (Some x) = same in cc)
 
       pub spread_at_end : All (IsStubOffered p line_of s None) p.endings.items → IsSpread p line_of left
       spread_at_end stubs = record {
         searching = same_searching p line_of s left None None (λ r x here o. kept_on r x o) refl
-            (record { candidates = subst (All (λ (c : Reverse (Candidate Exit)). IsCandidate p line_of c.0)) (sym none) (All-nil (λ (c : Reverse (Candidate Exit)). IsCandidate p line_of c.0)); best = h.best }) None h;
+            (record { candidates = none_all (heap_items q.heap) none (λ c. IsCandidate p line_of c.0); best = h.best }) None h;
         stubs = λ k d lt g. kept_on _ _ (stubs k d lt g);
-        settled = subst (All (λ (c : Reverse (Candidate Exit)). s.best < c.0.bound)) (sym none) (All-nil (λ (c : Reverse (Candidate Exit)). s.best < c.0.bound));
+        settled = none_all (heap_items q.heap) none (λ c. s.best < c.0.bound);
       }
 
 -- in the first of the stages the exit is taken

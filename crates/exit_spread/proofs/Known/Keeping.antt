@@ -151,7 +151,8 @@ module _ (p : Problem) (number_of : ℕ → Way → ℕ) (s : Spread) (ready : I
         by_case (inl (inr many)) = absurd (let few = (rest_matters p ready s.best spread.searching.best t first along y q n.station.back n.on).few in omega (arith, few, many))
         by_case (inr (inl queued)) = absurd (
             let dear = All-contains (λ (c : Reverse (Candidate Exit)). s.best < c.0.bound) (heap_items s.queue.heap)
-            (record { 0 = record { bound = (before y.heading).cost + bound_at p y q; item = exit_of number_of y next (before y.heading) } }) spread.settled queued in
+            (record { 0 = record { bound = (before y.heading).cost + bound_at p y q; item = exit_of number_of y next (before y.heading) } })
+            spread.settled queued in
             omega (arith, cheap, dear))
         by_case (inr (inr (inl late))) = late x.stage comes
         by_case (inr (inr (inr hole))) = absurd (let wrong : ◌≡◌ {A = Option Exit} None (Some (exit_of number_of y next (before y.heading))) = hole in cc)

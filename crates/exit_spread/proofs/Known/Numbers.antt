@@ -20,8 +20,10 @@ rising_along West pair = refl
 rising_along North pair = refl
 
 -- the line of the crossing along the direction has the number
-pub numbered_line : (a : Arena) (lists : Lists) → AreListsOf a lists → (c : ℕ) (d : Dir) (pair : Pair) → get a.crossings c ≡ Some pair → HasNumber a lists (line_along d pair) (number_of lists c (way_of d))
-numbered_line a lists of c d pair is = subst (λ id. HasNumber a lists id (number_of lists c (way_of d))) (rising_along d pair) (of.numbers c pair (way_of d) is)
+pub numbered_line : (a : Arena) (lists : Lists) → AreListsOf a lists → (c : ℕ) (d : Dir) (pair : Pair) → get a.crossings c ≡ Some pair →
+    HasNumber a lists (line_along d pair) (number_of lists c (way_of d))
+numbered_line a lists of c d pair is =
+    subst (λ id. HasNumber a lists id (number_of lists c (way_of d))) (rising_along d pair) (of.numbers c pair (way_of d) is)
 
 pub lists_number : (a : Arena) (lists : Lists) → IsArena a → AreListsOf a lists → AreNumbered a (number_of lists)
 lists_number a lists arena are = record {

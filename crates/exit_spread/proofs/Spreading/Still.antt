@@ -30,7 +30,8 @@ pub still_late : (old new : Spread) → AllKept old new → (k l : ℕ) (d : Dir
 still_late old new rows k l d e late = any_in (λ o. StandsFor o e) (kept_in old.rows k l d) (kept_in new.rows k l d) (rows k l d) late
 
 -- an exit that was offered has been offered still
-pub still_offered : (p : Problem) (old new : Spread) → AllKept old new → ((c : Reverse (Candidate Exit)) → Contains (heap_items old.queue.heap) c → Contains (heap_items new.queue.heap) c) → new.best ≤ old.best
+pub still_offered : (p : Problem) (old new : Spread) → AllKept old new
+    → ((c : Reverse (Candidate Exit)) → Contains (heap_items old.queue.heap) c → Contains (heap_items new.queue.heap) c) → new.best ≤ old.best
     → (hole : Option Exit) (q : Point) (x : Exit) → IsOffered p old hole q x → IsOffered p new hole q x
 still_offered p old new rows queue best hole q x (inl (inl dear)) = inl (inl (omega (arith, dear, best)))
 still_offered p old new rows queue best hole q x (inl (inr long)) = inl (inr long)

@@ -1,41 +1,10 @@
 -- A search begins without labels, takes out one candidate after another, and ends where none is left.
-use Rattle.std.proofs.Common.{
-  ◌≡◌,
-  ◌≢◌,
-  ◌⊎◌,
-  ℕ,
-  ◌+◌,
-  ◌^◌,
-  ◌<◌,
-  ◌≤◌,
-  Bool,
-  true,
-  false,
-  if◌then◌else◌,
-  nat_lt,
-  Option,
-  None,
-  Some,
-  List,
-  [],
-  ◌∷◌,
-  length,
-  get_or,
-  refl,
-  sym,
-  ap,
-  subst,
-  ◌∙◌,
-  inl,
-  inr,
-  arith,
-}
+use Rattle.std.proofs.Common.{◌≡◌, ◌≢◌, ◌⊎◌, ℕ, ◌+◌, ◌^◌, ◌<◌, ◌≤◌, Bool, true, false, if◌then◌else◌, nat_lt, Option, None, Some, List, [], ◌∷◌, length, get_or, refl, sym, ap, ◌∙◌, inl, inr, arith}
 use Rattle.std.specs.Prelude.{All, Contains, IsPermutation}
 use Rattle.std.specs.BinaryHeap.{heap_items}
 use Rattle.std.specs.declared.cmp.Reverse.{Reverse}
 use Rattle.std.proofs.lemmas.Bool.{cases_lt}
 use Rattle.std.proofs.lemmas.List.{get_or_past}
-use Rattle.std.proofs.lemmas.List.Elements.{All-nil}
 use Rattle.candidate_queue.specs.declared.queue.Candidate.{Candidate}
 use Rattle.candidate_queue.specs.declared.queue.Queue.{Queue}
 use Rattle.plane_geom.specs.declared.point.Dir.{Dir}
@@ -49,7 +18,7 @@ use Rattle.search_labels.specs.declared.label.Label.TheVariants.{Absent, Open}
 use Rattle.search_labels.specs.declared.label.Row.{Row}
 use Rattle.search_labels.specs.declared.problem.Problem.{Problem}
 use Rattle.exit_spread.proofs.Taking.Offered.{by_heading}
-use Rattle.candidate_queue.proofs.Queues.{pop_all, pop_count, pop_one, pop_or_rest}
+use Rattle.candidate_queue.proofs.Queues.{none_all, none_has, pop_all, pop_count, pop_one, pop_or_rest}
 use Rattle.proof_search.specs.declared.labels.Labels.{Labels}
 use Rattle.proof_search.specs.declared.scope.Scope.{Scope}
 use Rattle.proof_search.specs.Scopes.{most_of}
@@ -93,10 +62,10 @@ module _ (p : Problem) (s : Scope) (l : Labels) (none : AreNone l) where
     reached = λ x v e. absurd (nothing_known x v e);
     queued = λ x v but e. absurd (nothing_known x v.cost (ap cost_in e));
     handed = λ x v but e. absurd (nothing_known x v.cost (ap cost_in e));
-    candidates = subst (All (λ (c : Reverse (Candidate Place)). IsPlace p c.0.item)) (sym none.queue) (All-nil (λ (c : Reverse (Candidate Place)). IsPlace p c.0.item));
+    candidates = none_all (heap_items l.queue.heap) none.queue (λ c. IsPlace p c.0.item);
     marked = record {
       rows = λ k d lt. inl (none.table.rows k d lt);
-      marks = subst (All (λ (k : ℕ). k < length l.table.rows.items)) (sym none.table.marks) (All-nil (λ (k : ℕ). k < length l.table.rows.items));
+      marks = none_all l.table.marked.items none.table.marks (λ k. k < length l.table.rows.items);
     };
     rooms = rooms;
   }
@@ -119,14 +88,9 @@ module _ (p : Problem) (s : Scope) (l : Labels) (q : Queue Place) (searching : I
   pub spread_at_end : All (IsEntryOffered s l) p.entries.items → heap_items l.queue.heap ≡ [] → heap_items q.heap ≡ [] → IsSpread p s (with_queue l q)
   spread_at_end entries old_none new_none =
       let never : (x : Place) (v : Ahead) → label_at l x ≡ Open v → ⊥ =
-      λ x v is_open.
-      (let has = searching.queued x v (λ none. cc) is_open in
-      let none : Contains [] (record { 0 = record { bound = has.0; item = x } }) = subst
-      (λ (cs : List (Reverse (Candidate Place))). Contains cs (record { 0 = record { bound = has.0; item = x } })) old_none has.1 in
-      omega (arith, none.1)) in
+      λ x v is_open. (let has = searching.queued x v (λ none. cc) is_open in none_has (heap_items l.queue.heap) old_none _ has.1) in
       record {
-        searching = with_candidates None (subst (All (λ (c : Reverse (Candidate Place)). IsPlace p c.0.item)) (sym new_none)
-            (All-nil (λ (c : Reverse (Candidate Place)). IsPlace p c.0.item)))
+        searching = with_candidates None (none_all (heap_items q.heap) new_none (λ c. IsPlace p c.0.item))
             (λ x v other is_open. absurd (never x v is_open));
         entries = entries;
         closed = never;

@@ -36,7 +36,8 @@ ahead_along-requires-clause-small c =
     (kept_in c.args.self.now.rows x.stage (n x.crossing (way_of c.args.dir)) c.args.dir) (c.requires.searching.kept x.stage x.crossing c.args.dir c.point-at.result c.point-at.ensures))
 
 -- what the line keeps gives
-along : (c : After-ahead_along) → c.ahead_along.result ≡ known_along c.args.problem.now (number_of c.args.lists.now) c.args.self.now c.args.place.now c.point-at.result c.args.dir
+along : (c : After-ahead_along) → c.ahead_along.result
+    ≡ known_along c.args.problem.now (number_of c.args.lists.now) c.args.self.now c.args.place.now c.point-at.result c.args.dir
 along c =
     let n = number_of c.args.lists.now in
     let row : ℕ → List Kept = λ l. kept_in c.args.self.now.rows c.args.place.now.stage l c.args.dir in
@@ -54,7 +55,8 @@ turned-requires-clause-ahead c =
     let within = crossing_within p x.crossing c.point-at.result c.requires.ready c.point-at.ensures in
     let small = All-weaker (IsKeptOf p n x.stage (n x.crossing (way_of c.args.dir)) c.args.dir) IsSmallKept (λ e h. kept_small p n c.requires.ready x.stage (n x.crossing (way_of c.args.dir)) c.args.dir e h)
     (kept_in c.args.self.now.rows x.stage (n x.crossing (way_of c.args.dir)) c.args.dir) (c.requires.searching.kept x.stage x.crossing c.args.dir c.point-at.result c.point-at.ensures) in
-    least_small (kept_in c.args.self.now.rows x.stage (n x.crossing (way_of c.args.dir)) c.args.dir) (reach c.args.dir c.point-at.result) c.in_ok-ahead.ahead small (reach_within c.args.dir c.point-at.result within) (sym (along (goal.at.turned-requires-clause-ahead c).After-ahead_along) ∙ c.in_ok-ahead.was)
+    least_small (kept_in c.args.self.now.rows x.stage (n x.crossing (way_of c.args.dir)) c.args.dir) (reach c.args.dir c.point-at.result) c.in_ok-ahead.ahead small
+    (reach_within c.args.dir c.point-at.result within) (sym (along (goal.at.turned-requires-clause-ahead c).After-ahead_along) ∙ c.in_ok-ahead.was)
 
 pub turned-requires-clause-within : goal.turned-requires-clause-within
 turned-requires-clause-within c = crossing_within c.args.problem.now c.args.place.now.crossing c.point-at.result c.requires.ready c.point-at.ensures
@@ -64,7 +66,8 @@ returns-in_err-ahead c at here =
     let p = c.args.problem.now in
     let x = c.args.place.now in
     let point : c.point-at.result ≡ at = one_point p.arena.now x.crossing c.point-at.result at c.requires.ready.arena c.point-at.ensures here in
-    let none : known_along p (number_of c.args.lists.now) c.args.self.now x c.point-at.result c.args.dir ≡ None = sym (along (goal.at.returns-in_err-ahead c).After-ahead_along) ∙ c.in_err-ahead.was in
+    let none : known_along p (number_of c.args.lists.now) c.args.self.now x c.point-at.result c.args.dir ≡ None =
+    sym (along (goal.at.returns-in_err-ahead c).After-ahead_along) ∙ c.in_err-ahead.was in
     let result : c.from_residual.result ≡ None = search rules in
     result ∙ sym (ap (λ q. option_map (turned p x.heading q c.args.dir) (known_along p (number_of c.args.lists.now) c.args.self.now x q c.args.dir)) (sym point)
     ∙ ap (option_map (turned p x.heading c.point-at.result c.args.dir)) none)
@@ -74,7 +77,8 @@ returns c at here =
     let p = c.args.problem.now in
     let x = c.args.place.now in
     let point : c.point-at.result ≡ at = one_point p.arena.now x.crossing c.point-at.result at c.requires.ready.arena c.point-at.ensures here in
-    let some : known_along p (number_of c.args.lists.now) c.args.self.now x c.point-at.result c.args.dir ≡ Some c.in_ok-ahead.ahead = sym (along (goal.at.returns c).After-ahead_along) ∙ c.in_ok-ahead.was in
+    let some : known_along p (number_of c.args.lists.now) c.args.self.now x c.point-at.result c.args.dir ≡ Some c.in_ok-ahead.ahead =
+    sym (along (goal.at.returns c).After-ahead_along) ∙ c.in_ok-ahead.was in
     ap (λ (v : Ahead). Some v) c.turned.ensures
     ∙ sym (ap (λ q. option_map (turned p x.heading q c.args.dir) (known_along p (number_of c.args.lists.now) c.args.self.now x q c.args.dir)) (sym point)
     ∙ ap (option_map (turned p x.heading c.point-at.result c.args.dir)) some)

@@ -23,7 +23,9 @@ index-number-requires c =
     record { live = subst IsSome (sym is) refl }
 
 pub reach-requires : goal.reach-requires
-reach-requires c = crossing_within c.args.problem.now c.args.entry.now.place.crossing c.args.entry.now.port c.requires.ready (entry_here c.args.problem.now c.requires.ready c.args.entry.now c.requires.entry)
+reach-requires c =
+    crossing_within c.args.problem.now c.args.entry.now.place.crossing c.args.entry.now.port c.requires.ready
+    (entry_here c.args.problem.now c.requires.ready c.args.entry.now c.requires.entry)
 
 pub counted_at-requires-clause-small : goal.counted_at-requires-clause-small
 counted_at-requires-clause-small c = run_small c.args.problem.now c.args.lists.now c.requires.ready c.requires.lists c.args.run.now c.requires.run

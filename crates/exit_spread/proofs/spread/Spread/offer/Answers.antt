@@ -36,12 +36,16 @@ returns-clause-adds c = λ line_of line sound.
       best = omega arith;
       kept = λ d has. push_keeps one old new c.in_ok-push.ensures.ok d has;
       count = push_count one old new c.in_ok-push.ensures.ok;
-      sound = record { candidates = push_all one old new c.in_ok-push.ensures.ok (λ (d : Reverse (Candidate Exit)). IsCandidate p line_of d.0) sound.candidates is; best = sound.best };
+      sound = record {
+        candidates = push_all one old new c.in_ok-push.ensures.ok (λ d. IsCandidate p line_of d.0) sound.candidates is;
+        best = sound.best;
+      };
     }
 
 pub returns-clause-offered : goal.returns-clause-offered
 returns-clause-offered c =
     let x = c.args.exit in
-    let has = push_has (record { 0 = record { bound = x.ahead.cost + c.bound.result; item = x } }) (heap_items c.args.self.now.queue.heap) (heap_items c.push.new.self.heap) c.in_ok-push.ensures.ok in
+    let one : Reverse (Candidate Exit) = record { 0 = record { bound = x.ahead.cost + c.bound.result; item = x } } in
+    let has = push_has one (heap_items c.args.self.now.queue.heap) (heap_items c.push.new.self.heap) c.in_ok-push.ensures.ok in
     let bound : x.ahead.cost + c.bound.result ≡ x.ahead.cost + bound_at c.args.problem.now x.place c.args.at = ap (λ n. x.ahead.cost + n) c.bound.ensures.exact in
     inr (inl (subst (λ (n : ℕ). Contains (heap_items c.push.new.self.heap) (record { 0 = record { bound = n; item = x } })) bound has))

@@ -122,7 +122,8 @@ handed c =
 -- the search goes on, nothing is lost, and the exit is late
 all : (c : goal.In_ok-hand_on) → IsSearching c.args.problem.now (number_of c.args.lists.now) c.hand_on.new.self (Some c.args.exit.now) None
     × Grows c.args.problem.now c.args.lists.now c.args.self.now c.hand_on.new.self
-    × IsLate (kept_in c.hand_on.new.self.rows c.args.stage c.args.exit.now.line c.args.exit.now.place.heading) (kept_of c.args.problem.now c.args.stage c.args.at c.args.exit.now)
+    × IsLate (kept_in c.hand_on.new.self.rows c.args.stage c.args.exit.now.line c.args.exit.now.place.heading)
+    (kept_of c.args.problem.now c.args.stage c.args.at c.args.exit.now)
 all c =
     let p = c.args.problem.now in
     let lists = c.args.lists.now in
@@ -131,7 +132,8 @@ all c =
     let are = c.requires.of.are_lists in
     let past = (goal.at.returns-clause-searching c).After-stop-from in
     taken_in p c.requires.ready lists (number_of lists) x c.args.at c.requires.exit c.args.stage c.requires.comes c.args.self.now (Some x) c.requires.searching
-    c.stop-from.result (stops past).0 (stops past).1 (lists_number p.arena.now lists arena are) (crossing_below p.arena.now arena lists are x.place.crossing c.args.at c.requires.exit.way.here) (not_late past)
+    c.stop-from.result (stops past).0 (stops past).1 (lists_number p.arena.now lists arena are)
+    (crossing_below p.arena.now arena lists are x.place.crossing c.args.at c.requires.exit.way.here) (not_late past)
     c.keep.new.self (keeps c) c.in_ok-keep.ensures.marked c.hand_on.new.self c.in_ok-hand_on.ensures.rows c.in_ok-hand_on.ensures.adds (handed c)
 
 pub returns-clause-searching : goal.returns-clause-searching
