@@ -3,28 +3,12 @@ ghost use Rattle.std.specs.Prelude.{◌≡◌, ◌≤ℤ◌, ◌↔◌, IsTrue};
 ghost use Rattle.std.specs.Ordering.{is_lt};
 ghost use Rattle.exit_rows.specs.Exits.{IsSmallKept, StandsFor, ahead_at, counted_at, undercuts};
 ghost use Rattle.move_model.specs.Ahead.{ahead_cmp};
-ghost use Rattle.plane_geom.specs.Along.{reach};
-ghost use Rattle.plane_geom.specs.Point.{IsCoordinate, PointIsOnSheet};
+ghost use Rattle.plane_geom.specs.Point.{IsCoordinate};
 
 use line_arena::CrossId;
 use move_model::{Ahead, Place};
-use plane_geom::{Dir, Point};
+use plane_geom::Dir;
 use std::cmp::Ordering;
-
-/// How far on the point lies for one who goes in the direction: x to the East, y to the South, and
-/// to the West and the North the same less than nothing.
-pub fn reach(dir: Dir, at: Point) -> i64
-    requires within { PointIsOnSheet at }
-    ensures exact { result ≡ reach dir at }
-    ensures within { IsCoordinate result }
-{
-    match dir {
-        Dir::East => at.x,
-        Dir::South => at.y,
-        Dir::West => -at.x,
-        Dir::North => -at.y,
-    }
-}
 
 /// A walk arrives at the place along the line with this number, and leaves the line there: by a
 /// turn into `next`, or (`None`) by a stub, by doubling back, or by going straight on with more

@@ -5,9 +5,7 @@
 #![tactic(auto)]
 
 mod exit;
-mod queue;
 mod rows;
 
-pub use exit::{Exit, Kept, reach};
-pub use queue::{Candidate, Exits};
-pub use rows::Rows;
+pub use exit::{Exit, Kept};
+pub use rows::{Rows, lesser};

@@ -10,7 +10,7 @@ use plane_geom::Dir;
 use std::alloc::{AllocError, Global};
 
 /// The lesser of what is ahead by the two, if either counts.
-fn lesser(least: Option<Ahead>, next: Option<Ahead>) -> Option<Ahead>
+pub fn lesser(least: Option<Ahead>, next: Option<Ahead>) -> Option<Ahead>
     ensures { result ≡ lesser least next }
 {
     match (least, next) {

@@ -6,8 +6,8 @@ use Rattle.std.specs.declared.alloc.Global.{Global}
 use Rattle.std.specs.declared.cmp.Reverse.{Reverse}
 use Rattle.std.proofs.lemmas.Bool.{cases_lt}
 use Rattle.std.proofs.lemmas.List.{get_or_default}
-use Rattle.std.proofs.lemmas.List.Elements.{All-nil, All-tail}
-use Rattle.std.proofs.lemmas.List.Sorted.{All-permutation, Contains-permutation, length_permutation}
+use Rattle.candidate_queue.specs.declared.queue.Candidate.{Candidate}
+use Rattle.candidate_queue.specs.declared.queue.Queue.{Queue}
 use Rattle.plane_geom.specs.declared.point.Point.{Point}
 use Rattle.plane_geom.specs.declared.point.Dir.{Dir}
 use Rattle.plane_geom.specs.declared.point.Way.{Way}
@@ -23,8 +23,6 @@ use Rattle.exit_rows.specs.Exits.{IsLate}
 use Rattle.exit_rows.specs.Rows.{IsClear, exits_in, kept_in, row_of}
 use Rattle.exit_rows.specs.declared.exit.Exit.{Exit}
 use Rattle.exit_rows.specs.declared.exit.Kept.{Kept}
-use Rattle.exit_rows.specs.declared.queue.Candidate.{Candidate}
-use Rattle.exit_rows.specs.declared.queue.Exits.{Exits}
 use Rattle.exit_rows.specs.declared.rows.Rows.{Rows}
 use Rattle.exit_spread.specs.declared.spread.Spread.{Spread}
 use Rattle.exit_spread.specs.Handing.{IsSound}
@@ -32,8 +30,9 @@ use Rattle.exit_spread.specs.Offers.{IsOffered, IsTaken, kept_of}
 use Rattle.exit_spread.specs.Searching.{AreNone, HasRooms, IsCandidate, IsKeptOf, IsSearching, IsSpread, IsStubOffered, weight}
 use Rattle.exit_spread.specs.Taking.{Grows, IsExit}
 use Rattle.exit_spread.proofs.Sizes.{small_ending}
-use Rattle.exit_spread.proofs.Taking.Offered.{grows_both, grows_offered, same_searching, still_late}
-use Rattle.exit_spread.proofs.Taking.Queues.{first_or_rest}
+use Rattle.exit_spread.proofs.Spreading.Still.{still_late}
+use Rattle.exit_spread.proofs.Taking.Offered.{grows_both, grows_offered, same_searching}
+use Rattle.candidate_queue.proofs.Queues.{none_all, none_has, pop_all, pop_count, pop_one, pop_or_rest}
 
 -- ---- without exits
 
@@ -48,19 +47,16 @@ none_both false es none = refl
 no_exit : (t : Rows) → IsClear t → (k l : ℕ) (d : Dir) → kept_in t k l d ≡ []
 no_exit t clear k l d = none_both (nat_lt l t.lines) (exits_in (slice_get t.rows.items (row_of t k l d))) (none_in t.rows.items (row_of t k l d) (slice_get t.rows.items (row_of t k l d)) refl clear.rows)
 
-not_in_none : {X : Type 0} (xs : List X) (x : X) → xs ≡ [] → Contains xs x → ⊥
-not_in_none xs x none has = let in_none : Contains [] x = subst (λ ys. Contains ys x) none has in omega (arith, in_none.1)
-
 module _ (p : Problem) (line_of : ℕ → Way → ℕ) where
   pub searching_begins : (s : Spread) → AreNone s → HasRooms p line_of s → IsSearching p line_of s None None
   searching_begins s none rooms = record {
-    kept = λ k c d at here. subst (All (IsKeptOf p line_of k (line_of c (way_of d)) d)) (sym (no_exit s.rows none.rows k (line_of c (way_of d)) d)) (All-nil (IsKeptOf p line_of k (line_of c (way_of d)) d));
-    handed = λ k c d at e here has but. absurd (not_in_none (kept_in s.rows k (line_of c (way_of d)) d) e (no_exit s.rows none.rows k (line_of c (way_of d)) d) has);
-    candidates = subst (All (λ (c : Reverse Candidate). IsCandidate p line_of c.0)) (sym none.queue) (All-nil (λ (c : Reverse Candidate). IsCandidate p line_of c.0));
+    kept = λ k c d at here. none_all (kept_in s.rows k (line_of c (way_of d)) d) (no_exit s.rows none.rows k (line_of c (way_of d)) d) (IsKeptOf p line_of k (line_of c (way_of d)) d);
+    handed = λ k c d at e here has but. absurd (none_has (kept_in s.rows k (line_of c (way_of d)) d) (no_exit s.rows none.rows k (line_of c (way_of d)) d) e has);
+    candidates = none_all (heap_items s.queue.heap) none.queue (λ c. IsCandidate p line_of c.0);
     best = record { most = omega (arith, none.best); of_walk = inl none.best };
     marked = record {
       rows = λ k row is. inl (chosen (λ (r : Vec Kept Global). r.items ≡ []) s.rows.rows.items k row is none.rows.rows);
-      marks = subst (All (λ (k : ℕ). k < length s.rows.rows.items)) (sym none.rows.marks) (All-nil (λ (k : ℕ). k < length s.rows.rows.items));
+      marks = none_all s.rows.marked.items none.rows.marks (λ k. k < length s.rows.rows.items);
     };
     rooms = rooms;
   }
@@ -79,58 +75,59 @@ module _ (p : Problem) (line_of : ℕ → Way → ℕ) where
     closed h = same_searching p line_of s s (Some x) None filled refl (record { candidates = h.candidates; best = h.best }) None h
 
   -- a candidate is removed
-  module _ (s : Spread) (q : Exits) (h : IsSearching p line_of s None None) where
+  module _ (s : Spread) (q : Queue Exit) (h : IsSearching p line_of s None None) where
     abbrev pub left : Spread
     left = record { rows = s.rows; queue = q; best = s.best }
 
-    module _ (c : Candidate) (removed : IsPermutation (heap_items s.queue.heap) (record { 0 = c } ∷ heap_items q.heap)) where
-      all : All (λ (d : Reverse Candidate). IsCandidate p line_of d.0) (record { 0 = c } ∷ heap_items q.heap)
-      all = All-permutation (λ (d : Reverse Candidate). IsCandidate p line_of d.0) (heap_items s.queue.heap) (record { 0 = c } ∷ heap_items q.heap) removed h.candidates
-
+    module _ (c : Candidate Exit) (removed : IsPermutation (heap_items s.queue.heap) (record { 0 = c } ∷ heap_items q.heap)) where
       candidate : IsCandidate p line_of c
-      candidate = all 0 (record { 0 = c }) (omega arith)
+      candidate = pop_one (record { 0 = c }) (heap_items s.queue.heap) (heap_items q.heap) removed (λ d. IsCandidate p line_of d.0) h.candidates
 
       sound : IsSound p line_of left
-      sound = record { candidates = All-tail (λ (d : Reverse Candidate). IsCandidate p line_of d.0) (record { 0 = c }) (heap_items q.heap) all; best = h.best }
+      sound = record {
+        candidates = pop_all (record { 0 = c }) (heap_items s.queue.heap) (heap_items q.heap) removed (λ d. IsCandidate p line_of d.0) h.candidates;
+        best = h.best;
+      }
 
-      rest_or_this : (d : Reverse Candidate) → Contains (heap_items s.queue.heap) d → Contains (heap_items q.heap) d ⊎ (d ≡ record { 0 = c })
-      rest_or_this d has = first_or_rest (record { 0 = c }) (heap_items q.heap) d (Contains-permutation (heap_items s.queue.heap) (record { 0 = c } ∷ heap_items q.heap) d removed has)
+      rest_or_this : (d : Reverse (Candidate Exit)) → Contains (heap_items s.queue.heap) d → Contains (heap_items q.heap) d ⊎ (d ≡ record { 0 = c })
+      rest_or_this = pop_or_rest (record { 0 = c }) (heap_items s.queue.heap) (heap_items q.heap) removed
 
-      pub may_take : (at : Point) × IsExit p line_of c.exit at
+      pub may_take : (at : Point) × IsExit p line_of c.item at
       may_take = (candidate.point, record { line = candidate.line; stage = candidate.stage; way = candidate.way; small = candidate.small })
 
-      pub offered_or_taken : (r : Point) (x : Exit) → StandsAt p.arena.now x.place.crossing r → IsOffered p s None r x → IsOffered p left (Some c.exit) r x
+      pub offered_or_taken : (r : Point) (x : Exit) → StandsAt p.arena.now x.place.crossing r → IsOffered p s None r x → IsOffered p left (Some c.item) r x
       offered_or_taken r x here (inl out) = inl out
-      offered_or_taken r x here (inr (inl queued)) = elim (rest_or_this _ queued) as (λ _. IsOffered p left (Some c.exit) r x) [
+      offered_or_taken r x here (inr (inl queued)) = elim (rest_or_this _ queued) as (λ _. IsOffered p left (Some c.item) r x) [
         | inl rest ↦ inr (inl rest)
-        | inr same ↦ inr (inr (inr (sym (ap (λ (d : Reverse Candidate). Some d.0.exit) same))))
+        | inr same ↦ inr (inr (inr (sym (ap (λ (d : Reverse (Candidate Exit)). Some d.0.item) same))))
       ]
       offered_or_taken r x here (inr (inr (inl was))) = inr (inr (inl was))
       offered_or_taken r x here (inr (inr (inr same))) = absurd (let wrong : ◌≡◌ {A = Option Exit} None (Some x) = same in cc)
 
-      pub taking : IsSearching p line_of left (Some c.exit) None
-      taking = same_searching p line_of s left None (Some c.exit) offered_or_taken refl sound None h
+      pub taking : IsSearching p line_of left (Some c.item) None
+      taking = same_searching p line_of s left None (Some c.item) offered_or_taken refl sound None h
 
       pub lighter : (lists : Lists) → weight p lists left + 1 ≤ weight p lists s
-      lighter lists = let same = length_permutation (heap_items s.queue.heap) (record { 0 = c } ∷ heap_items q.heap) removed in omega (arith, same)
+      lighter lists = let less = pop_count (record { 0 = c }) (heap_items s.queue.heap) (heap_items q.heap) removed in omega (arith, less)
 
       -- the stubs of the endings stay offered when it is taken
-      pub stubs_stay : IsReady p → (lists : Lists) (new : Spread) → Grows p lists left new → ((at : Point) → StandsAt p.arena.now c.exit.place.crossing at → IsTaken p new at c.exit) →
+      pub stubs_stay : IsReady p → (lists : Lists) (new : Spread) → Grows p lists left new →
+          ((at : Point) → StandsAt p.arena.now c.item.place.crossing at → IsTaken p new at c.item) →
           All (IsStubOffered p line_of s None) p.endings.items → All (IsStubOffered p line_of new None) p.endings.items
       stubs_stay ready lists new grows taken stubs k d lt g =
           let e : Ending = get_or p.endings.items k d in
           let small = small_ending p e ready (k, lt, sym (get_or_default p.endings.items k d e lt)) in
           let of = small.of in
           let here : StandsAt p.arena.now e.crossing e.port = subst (StandsAt p.arena.now e.crossing) (sym of.port) of.here in
-          filled new c.exit taken e.port _ here (grows_offered p lists left new grows (Some c.exit) e.port _ (offered_or_taken e.port _ here (stubs k d lt g)))
+          filled new c.item taken e.port _ here (grows_offered p lists left new grows (Some c.item) e.port _ (offered_or_taken e.port _ here (stubs k d lt g)))
 
       -- it costs more than the best walk, and so do all that are left
-      module _ (least : All (λ (d : Reverse Candidate). c.bound ≤ d.0.bound) (heap_items q.heap)) (more : s.best < c.bound) where
+      module _ (least : All (λ (d : Reverse (Candidate Exit)). c.bound ≤ d.0.bound) (heap_items q.heap)) (more : s.best < c.bound) where
         settled : (r : Point) (x : Exit) → StandsAt p.arena.now x.place.crossing r → IsOffered p s None r x → IsOffered p left None r x
         settled r x here (inl out) = inl out
         settled r x here (inr (inl queued)) = elim (rest_or_this _ queued) as (λ _. IsOffered p left None r x) [
           | inl rest ↦ inr (inl rest)
-          | inr same ↦ inl (inl (let bound = ap (λ (d : Reverse Candidate). d.0.bound) same in omega (arith, bound, more)))
+          | inr same ↦ inl (inl (let bound = ap (λ (d : Reverse (Candidate Exit)). d.0.bound) same in omega (arith, bound, more)))
         ]
         settled r x here (inr (inr (inl was))) = inr (inr (inl was))
         settled r x here (inr (inr (inr same))) = absurd (let wrong : ◌≡◌ {A = Option Exit} None (Some x) = same in cc)
@@ -151,16 +148,16 @@ module _ (p : Problem) (line_of : ℕ → Way → ℕ) where
     module _ (was : heap_items s.queue.heap ≡ []) (none : heap_items q.heap ≡ []) where
       kept_on : (r : Point) (x : Exit) → IsOffered p s None r x → IsOffered p left None r x
       kept_on r x (inl out) = inl out
-      kept_on r x (inr (inl queued)) = absurd (not_in_none (heap_items s.queue.heap) _ was queued)
+      kept_on r x (inr (inl queued)) = absurd (none_has (heap_items s.queue.heap) was _ queued)
       kept_on r x (inr (inr (inl taken))) = inr (inr (inl taken))
       kept_on r x (inr (inr (inr same))) = absurd (let wrong : ◌≡◌ {A = Option Exit} None (Some x) = same in cc)
 
       pub spread_at_end : All (IsStubOffered p line_of s None) p.endings.items → IsSpread p line_of left
       spread_at_end stubs = record {
         searching = same_searching p line_of s left None None (λ r x here o. kept_on r x o) refl
-            (record { candidates = subst (All (λ (c : Reverse Candidate). IsCandidate p line_of c.0)) (sym none) (All-nil (λ (c : Reverse Candidate). IsCandidate p line_of c.0)); best = h.best }) None h;
+            (record { candidates = none_all (heap_items q.heap) none (λ c. IsCandidate p line_of c.0); best = h.best }) None h;
         stubs = λ k d lt g. kept_on _ _ (stubs k d lt g);
-        settled = subst (All (λ (c : Reverse Candidate). s.best < c.0.bound)) (sym none) (All-nil (λ (c : Reverse Candidate). s.best < c.0.bound));
+        settled = none_all (heap_items q.heap) none (λ c. s.best < c.0.bound);
       }
 
 -- in the first of the stages the exit is taken

@@ -27,7 +27,7 @@ use Rattle.exit_spread.specs.Handing.{IsFurtherAhead}
 use Rattle.exit_spread.specs.Offers.{from_after}
 use Rattle.exit_spread.specs.Searching.{IsKeptOf}
 use Rattle.exit_spread.proofs.Known.Attained.{from_cases}
-use Rattle.search_labels.proofs.Gaps.{gap_above}
+use Rattle.exit_rows.proofs.Orders.{gap_above}
 
 pub across_small : (d : Dir) (p : Point) → PointIsOnSheet p → unsigned_abs (across (way_of d) p) ≤ 2000000000
 across_small East p h = let low = h.y.low in let high = h.y.high in omega (arith, ints, low, high)

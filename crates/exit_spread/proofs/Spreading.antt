@@ -1,5 +1,6 @@
 -- How exits are offered, kept and handed on.
 pub mod Stops
+pub mod Still
 pub mod Adding
 pub mod OnLine
 pub mod Behind

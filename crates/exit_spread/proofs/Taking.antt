@@ -1,5 +1,4 @@
 -- How exits are offered, and kept by their lines.
-pub mod Queues
 pub mod Offered
 pub mod Stubs
 pub mod Numbered

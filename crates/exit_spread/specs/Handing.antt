@@ -2,6 +2,7 @@
 use Rattle.std.specs.Prelude.{ℕ, ◌≡◌, ◌+◌, ◌*◌, ◌<◌, ◌≤◌, ◌≤ℤ◌, ℤ, pos, ◌-ℤ◌, unsigned_abs, length, Contains, All, List, None, Some}
 use Rattle.std.specs.BinaryHeap.{heap_items}
 use Rattle.std.specs.declared.cmp.Reverse.{Reverse}
+use Rattle.candidate_queue.specs.declared.queue.Candidate.{Candidate}
 use Rattle.plane_geom.specs.declared.point.Point.{Point}
 use Rattle.plane_geom.specs.declared.point.Dir.{Dir}
 use Rattle.plane_geom.specs.declared.point.Dir.TheVariants.{East, South, West, North}
@@ -16,7 +17,7 @@ use Rattle.move_model.specs.Places.{ComesTo}
 use Rattle.search_labels.specs.declared.problem.Problem.{Problem}
 use Rattle.side_touches.specs.Touches.{AreTouches, LineTouches}
 use Rattle.exit_rows.specs.Exits.{CountsAt, ahead_at}
-use Rattle.exit_rows.specs.declared.queue.Candidate.{Candidate}
+use Rattle.exit_rows.specs.declared.exit.Exit.{Exit}
 use Rattle.exit_spread.specs.declared.run.Run.{Run}
 use Rattle.exit_spread.specs.declared.spread.Spread.{Spread}
 use Rattle.exit_spread.specs.Offers.{IsHeldUpTo, IsOffered, MayBegin, exit_of, from_of}
@@ -68,7 +69,7 @@ pub record IsSound (p : Problem) (line_of : ℕ → Way → ℕ) (s : Spread) : 
 pub record Adds (p : Problem) (line_of : ℕ → Way → ℕ) (old new : Spread) (n : ℕ) : Type 0 where
   pub rows : new.rows ≡ old.rows
   pub best : new.best ≤ old.best
-  pub kept : (c : Reverse Candidate) → Contains (heap_items old.queue.heap) c → Contains (heap_items new.queue.heap) c
+  pub kept : (c : Reverse (Candidate Exit)) → Contains (heap_items old.queue.heap) c → Contains (heap_items new.queue.heap) c
   pub count : length (heap_items new.queue.heap) ≤ length (heap_items old.queue.heap) + n
   pub sound : IsSound p line_of new
 

@@ -46,7 +46,7 @@ IsLeftOut p s at x = (s.best < x.ahead.cost + bound_at p x.place at) ⊎ (most_r
 
 -- the exit is still to be taken
 abbrev pub IsQueued : Problem → Spread → Point → Exit → Type 0
-IsQueued p s at x = Contains (heap_items s.queue.heap) (record { 0 = record { bound = x.ahead.cost + bound_at p x.place at; exit = x } })
+IsQueued p s at x = Contains (heap_items s.queue.heap) (record { 0 = record { bound = x.ahead.cost + bound_at p x.place at; item = x } })
 
 -- in each stage from which a walk comes to the exit, its line keeps one that stands for it
 abbrev pub IsTaken : Problem → Spread → Point → Exit → Type 0

@@ -1,6 +1,7 @@
 -- The invariants of exits that are spread, and how much there is still to do.
 use Rattle.std.specs.Prelude.{ℕ, ◌≡◌, ◌≢◌, ◌+◌, ◌*◌, ◌<◌, ◌≤◌, [], length, sum_by, Option, Some, None, Contains, All}
 use Rattle.std.specs.BinaryHeap.{heap_items}
+use Rattle.candidate_queue.specs.declared.queue.Candidate.{Candidate}
 use Rattle.plane_geom.specs.declared.point.Point.{Point}
 use Rattle.plane_geom.specs.declared.point.Dir.{Dir}
 use Rattle.plane_geom.specs.declared.point.Way.{Way}
@@ -17,7 +18,6 @@ use Rattle.exit_rows.specs.Rows.{HasRow, IsClear, IsMarked, kept_in}
 use Rattle.exit_rows.specs.Weights.{rows_weight}
 use Rattle.exit_rows.specs.declared.exit.Exit.{Exit}
 use Rattle.exit_rows.specs.declared.exit.Kept.{Kept}
-use Rattle.exit_rows.specs.declared.queue.Candidate.{Candidate}
 use Rattle.exit_spread.specs.declared.spread.Spread.{Spread}
 use Rattle.exit_spread.specs.Offers.{IsHandedOn, IsOffered, exit_of, from_of}
 use Rattle.exit_spread.specs.Ways.{IsBest, IsWayAhead, bound_at, place_at}
@@ -39,13 +39,13 @@ pub record IsKeptOf (p : Problem) (number_of : ℕ → Way → ℕ) (k line : �
   pub small : IsSmallAhead e.ahead
 
 -- the exit may be taken, and this is its bound
-pub record IsCandidate (p : Problem) (number_of : ℕ → Way → ℕ) (c : Candidate) : Type 0 where
+pub record IsCandidate (p : Problem) (number_of : ℕ → Way → ℕ) (c : Candidate Exit) : Type 0 where
   pub point : Point
-  pub line : c.exit.line ≡ number_of c.exit.place.crossing (way_of c.exit.place.heading)
-  pub stage : c.exit.place.stage ≤ length p.task.now.via
-  pub way : IsWayAhead p c.exit.place point c.exit.ahead
-  pub small : IsSmallAhead c.exit.ahead
-  pub bound : c.bound ≡ c.exit.ahead.cost + bound_at p c.exit.place point
+  pub line : c.item.line ≡ number_of c.item.place.crossing (way_of c.item.place.heading)
+  pub stage : c.item.place.stage ≤ length p.task.now.via
+  pub way : IsWayAhead p c.item.place point c.item.ahead
+  pub small : IsSmallAhead c.item.ahead
+  pub bound : c.bound ≡ c.item.ahead.cost + bound_at p c.item.place point
 
 -- there are rows for the lines of all crossings in all stages
 abbrev pub HasRooms : Problem → (ℕ → Way → ℕ) → Spread → Type 0

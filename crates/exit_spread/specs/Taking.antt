@@ -2,6 +2,7 @@
 use Rattle.std.specs.Prelude.{ℕ, ◌≡◌, ◌≤◌, Contains, length}
 use Rattle.std.specs.BinaryHeap.{heap_items}
 use Rattle.std.specs.declared.cmp.Reverse.{Reverse}
+use Rattle.candidate_queue.specs.declared.queue.Candidate.{Candidate}
 use Rattle.plane_geom.specs.declared.point.Point.{Point}
 use Rattle.plane_geom.specs.declared.point.Dir.{Dir}
 use Rattle.plane_geom.specs.declared.point.Way.{Way}
@@ -12,7 +13,6 @@ use Rattle.exit_rows.specs.Exits.{IsSmallAhead}
 use Rattle.exit_rows.specs.Rows.{kept_in}
 use Rattle.exit_rows.specs.declared.exit.Exit.{Exit}
 use Rattle.exit_rows.specs.declared.exit.Kept.{Kept}
-use Rattle.exit_rows.specs.declared.queue.Candidate.{Candidate}
 use Rattle.exit_spread.specs.declared.spread.Spread.{Spread}
 use Rattle.exit_spread.specs.Searching.{weight}
 use Rattle.exit_spread.specs.Ways.{IsWayAhead}
@@ -27,6 +27,6 @@ pub record IsExit (p : Problem) (line_of : ℕ → Way → ℕ) (x : Exit) (at :
 -- lines keep what they kept, all candidates stay, and the best cost and the weight have not risen
 pub record Grows (p : Problem) (lists : Lists) (old new : Spread) : Type 0 where
   pub rows : (k l : ℕ) (d : Dir) (e : Kept) → Contains (kept_in old.rows k l d) e → Contains (kept_in new.rows k l d) e
-  pub queue : (c : Reverse Candidate) → Contains (heap_items old.queue.heap) c → Contains (heap_items new.queue.heap) c
+  pub queue : (c : Reverse (Candidate Exit)) → Contains (heap_items old.queue.heap) c → Contains (heap_items new.queue.heap) c
   pub best : new.best ≤ old.best
   pub weight : weight p lists new ≤ weight p lists old

@@ -4,28 +4,17 @@ ghost use Rattle.line_arena.specs.Arena.{StandsAt};
 ghost use Rattle.line_lists.specs.Lists.{AreListsOf, number_of};
 ghost use Rattle.plane_geom.specs.declared.point.Point.{Point as PointOf};
 ghost use Rattle.search_labels.specs.Problems.{IsReady};
-ghost use Rattle.exit_rows.specs.Exits.{lesser};
 ghost use Rattle.exit_spread.specs.Known.{by_ending, known, known_onwards, known_towards};
 ghost use Rattle.exit_spread.specs.Searching.{IsSearching};
 
 use crate::hand_on::turned;
 use crate::spread::Spread;
-use exit_rows::reach;
+use exit_rows::lesser;
 use line_lists::LineLists;
 use move_model::{Ahead, Place, Stretch};
 use plane_geom::Dir;
 use search_labels::{Ending, NOTHING, Problem};
-
-/// The lesser of what is ahead by the two, if there is any.
-fn lesser(least: Option<Ahead>, next: Option<Ahead>) -> Option<Ahead>
-    ensures { result ≡ lesser least next }
-{
-    match (least, next) {
-        (None, next) => next,
-        (Some(least), None) => Some(least),
-        (Some(least), Some(next)) => Some(if next < least { next } else { least }),
-    }
-}
+use side_touches::reach;
 
 /// What is ahead of the place by the stub of the ending, if the walk may end there.
 fn ahead_by(problem: &Problem<'_>, place: &Place, ending: &Ending) -> Option<Ahead>

@@ -16,13 +16,13 @@ ghost use Rattle.exit_spread.specs.Searching.{most_stops};
 use crate::held::{held_from, may_begin};
 use crate::run::{Run, cheap_from, crosswise, last_begin, point_on, stops_between};
 use crate::spread::Spread;
-use exit_rows::{Exit, reach};
+use exit_rows::Exit;
 use line_arena::CrossId;
 use line_lists::{LineLists, Stop};
 use move_model::{Ahead, Place, Stretch};
 use plane_geom::{Dir, Point};
 use search_labels::{Entry, Problem};
-use side_touches::Touches;
+use side_touches::{Touches, reach};
 use std::alloc::AllocError;
 
 /// The crossing of the stop that is so far along its line.

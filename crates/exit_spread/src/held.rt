@@ -16,10 +16,9 @@ ghost use Rattle.exit_spread.specs.Handing.{AreOf, IsBehind, IsRun, LiesUpTo};
 ghost use Rattle.exit_spread.specs.Offers.{IsHeldUpTo, MayBegin};
 
 use crate::run::{Run, crosswise, lies_up_to};
-use exit_rows::reach;
 use plane_geom::{Dir, Point, Way};
 use search_labels::{Origin, Problem};
-use side_touches::Touches;
+use side_touches::{Touches, reach};
 
 /// To which side a run is held, by the directions of the steps before it and behind it.
 fn held_to(before: Dir, next: Dir) -> Dir

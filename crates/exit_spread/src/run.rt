@@ -9,9 +9,10 @@ ghost use Rattle.exit_spread.specs.Handing.{LiesUpTo, crosswise, reach_along};
 ghost use Rattle.exit_spread.specs.Offers.{from_after, from_of};
 ghost use Rattle.line_lists.specs.declared.stop.Stop.{Stop as StopOf};
 
-use exit_rows::{Kept, reach};
+use exit_rows::Kept;
 use line_lists::Stop;
 use plane_geom::{Dir, Line, Point, SHEET_START, Way};
+use side_touches::reach;
 
 /// Runs along a line in one heading, in one stage, to an exit that the line keeps, which is at the
 /// point `end`. They begin where the exit counts.

@@ -19,12 +19,13 @@ ghost use Rattle.exit_spread.specs.Taking.{Grows, IsExit};
 ghost use Rattle.exit_spread.specs.Ways.{IsWayAhead, place_at};
 
 use crate::run::{Run, counts_from};
-use exit_rows::{Candidate, Exit, Exits, Kept, Rows, reach};
+use candidate_queue::{Candidate, Queue};
+use exit_rows::{Exit, Kept, Rows};
 use line_lists::LineLists;
 use move_model::{Place, Stretch};
 use plane_geom::{Dir, Point};
 use search_labels::{Ending, MOST_COST, MOST_RUNS, NOTHING, Problem, stage_at};
-use side_touches::Touches;
+use side_touches::{Touches, reach};
 use std::alloc::{AllocError, Global};
 
 /// What a search keeps: the exits that lines keep, those that are still to be taken, and the cost
@@ -34,7 +35,7 @@ use std::alloc::{AllocError, Global};
 #[derive(Drop)]
 pub struct Spread {
     pub rows: Rows,
-    pub queue: Exits,
+    pub queue: Queue<Exit>,
     pub best: u64,
 }
 
@@ -45,7 +46,7 @@ impl Spread {
     {
         Spread {
             rows: Rows::new(alloc),
-            queue: Exits::new(alloc),
+            queue: Queue::new(alloc),
             best: MOST_COST,
         }
     }
@@ -76,7 +77,7 @@ impl Spread {
         if bound > self.best || exit.ahead.runs > MOST_RUNS {
             return Ok(());
         }
-        self.queue.push(Candidate { bound, exit })?;
+        self.queue.push(Candidate { bound, item: exit })?;
         Ok(())
     }
 
@@ -246,7 +247,7 @@ impl Spread {
             if candidate.bound > self.best {
                 break;
             }
-            self.take(problem, lists, touches, &candidate.exit)?;
+            self.take(problem, lists, touches, &candidate.item)?;
         }
         Ok(())
     }

@@ -90,7 +90,7 @@ IsHandedOn p s l x cost = (at : Point) → StandsAt p.arena.now x.crossing at �
 
 -- the place has a candidate
 abbrev pub IsQueued : Labels → Place → Type 0
-IsQueued l x = (bound : ℕ) × Contains (heap_items l.queue.heap) (record { 0 = record { bound = bound; place = x } })
+IsQueued l x = (bound : ℕ) × Contains (heap_items l.queue.heap) (record { 0 = record { bound = bound; item = x } })
 
 -- the table has rows for all places
 pub record HasRooms (p : Problem) (l : Labels) : Type 0 where
@@ -103,7 +103,7 @@ pub record IsSearching (p : Problem) (s : Scope) (l : Labels) (unqueued unhanded
   pub reached : (x : Place) (v : ℕ) → cost_at l x ≡ Some v → IsReachedAt p s x v
   pub queued : (x : Place) (v : _) → Some x ≢ unqueued → label_at l x ≡ Open v → IsQueued l x
   pub handed : (x : Place) (v : _) → Some x ≢ unhanded → label_at l x ≡ Closed v → IsHandedOn p s l x v.cost
-  pub candidates : All (λ c. IsPlace p c.0.place) (heap_items l.queue.heap)
+  pub candidates : All (λ c. IsPlace p c.0.item) (heap_items l.queue.heap)
   pub marked : IsMarked l.table
   pub rooms : HasRooms p l
 

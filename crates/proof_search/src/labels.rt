@@ -2,7 +2,9 @@
 ghost use Rattle.search_labels.specs.Tables.{IsMarked};
 ghost use Rattle.proof_search.specs.Search.{AreNone};
 
-use search_labels::{Queue, Table};
+use candidate_queue::Queue;
+use move_model::Place;
+use search_labels::Table;
 use std::alloc::Global;
 
 /// The labels of a search, the open ones in a queue.
@@ -11,7 +13,7 @@ use std::alloc::Global;
 #[derive(Drop)]
 pub struct Labels {
     pub table: Table,
-    pub queue: Queue,
+    pub queue: Queue<Place>,
 }
 
 impl Labels {

@@ -43,10 +43,11 @@ ghost use Rattle.proof_search.specs.Search.{
 
 use crate::labels::Labels;
 use crate::scope::Scope;
+use candidate_queue::Candidate;
 use move_model::{Ahead, Place};
 use plane_geom::{Dir, Point};
 use proof_model::next_place;
-use search_labels::{Candidate, DIRS, Label, Problem};
+use search_labels::{DIRS, Label, Problem};
 use std::alloc::AllocError;
 
 /// The bends between two headings.
@@ -124,7 +125,7 @@ impl Labels {
         }
         self.queue.push(Candidate {
             bound: cost,
-            place: *place,
+            item: *place,
         })?;
         self.table.put(place, number, Label::Open(with_cost(cost)))?;
         Ok(())
@@ -241,7 +242,7 @@ impl Labels {
     {
         self.offer_entries(scope, problem)?;
         while let Some(candidate) = self.queue.pop() {
-            self.take(scope, problem, &candidate.place)?;
+            self.take(scope, problem, &candidate.item)?;
         }
         Ok(())
     }

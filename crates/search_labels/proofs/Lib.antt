@@ -1,7 +1,6 @@
 -- The lemmas on problems and labels, callees first.
 pub mod Origins
 pub mod Stages
-pub mod Gaps
 pub mod BoundsGrow
 pub mod Stubs
 pub mod Headings

@@ -8,7 +8,6 @@ mod ends;
 mod label;
 mod origin;
 mod problem;
-mod queue;
 mod stage;
 mod table;
 
@@ -16,6 +15,5 @@ pub use ends::{Ending, Entry};
 pub use label::Label;
 pub use origin::Origin;
 pub use problem::{DIRS, MOST_COST, MOST_RUNS, NOTHING, Problem};
-pub use queue::{Candidate, Queue};
 pub use stage::stage_at;
 pub use table::Table;

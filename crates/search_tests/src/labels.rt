@@ -9,10 +9,11 @@ ghost use Rattle.walk_model.specs.Legal.{IsTask};
 
 use crate::choices::{Asked, Stub, point, task};
 use crate::floors::graph;
+use candidate_queue::{Candidate, Queue};
 use line_arena::{CrossId, LineArena};
 use move_model::{Ahead, Place};
 use plane_geom::{Dir, Point};
-use search_labels::{Candidate, Label, Problem, Queue, Table, stage_at};
+use search_labels::{Label, Problem, Table, stage_at};
 use std::alloc::{AllocError, Global};
 use std::test::Fail;
 use visibility_graph::Graph;
@@ -169,15 +170,15 @@ fn bounds_from_a_box_of_ports(rt: HostRuntime) -> Result<(), Fail> {
     Ok(())
 }
 
-fn candidate(crossing: CrossId, bound: u64) -> Candidate {
+fn candidate(crossing: CrossId, bound: u64) -> Candidate<Place> {
     Candidate {
         bound,
-        place: place(crossing, Dir::North),
+        item: place(crossing, Dir::North),
     }
 }
 
 /// Adds two candidates, and removes the first.
-fn first_of_two(queue: &mut Queue, crossing: CrossId) -> Result<Candidate, Fail> {
+fn first_of_two(queue: &mut Queue<Place>, crossing: CrossId) -> Result<Candidate<Place>, Fail> {
     queue.push(candidate(crossing, 7))?;
     queue.push(candidate(crossing, 3))?;
     Ok(queue.pop().ok_or("no candidate")?)

@@ -18,14 +18,16 @@ use Rattle.plane_geom.specs.Along.{across, reach, way_of}
 use Rattle.plane_geom.specs.Floor.{Holds}
 use Rattle.plane_geom.specs.Point.{opposite}
 use Rattle.plane_geom.specs.Rect.{HasWithin}
-use Rattle.line_arena.specs.Arena.{Arena, IsArena, LiesFurther, Pair, StandsAt, line_along}
+use Rattle.line_arena.specs.Arena.{Arena, IsArena, LiesFurther, StandsAt, line_along}
 use Rattle.line_arena.proofs.Arenas.ArenaLaws.{IsPlaced, placed, same_pair}
-use Rattle.line_lists.specs.Lists.{AreListsOf, HasNumber, Lists, number_of}
+use Rattle.line_lists.specs.Lists.{AreListsOf, Lists, number_of}
 use Rattle.line_lists.proofs.OnLine.{same_line}
-use Rattle.exit_spread.proofs.Known.Numbers.{rising_along}
+use Rattle.exit_spread.proofs.Known.Numbers.{numbered_line}
 use Rattle.move_model.specs.Stations.{line_between}
 use Rattle.move_model.proofs.Stopping.RunLines.{lie_on_line}
 use Rattle.walk_model.specs.Cost.{turn}
+use Rattle.walk_laws.proofs.Steps.Shift.{turn_back}
+use Rattle.walk_laws.proofs.Steps.Turns.{across_two}
 use Rattle.search_labels.specs.Bounds.{origins_after}
 use Rattle.search_labels.specs.Origins.{Covers}
 use Rattle.search_labels.specs.declared.ends.Entry.{Entry}
@@ -35,10 +37,6 @@ use Rattle.search_labels.specs.declared.problem.Problem.{Problem}
 use Rattle.side_touches.specs.Touches.{AreLineTouches, IsRunOn, LineTouches}
 use Rattle.exit_spread.specs.Handing.{AreOf, crosswise}
 use Rattle.exit_spread.proofs.Known.Lines.{further_less}
-
--- the line of the crossing along the direction has the number
-numbered_line : (a : Arena) (lists : Lists) → AreListsOf a lists → (c : ℕ) (d : Dir) (pair : Pair) → get a.crossings c ≡ Some pair → HasNumber a lists (line_along d pair) (number_of lists c (way_of d))
-numbered_line a lists of c d pair is = subst (λ id. HasNumber a lists id (number_of lists c (way_of d))) (rising_along d pair) (of.numbers c pair (way_of d) is)
 
 way_between : (d : Dir) (p q : Point) → (line_between d p q).way ≡ way_of d
 way_between East p q = refl
@@ -97,24 +95,15 @@ line_within p lists ts ready of d c q here =
     let many = ∥∥₁_elim of.are_touches (ℕ_set (length ts) (length lists.lines)) (AllZip-long (AreLineTouches p.solids.now) lists.lines ts) in
     omega (arith, within, many)
 
+crosswise_turns : (h : Dir) → turn (crosswise h) h ≡ 1
+crosswise_turns East = refl
+crosswise_turns South = refl
+crosswise_turns West = refl
+crosswise_turns North = refl
+
 -- a bend is from one of the two directions across
 pub two_across : (b h : Dir) → turn b h ≡ 1 → (b ≡ crosswise h) ⊎ (b ≡ opposite (crosswise h))
-two_across East South e = inl refl
-two_across East North e = inl refl
-two_across West South e = inr refl
-two_across West North e = inr refl
-two_across South East e = inl refl
-two_across South West e = inl refl
-two_across North East e = inr refl
-two_across North West e = inr refl
-two_across East East e = absurd (omega (arith, e))
-two_across East West e = absurd (omega (arith, e))
-two_across West East e = absurd (omega (arith, e))
-two_across West West e = absurd (omega (arith, e))
-two_across South South e = absurd (omega (arith, e))
-two_across South North e = absurd (omega (arith, e))
-two_across North South e = absurd (omega (arith, e))
-two_across North North e = absurd (omega (arith, e))
+two_across b h e = across_two h (crosswise h) b (crosswise_turns h) (turn_back h b ∙ e)
 
 -- the port of an entry is in the box of an origin
 pub entry_in_box : (p : Problem) → IsReady p → (e : Entry) → Contains p.entries.items e → Any (λ (o : Origin). HasWithin o.ports e.port) (origins_after p.origins.items 0)

@@ -6,6 +6,7 @@ use Rattle.std.specs.declared.cmp.Ordering.TheVariants.{Greater}
 use Rattle.std.specs.declared.cmp.Reverse.{Reverse}
 use Rattle.std.proofs.lemmas.Int.{ints}
 use Rattle.std.proofs.lemmas.List.Elements.{All-contains}
+use Rattle.candidate_queue.specs.declared.queue.Candidate.{Candidate}
 use Rattle.plane_geom.specs.declared.point.Point.{Point}
 use Rattle.plane_geom.specs.declared.point.Dir.{Dir}
 use Rattle.plane_geom.specs.declared.point.Way.{Way}
@@ -31,7 +32,6 @@ use Rattle.exit_rows.specs.Exits.{CountsAt, IsLate, StandsFor, ahead_at}
 use Rattle.exit_rows.specs.Rows.{kept_in}
 use Rattle.exit_rows.specs.declared.exit.Exit.{Exit}
 use Rattle.exit_rows.specs.declared.exit.Kept.{Kept}
-use Rattle.exit_rows.specs.declared.queue.Candidate.{Candidate}
 use Rattle.exit_rows.proofs.Orders.{ahead_behind, steps_order}
 use Rattle.exit_spread.specs.declared.spread.Spread.{Spread}
 use Rattle.exit_spread.specs.Offers.{IsOffered, exit_of, from_of, kept_of}
@@ -150,8 +150,9 @@ module _ (p : Problem) (number_of : ℕ → Way → ℕ) (s : Spread) (ready : I
         by_case (inl (inl dear)) = absurd (omega (arith, cheap, dear))
         by_case (inl (inr many)) = absurd (let few = (rest_matters p ready s.best spread.searching.best t first along y q n.station.back n.on).few in omega (arith, few, many))
         by_case (inr (inl queued)) = absurd (
-            let dear = All-contains (λ (c : Reverse Candidate). s.best < c.0.bound) (heap_items s.queue.heap)
-            (record { 0 = record { bound = (before y.heading).cost + bound_at p y q; exit = exit_of number_of y next (before y.heading) } }) spread.settled queued in
+            let dear = All-contains (λ (c : Reverse (Candidate Exit)). s.best < c.0.bound) (heap_items s.queue.heap)
+            (record { 0 = record { bound = (before y.heading).cost + bound_at p y q; item = exit_of number_of y next (before y.heading) } })
+            spread.settled queued in
             omega (arith, cheap, dear))
         by_case (inr (inr (inl late))) = late x.stage comes
         by_case (inr (inr (inr hole))) = absurd (let wrong : ◌≡◌ {A = Option Exit} None (Some (exit_of number_of y next (before y.heading))) = hole in cc)

@@ -19,7 +19,7 @@ use Rattle.line_arena.proofs.Arenas.ArenaLaws.{IsHeldAlong, held_in, one_further
 use Rattle.walk_laws.proofs.Steps.Shift.{across-forward}
 use Rattle.walk_laws.proofs.Steps.Straight.{reach-forward}
 use Rattle.move_model.proofs.Moving.Moves.{apart}
-use Rattle.search_labels.proofs.Gaps.{gap_above}
+use Rattle.exit_rows.proofs.Orders.{gap_above}
 use Rattle.exit_spread.specs.Ways.{AreNumbered}
 
 -- ---- points of one line

@@ -38,22 +38,11 @@ use Rattle.exit_spread.proofs.Known.Resting.{Rest, left}
 
 -- who doubles back comes from the other direction
 from_opposite : (h d : Dir) → turn h d ≡ 2 → h ≡ opposite d
-from_opposite East East e = absurd (omega (arith, e))
-from_opposite East South e = absurd (omega (arith, e))
 from_opposite East West e = refl
-from_opposite East North e = absurd (omega (arith, e))
-from_opposite South East e = absurd (omega (arith, e))
-from_opposite South South e = absurd (omega (arith, e))
-from_opposite South West e = absurd (omega (arith, e))
 from_opposite South North e = refl
 from_opposite West East e = refl
-from_opposite West South e = absurd (omega (arith, e))
-from_opposite West West e = absurd (omega (arith, e))
-from_opposite West North e = absurd (omega (arith, e))
-from_opposite North East e = absurd (omega (arith, e))
 from_opposite North South e = refl
-from_opposite North West e = absurd (omega (arith, e))
-from_opposite North North e = absurd (omega (arith, e))
+from_opposite _ _ e = absurd (omega (arith, e))
 
 module _ (p : Problem) (number_of : ℕ → Way → ℕ) (s : Spread) (ready : IsReady p) (numbered : AreNumbered p.arena.now number_of) (spread : IsSpread p number_of s)
     (t : Triple) (first : IsFirst p.solids.now p.task.now t) (along : GoesAlongWay p.solids.now p.arena.now p.task.now t) where

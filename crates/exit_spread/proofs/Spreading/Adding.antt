@@ -1,18 +1,16 @@
 -- Candidates are added: what was offered stays offered.
-use Rattle.std.proofs.Common.{◌≡◌, ℕ, ◌+◌, ◌≤◌, Option, None, Some, sym, subst, ◌∙◌, inl, inr, arith}
+use Rattle.std.proofs.Common.{◌≡◌, ℕ, ◌+◌, ◌≤◌, Option, None, Some, ◌∙◌, inl, inr, arith}
 use Rattle.plane_geom.specs.declared.point.Point.{Point}
 use Rattle.plane_geom.specs.declared.point.Dir.{Dir}
 use Rattle.plane_geom.specs.declared.point.Way.{Way}
 use Rattle.line_lists.specs.declared.stop.Stop.{Stop}
 use Rattle.search_labels.specs.declared.problem.Problem.{Problem}
-use Rattle.exit_rows.specs.Exits.{IsLate}
-use Rattle.exit_rows.specs.Rows.{kept_in}
 use Rattle.exit_rows.specs.declared.exit.Exit.{Exit}
-use Rattle.exit_rows.specs.declared.rows.Rows.{Rows}
 use Rattle.exit_spread.specs.declared.run.Run.{Run}
 use Rattle.exit_spread.specs.declared.spread.Spread.{Spread}
 use Rattle.exit_spread.specs.Handing.{Adds, IsMetAt, IsSound, IsTurnedAt, IsTurnedOff}
-use Rattle.exit_spread.specs.Offers.{IsOffered, kept_of}
+use Rattle.exit_spread.specs.Offers.{IsOffered}
+use Rattle.exit_spread.proofs.Spreading.Still.{same_kept, still_offered}
 
 module _ (p : Problem) (line_of : ℕ → Way → ℕ) where
   pub adds_none : (s : Spread) → IsSound p line_of s → Adds p line_of s s 0
@@ -33,12 +31,7 @@ module _ (p : Problem) (line_of : ℕ → Way → ℕ) where
 
   module _ (old new : Spread) (n : ℕ) (adds : Adds p line_of old new n) where
     pub offered_on : (hole : Option Exit) (at : Point) (x : Exit) → IsOffered p old hole at x → IsOffered p new hole at x
-    offered_on hole at x (inl (inl dear)) = inl (inl (let lower = adds.best in omega (arith, dear, lower)))
-    offered_on hole at x (inl (inr many)) = inl (inr many)
-    offered_on hole at x (inr (inl queued)) = inr (inl (adds.kept _ queued))
-    offered_on hole at x (inr (inr (inl taken))) =
-        inr (inr (inl (λ k comes. subst (λ (t : Rows). IsLate (kept_in t k x.line x.place.heading) (kept_of p k at x)) (sym adds.rows) (taken k comes))))
-    offered_on hole at x (inr (inr (inr same))) = inr (inr (inr same))
+    offered_on = still_offered p old new (same_kept old new adds.rows) adds.kept adds.best
 
     pub met_on : (r : Run) (q : Point) → IsMetAt p line_of old r q → IsMetAt p line_of new r q
     met_on r q met c behind =

@@ -24,7 +24,7 @@ use Rattle.search_labels.specs.Problems.{IsReady}
 use Rattle.search_labels.specs.declared.problem.Problem.{Problem}
 use Rattle.exit_spread.specs.declared.run.Run.{Run}
 use Rattle.exit_spread.specs.Handing.{IsRun, reach_along}
-use Rattle.exit_spread.proofs.Known.Numbers.{rising_along}
+use Rattle.exit_spread.proofs.Known.Numbers.{numbered_line}
 
 across_on : (d : Dir) (l : Line) (p : Point) → l.way ≡ way_of d → Holds l p → across (way_of d) p ≡ l.at
 across_on d l p way h = ap (across (way_of d)) h.here ∙ ap (λ w. across (way_of d) (point_on w l.at h.along)) way ∙ by_dir d l.at h.along
@@ -62,14 +62,7 @@ way_across South East e = refl
 way_across South West e = refl
 way_across North East e = refl
 way_across North West e = refl
-way_across East East e = absurd (omega (arith, e))
-way_across East West e = absurd (omega (arith, e))
-way_across West East e = absurd (omega (arith, e))
-way_across West West e = absurd (omega (arith, e))
-way_across South South e = absurd (omega (arith, e))
-way_across South North e = absurd (omega (arith, e))
-way_across North South e = absurd (omega (arith, e))
-way_across North North e = absurd (omega (arith, e))
+way_across _ _ e = absurd (omega (arith, e))
 
 module _ (p : Problem) (lists : Lists) (ready : IsReady p) (of : AreListsOf p.arena.now lists) (r : Run) (run : IsRun p (number_of lists) r) where
   -- the line of the run
@@ -87,7 +80,7 @@ module _ (p : Problem) (lists : Lists) (ready : IsReady p) (of : AreListsOf p.ar
       let u = placed a r.kept.crossing r.end ready.arena run.here in
       let held = held_in a r.kept.crossing r.end d u in
       let n : HasNumber a lists (line_along d u.pair) r.line =
-      subst (HasNumber a lists (line_along d u.pair)) run.kept.on (subst (λ id. HasNumber a lists id (number_of lists r.kept.crossing (way_of d))) (rising_along d u.pair) (of.numbers r.kept.crossing u.pair (way_of d) u.is)) in
+      subst (HasNumber a lists (line_along d u.pair)) run.kept.on (numbered_line a lists of r.kept.crossing d u.pair u.is) in
       let same : held.line ≡ n.0 = same_line held.line n.0 (sym held.is ∙ n.1.is) in
       record {
         id = line_along d u.pair;

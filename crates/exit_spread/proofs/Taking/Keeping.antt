@@ -32,8 +32,9 @@ use Rattle.exit_spread.specs.Taking.{Grows, IsExit}
 use Rattle.exit_spread.specs.Ways.{AreNumbered}
 use Rattle.exit_spread.proofs.Sizes.{kept_small}
 use Rattle.exit_spread.proofs.Spreading.Adding.{offered_in}
+use Rattle.exit_spread.proofs.Spreading.Still.{AllKept, still_offered}
 use Rattle.exit_spread.proofs.Taking.Numbered.{one_heading}
-use Rattle.exit_spread.proofs.Taking.Offered.{AllKept, handed_at, handed_still, still_offered}
+use Rattle.exit_spread.proofs.Taking.Offered.{handed_at, handed_still}
 
 module _ (p : Problem) (ready : IsReady p) (lists : Lists) (number_of : ℕ → Way → ℕ) (x : Exit) (at : Point) (is : IsExit p number_of x at) (k : ℕ) (comes : ComesTo p.task.now.via k at x.place.stage) where
   abbrev h : Dir
@@ -128,7 +129,7 @@ module _ (p : Problem) (ready : IsReady p) (lists : Lists) (number_of : ℕ → 
             rows_lighter p.arena.now.places old.rows rows k x.line h e room keeps below is.small
             (All-weaker IsSmallKept (λ o. IsSmallAhead o.ahead) (λ o g. g.ahead) row smalls) alike late
 
-        pub keeping_grows : Grows p lists old new
+        keeping_grows : Grows p lists old new
         keeping_grows = record {
           rows = all_kept;
           queue = adds.kept;
@@ -154,7 +155,7 @@ module _ (p : Problem) (ready : IsReady p) (lists : Lists) (number_of : ℕ → 
             let at_run = handed_at p number_of new new None hole (λ q y there was. offered_in p number_of new hole q y was) k h run.kept c r there (handed c r behind) in
             record { turns = at_run.turns; tips = at_run.tips; ons = at_run.ons }))
 
-        pub kept_searching : IsSearching p number_of new hole None
+        kept_searching : IsSearching p number_of new hole None
         kept_searching = record {
           kept = λ j c d q there. elim (each j c d q there) as (λ _. All (IsKeptOf p number_of j (number_of c (way_of d)) d) (kept_in new.rows j (number_of c (way_of d)) d)) [
             | inl was ↦ subst (All (IsKeptOf p number_of j (number_of c (way_of d)) d)) (sym was) (s.kept j c d q there)
@@ -193,8 +194,12 @@ module _ (p : Problem) (ready : IsReady p) (lists : Lists) (number_of : ℕ → 
               row = let n : j * u.lines ≡ j * t.lines = ap (λ m. j * m) rooms.lines in let many = rooms.rows in let less = was.row in omega (arith, n, many, less);
             }
 
-        pub late_then : IsLate (kept_in new.rows k x.line h) e
+        late_then : IsLate (kept_in new.rows k x.line h) e
         late_then =
             let more : kept_in new.rows k x.line h ≡ row ++ e ∷ [] = ap (λ (t : Rows). kept_in t k x.line h) same ∙ keeps.here in
             let has : Contains (kept_in new.rows k x.line h) e = subst (λ os. Contains os e) (sym more) (Contains-append_right row (e ∷ []) e (0, omega arith, refl)) in
             (has.0, e, has.1, has.2, stands_for_itself e)
+
+        -- the search goes on, nothing is lost, and the exit is late
+        pub taken_in : IsSearching p number_of new hole None × Grows p lists old new × IsLate (kept_in new.rows k x.line h) e
+        taken_in = (kept_searching, keeping_grows, late_then)

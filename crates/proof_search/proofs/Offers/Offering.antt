@@ -50,7 +50,7 @@ module _ (p : Problem) (ready : IsReady p) (s : Scope) (old new : Labels) (but :
     (x : Place) (v : ℕ) (known : Ahead) (cost : known.cost ≡ v) (reached : IsReachedAt p s x v) (lower : (w : ℕ) → cost_at old x ≡ Some w → v ≤ w)
     (puts : Puts old.table new.table x (Open known)) (marked : IsMarked new.table)
     (kept : (c : _) → Contains (heap_items old.queue.heap) c → Contains (heap_items new.queue.heap) c)
-    (queued : IsQueued new x) (places : All (λ c. IsPlace p c.0.place) (heap_items new.queue.heap)) where
+    (queued : IsQueued new x) (places : All (λ c. IsPlace p c.0.item) (heap_items new.queue.heap)) where
   here : label_at new x ≡ Open known
   here = puts.changed
 

@@ -16,7 +16,7 @@ use Rattle.plane_geom.specs.Along.{rising}
 use Rattle.plane_geom.specs.Floor.{Holds, point_on}
 use Rattle.line_arena.specs.Arena.{Arena, IsArena, IsFirst, IsNearest, IsOn, LiesFurther, Pair, StandsAt}
 use Rattle.line_arena.proofs.Arenas.ArenaLaws.{IsPlaced, one_point, placed, same_pair}
-use Rattle.search_labels.proofs.Gaps.{gap_above}
+use Rattle.exit_rows.proofs.Orders.{gap_above}
 use Rattle.proof_model.proofs.Lex.{lex_trans}
 use Rattle.proof_search.specs.declared.spots.Spot.{Spot}
 use Rattle.proof_search.specs.Spots.{AreRising, IsBeforeLine, comes_before}

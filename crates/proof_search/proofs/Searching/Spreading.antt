@@ -1,42 +1,12 @@
 -- A search begins without labels, takes out one candidate after another, and ends where none is left.
-use Rattle.std.proofs.Common.{
-  ◌≡◌,
-  ◌≢◌,
-  ◌⊎◌,
-  ℕ,
-  ◌+◌,
-  ◌^◌,
-  ◌<◌,
-  ◌≤◌,
-  Bool,
-  true,
-  false,
-  if◌then◌else◌,
-  nat_lt,
-  Option,
-  None,
-  Some,
-  List,
-  [],
-  ◌∷◌,
-  length,
-  get_or,
-  refl,
-  sym,
-  ap,
-  subst,
-  ◌∙◌,
-  inl,
-  inr,
-  arith,
-}
+use Rattle.std.proofs.Common.{◌≡◌, ◌≢◌, ◌⊎◌, ℕ, ◌+◌, ◌^◌, ◌<◌, ◌≤◌, Bool, true, false, if◌then◌else◌, nat_lt, Option, None, Some, List, [], ◌∷◌, length, get_or, refl, sym, ap, ◌∙◌, inl, inr, arith}
 use Rattle.std.specs.Prelude.{All, Contains, IsPermutation}
 use Rattle.std.specs.BinaryHeap.{heap_items}
 use Rattle.std.specs.declared.cmp.Reverse.{Reverse}
 use Rattle.std.proofs.lemmas.Bool.{cases_lt}
 use Rattle.std.proofs.lemmas.List.{get_or_past}
-use Rattle.std.proofs.lemmas.List.Elements.{All-nil, All-tail}
-use Rattle.std.proofs.lemmas.List.Sorted.{All-permutation, Contains-permutation, length_permutation}
+use Rattle.candidate_queue.specs.declared.queue.Candidate.{Candidate}
+use Rattle.candidate_queue.specs.declared.queue.Queue.{Queue}
 use Rattle.plane_geom.specs.declared.point.Dir.{Dir}
 use Rattle.move_model.specs.declared.ahead.Ahead.{Ahead}
 use Rattle.move_model.specs.declared.place.Place.{Place}
@@ -47,10 +17,8 @@ use Rattle.search_labels.specs.declared.label.Label.{Label}
 use Rattle.search_labels.specs.declared.label.Label.TheVariants.{Absent, Open}
 use Rattle.search_labels.specs.declared.label.Row.{Row}
 use Rattle.search_labels.specs.declared.problem.Problem.{Problem}
-use Rattle.search_labels.specs.declared.queue.Candidate.{Candidate}
-use Rattle.search_labels.specs.declared.queue.Queue.{Queue}
 use Rattle.exit_spread.proofs.Taking.Offered.{by_heading}
-use Rattle.exit_spread.proofs.Taking.Queues.{first_or_rest}
+use Rattle.candidate_queue.proofs.Queues.{none_all, none_has, pop_all, pop_count, pop_one, pop_or_rest}
 use Rattle.proof_search.specs.declared.labels.Labels.{Labels}
 use Rattle.proof_search.specs.declared.scope.Scope.{Scope}
 use Rattle.proof_search.specs.Scopes.{most_of}
@@ -58,10 +26,10 @@ use Rattle.proof_search.specs.Search.{AreNone, Falls, HasRooms, IsEntryOffered, 
 use Rattle.proof_search.proofs.Offers.Offering.{still_handed}
 
 -- the labels with another queue
-abbrev pub with_queue : Labels → Queue → Labels
+abbrev pub with_queue : Labels → Queue Place → Labels
 with_queue l q = record { table = l.table; queue = q }
 
-pub queue_falls : (s : Scope) (l : Labels) (q : Queue) → Falls s l (with_queue l q)
+pub queue_falls : (s : Scope) (l : Labels) (q : Queue Place) → Falls s l (with_queue l q)
 queue_falls s l q x cost h = h
 
 pub entries_still : (s : Scope) (old new : Labels) → Falls s old new → (entries : List Entry) → All (IsEntryOffered s old) entries
@@ -94,17 +62,17 @@ module _ (p : Problem) (s : Scope) (l : Labels) (none : AreNone l) where
     reached = λ x v e. absurd (nothing_known x v e);
     queued = λ x v but e. absurd (nothing_known x v.cost (ap cost_in e));
     handed = λ x v but e. absurd (nothing_known x v.cost (ap cost_in e));
-    candidates = subst (All (λ (c : Reverse Candidate). IsPlace p c.0.place)) (sym none.queue) (All-nil (λ (c : Reverse Candidate). IsPlace p c.0.place));
+    candidates = none_all (heap_items l.queue.heap) none.queue (λ c. IsPlace p c.0.item);
     marked = record {
       rows = λ k d lt. inl (none.table.rows k d lt);
-      marks = subst (All (λ (k : ℕ). k < length l.table.rows.items)) (sym none.table.marks) (All-nil (λ (k : ℕ). k < length l.table.rows.items));
+      marks = none_all l.table.marked.items none.table.marks (λ k. k < length l.table.rows.items);
     };
     rooms = rooms;
   }
 
-module _ (p : Problem) (s : Scope) (l : Labels) (q : Queue) (searching : IsSearching p s l None None) where
+module _ (p : Problem) (s : Scope) (l : Labels) (q : Queue Place) (searching : IsSearching p s l None None) where
   -- what the queue has to have
-  with_candidates : (but : Option Place) → All (λ (c : Reverse Candidate). IsPlace p c.0.place) (heap_items q.heap)
+  with_candidates : (but : Option Place) → All (λ (c : Reverse (Candidate Place)). IsPlace p c.0.item) (heap_items q.heap)
       → ((x : Place) (v : Ahead) → Some x ≢ but → label_at l x ≡ Open v → IsQueued (with_queue l q) x) → IsSearching p s (with_queue l q) but None
   with_candidates but places queued = record {
     small = searching.small;
@@ -120,43 +88,33 @@ module _ (p : Problem) (s : Scope) (l : Labels) (q : Queue) (searching : IsSearc
   pub spread_at_end : All (IsEntryOffered s l) p.entries.items → heap_items l.queue.heap ≡ [] → heap_items q.heap ≡ [] → IsSpread p s (with_queue l q)
   spread_at_end entries old_none new_none =
       let never : (x : Place) (v : Ahead) → label_at l x ≡ Open v → ⊥ =
-      λ x v is_open.
-      (let has = searching.queued x v (λ none. cc) is_open in
-      let none : Contains [] (record { 0 = record { bound = has.0; place = x } }) = subst
-      (λ (cs : List (Reverse Candidate)). Contains cs (record { 0 = record { bound = has.0; place = x } })) old_none has.1 in
-      omega (arith, none.1)) in
+      λ x v is_open. (let has = searching.queued x v (λ none. cc) is_open in none_has (heap_items l.queue.heap) old_none _ has.1) in
       record {
-        searching = with_candidates None (subst (All (λ (c : Reverse Candidate). IsPlace p c.0.place)) (sym new_none)
-            (All-nil (λ (c : Reverse Candidate). IsPlace p c.0.place)))
+        searching = with_candidates None (none_all (heap_items q.heap) new_none (λ c. IsPlace p c.0.item))
             (λ x v other is_open. absurd (never x v is_open));
         entries = entries;
         closed = never;
       }
 
   -- a candidate is taken out
-  module _ (c : Candidate) (taken : IsPermutation (heap_items l.queue.heap) (record { 0 = c } ∷ heap_items q.heap)) where
-    rest_or_taken : (d : Reverse Candidate) → Contains (heap_items l.queue.heap) d → Contains (heap_items q.heap) d ⊎ (d ≡ record { 0 = c })
-    rest_or_taken d has = first_or_rest (record { 0 = c }) (heap_items q.heap) d
-        (Contains-permutation (heap_items l.queue.heap) (record { 0 = c } ∷ heap_items q.heap) d taken has)
+  module _ (c : Candidate Place) (taken : IsPermutation (heap_items l.queue.heap) (record { 0 = c } ∷ heap_items q.heap)) where
+    rest_or_taken : (d : Reverse (Candidate Place)) → Contains (heap_items l.queue.heap) d → Contains (heap_items q.heap) d ⊎ (d ≡ record { 0 = c })
+    rest_or_taken = pop_or_rest (record { 0 = c }) (heap_items l.queue.heap) (heap_items q.heap) taken
 
-    all_places : All (λ (d : Reverse Candidate). IsPlace p d.0.place) (record { 0 = c } ∷ heap_items q.heap)
-    all_places = All-permutation (λ (d : Reverse Candidate). IsPlace p d.0.place) (heap_items l.queue.heap) (record { 0 = c } ∷ heap_items q.heap) taken
-        searching.candidates
+    rest_places : All (λ (d : Reverse (Candidate Place)). IsPlace p d.0.item) (heap_items q.heap)
+    rest_places = pop_all (record { 0 = c }) (heap_items l.queue.heap) (heap_items q.heap) taken (λ d. IsPlace p d.0.item) searching.candidates
 
-    rest_places : All (λ (d : Reverse Candidate). IsPlace p d.0.place) (heap_items q.heap)
-    rest_places = All-tail (λ (d : Reverse Candidate). IsPlace p d.0.place) (record { 0 = c }) (heap_items q.heap) all_places
-
-    pub taken_place : IsPlace p c.place
-    taken_place = all_places 0 (record { 0 = c }) (omega arith)
+    pub taken_place : IsPlace p c.item
+    taken_place = pop_one (record { 0 = c }) (heap_items l.queue.heap) (heap_items q.heap) taken (λ d. IsPlace p d.0.item) searching.candidates
 
     pub lighter_queue : weight s (with_queue l q) + 1 ≤ weight s l
-    lighter_queue = let same = length_permutation (heap_items l.queue.heap) (record { 0 = c } ∷ heap_items q.heap) taken in omega (arith, same)
+    lighter_queue = let less = pop_count (record { 0 = c }) (heap_items l.queue.heap) (heap_items q.heap) taken in omega (arith, less)
 
-    pub taken_out : IsSearching p s (with_queue l q) (Some c.place) None
-    taken_out = with_candidates (Some c.place) rest_places
+    pub taken_out : IsSearching p s (with_queue l q) (Some c.item) None
+    taken_out = with_candidates (Some c.item) rest_places
         (λ x v other is_open.
         (let has = searching.queued x v (λ none. cc) is_open in
         elim (rest_or_taken _ has.1) as (λ _. IsQueued (with_queue l q) x) [
           | inl rest ↦ (has.0, rest)
-          | inr same ↦ absurd (other (ap (λ (d : Reverse Candidate). Some d.0.place) same))
+          | inr same ↦ absurd (other (ap (λ (d : Reverse (Candidate Place)). Some d.0.item) same))
         ]))

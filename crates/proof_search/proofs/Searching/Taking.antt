@@ -2,12 +2,12 @@
 use Rattle.std.proofs.Common.{◌≡◌, ◌≢◌, ℕ, Option, None, Some, sym, ap, subst, ◌∙◌, inl, inr, arith}
 use Rattle.std.specs.Prelude.{All}
 use Rattle.std.specs.BinaryHeap.{heap_items}
+use Rattle.candidate_queue.specs.declared.queue.Queue.{Queue}
 use Rattle.move_model.specs.declared.ahead.Ahead.{Ahead}
 use Rattle.move_model.specs.declared.place.Place.{Place}
 use Rattle.search_labels.specs.Tables.{IsMarked, Puts}
 use Rattle.search_labels.specs.declared.label.Label.TheVariants.{Open, Closed}
 use Rattle.search_labels.specs.declared.problem.Problem.{Problem}
-use Rattle.search_labels.specs.declared.queue.Queue.{Queue}
 use Rattle.proof_model.specs.Rules.{Suffices}
 use Rattle.proof_search.proofs.Offers.OnePlace.{one_place}
 use Rattle.proof_search.specs.declared.labels.Labels.{Labels}
@@ -58,12 +58,12 @@ module _ (p : Problem) (s : Scope) (old new : Labels) (x : Place) (v : Ahead) (s
     queued = λ y w but e.
         (let o = other_open y w e in
         let was = searching.queued y w (λ (same : ◌≡◌ {A = Option Place} (Some y) (Some x)). o.0 (same_place y x same)) o.1 in
-        subst (λ (q : Queue). IsQueued (record { table = new.table; queue = q }) y) (sym queue) was);
+        subst (λ (q : Queue Place). IsQueued (record { table = new.table; queue = q }) y) (sym queue) was);
     handed = λ y w but e. elim (one_place y x) as (λ _. IsHandedOn p s new y w.cost) [
       | inl same ↦ absurd (but (ap Some same))
       | inr other ↦ still_handed p s old new closing_falls y w.cost (searching.handed y w (λ none. cc) (sym (puts.others y other) ∙ e))
     ];
-    candidates = subst (λ (q : Queue). All (λ c. IsPlace p c.0.place) (heap_items q.heap)) (sym queue) searching.candidates;
+    candidates = subst (λ (q : Queue Place). All (λ c. IsPlace p c.0.item) (heap_items q.heap)) (sym queue) searching.candidates;
     marked = marked;
     rooms = record { places = puts.rooms.places ∙ searching.rooms.places; rows = omega (arith, puts.rooms.rows, searching.rooms.rows) };
   }

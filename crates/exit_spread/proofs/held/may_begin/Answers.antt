@@ -47,7 +47,7 @@ returns-else-has_checkpoint c lists of c' here on (inr (inr b)) = elim c.if-may_
         let listed : slice_get lists.lines c.args.line ≡ Some on_line.0 = ap (slice_get lists.lines) (sym on) ∙ on_line.1 in
         let touched : (x : Dir) → b.before ≡ x → IsTouched p.solids.now (held_to x c.args.next) h b.point c.args.at =
         λ x same. subst (λ z. IsTouched p.solids.now (held_to z c.args.next) h b.point c.args.at) same b.held in
-        let exact = c.reach-end.ensures.exact in
+        let exact = c.reach-end.ensures.value in
         let end : reach h c.args.at ≡ to_z w64 (of_z w64 c.reach-end.result) = omega (arith, ints, exact) in
         absurd (∥∥₁_elim of.are_touches (λ (x y : ⊥). absurd x) (λ are. elim (two_across b.before h b.turns) as (λ _. ⊥) [
           | inl same ↦ true≢false (sym (c.may_be_held.ensures lists.lines p.solids.now on_line.0 are listed b.point c.args.at on_line.2 end

@@ -14,8 +14,8 @@ returns c =
     sym (c.across.ensures ∙ ap (λ w. across w c.args.p) c.way.ensures)
     ∙ sym (to_z-of_z w64 c.across.result a_fits) ∙ ap (to_z w64) c.if-across.false ∙ to_z-of_z w64 c.across-2.result b_fits
     ∙ c.across-2.ensures ∙ ap (λ w. across w c.args.q) c.way-2.ensures in
-    let p = c.reach.ensures.exact in
-    let q = c.reach-2.ensures.exact in
+    let p = c.reach.ensures.value in
+    let q = c.reach-2.ensures.value in
     simp to_z-of_z (
       λ yes. record { across = same; upto = grind (arith, ints) },
       λ lies. (let far = lies.upto in grind (arith, ints)),

@@ -23,7 +23,9 @@ index-number-requires c =
     record { live = subst IsSome (sym is) refl }
 
 pub reach-requires : goal.reach-requires
-reach-requires c = record { within = crossing_within c.args.problem.now c.args.entry.now.place.crossing c.args.entry.now.port c.requires.ready (entry_here c.args.problem.now c.requires.ready c.args.entry.now c.requires.entry) }
+reach-requires c =
+    crossing_within c.args.problem.now c.args.entry.now.place.crossing c.args.entry.now.port c.requires.ready
+    (entry_here c.args.problem.now c.requires.ready c.args.entry.now c.requires.entry)
 
 pub counted_at-requires-clause-small : goal.counted_at-requires-clause-small
 counted_at-requires-clause-small c = run_small c.args.problem.now c.args.lists.now c.requires.ready c.requires.lists c.args.run.now c.requires.run
@@ -35,7 +37,7 @@ counts c =
     let r = c.args.run.now in
     let fits : FitsSigned w64 c.reach.result = search rules in
     let there = counted_some r.kept (reach r.heading e.port) c.in-Some.ahead
-    (sym (c.counted_at.ensures ∙ ap (λ z. Rattle.exit_rows.specs.Exits.counted_at r.kept z) (to_z-of_z w64 c.reach.result fits ∙ c.reach.ensures.exact)) ∙ c.in-Some.is) in (
+    (sym (c.counted_at.ensures ∙ ap (λ z. Rattle.exit_rows.specs.Exits.counted_at r.kept z) (to_z-of_z w64 c.reach.result fits ∙ c.reach.ensures.value)) ∙ c.in-Some.is) in (
       record {
         here = entry_here c.args.problem.now c.requires.ready e c.requires.entry;
         on = sym (c.line_of-line.ensures ∙ (λ i. number_of c.args.lists.now (c.index-number.ensures.number i) (c.way.ensures i))) ∙ c.if-line-run.false;

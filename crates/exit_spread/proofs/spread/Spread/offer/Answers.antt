@@ -3,12 +3,13 @@ use Rattle.std.proofs.Common.{◌≡◌, ◌+◌, ℕ, refl, ap, subst, inl, inr
 use Rattle.std.specs.Prelude.{Contains}
 use Rattle.std.specs.BinaryHeap.{heap_items}
 use Rattle.std.specs.declared.cmp.Reverse.{Reverse}
+use Rattle.candidate_queue.specs.declared.queue.Candidate.{Candidate}
 use Rattle.exit_rows.specs.Exits.{IsSmallAhead}
-use Rattle.exit_rows.specs.declared.queue.Candidate.{Candidate}
+use Rattle.exit_rows.specs.declared.exit.Exit.{Exit}
 use Rattle.exit_spread.specs.Searching.{IsCandidate}
 use Rattle.exit_spread.specs.Ways.{bound_at}
 use Rattle.exit_spread.proofs.Sizes.{crossing_within}
-use Rattle.exit_spread.proofs.Taking.Queues.{push_all, push_count, push_has, push_keeps}
+use Rattle.candidate_queue.proofs.Queues.{push_all, push_count, push_has, push_keeps}
 use Rattle.exit_spread.proofs.spread.Spread.offer.Goals as goal
 
 pub bound-requires-clause-within : goal.bound-requires-clause-within
@@ -20,7 +21,7 @@ returns-clause-adds c = λ line_of line sound.
     let x = c.args.exit in
     let old = heap_items c.args.self.now.queue.heap in
     let new = heap_items c.push.new.self.heap in
-    let one : Reverse Candidate = record { 0 = record { bound = x.ahead.cost + c.bound.result; exit = x } } in
+    let one : Reverse (Candidate Exit) = record { 0 = record { bound = x.ahead.cost + c.bound.result; item = x } } in
     let small : IsSmallAhead x.ahead = record { cost = omega (arith, c.if-bound-self.false, c.requires.best); runs = c.if-exit-gt-MOST_RUNS.false; lean = c.requires.offerable.lean } in
     let is : IsCandidate p line_of one.0 = record {
       point = c.args.at;
@@ -35,12 +36,16 @@ returns-clause-adds c = λ line_of line sound.
       best = omega arith;
       kept = λ d has. push_keeps one old new c.in_ok-push.ensures.ok d has;
       count = push_count one old new c.in_ok-push.ensures.ok;
-      sound = record { candidates = push_all one old new c.in_ok-push.ensures.ok (λ (d : Reverse Candidate). IsCandidate p line_of d.0) sound.candidates is; best = sound.best };
+      sound = record {
+        candidates = push_all one old new c.in_ok-push.ensures.ok (λ d. IsCandidate p line_of d.0) sound.candidates is;
+        best = sound.best;
+      };
     }
 
 pub returns-clause-offered : goal.returns-clause-offered
 returns-clause-offered c =
     let x = c.args.exit in
-    let has = push_has (record { 0 = record { bound = x.ahead.cost + c.bound.result; exit = x } }) (heap_items c.args.self.now.queue.heap) (heap_items c.push.new.self.heap) c.in_ok-push.ensures.ok in
+    let one : Reverse (Candidate Exit) = record { 0 = record { bound = x.ahead.cost + c.bound.result; item = x } } in
+    let has = push_has one (heap_items c.args.self.now.queue.heap) (heap_items c.push.new.self.heap) c.in_ok-push.ensures.ok in
     let bound : x.ahead.cost + c.bound.result ≡ x.ahead.cost + bound_at c.args.problem.now x.place c.args.at = ap (λ n. x.ahead.cost + n) c.bound.ensures.exact in
-    inr (inl (subst (λ (n : ℕ). Contains (heap_items c.push.new.self.heap) (record { 0 = record { bound = n; exit = x } })) bound has))
+    inr (inl (subst (λ (n : ℕ). Contains (heap_items c.push.new.self.heap) (record { 0 = record { bound = n; item = x } })) bound has))

@@ -42,7 +42,7 @@ loop-candidate-preserved c =
     let new = c.take.new.self in
     let k = c.in-Some.candidate in
     record {
-      searching = closed p n new k.exit c.in_ok-take.ensures.taken c.in_ok-take.ensures.searching;
+      searching = closed p n new k.item c.in_ok-take.ensures.taken c.in_ok-take.ensures.searching;
       stubs = stubs_stay p n s c.pop.new.self c.loop-candidate.invariant.searching k c.in-Some.ensures.rest c.requires.ready c.args.lists.now new c.in_ok-take.ensures.grows c.in_ok-take.ensures.taken c.loop-candidate.invariant.stubs;
     }
 

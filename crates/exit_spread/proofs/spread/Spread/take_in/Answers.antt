@@ -1,19 +1,22 @@
 -- The exit is late, or its line keeps it and it is handed on.
 use Rattle.std.proofs.Common.{◌≡◌, ◌≤ℤ◌, ◌<ℤ◌, ℤ, ℕ, List, Some, None, refl, sym, ap, subst, ◌∙◌, arith, w64, to_z, of_z}
+use Rattle.std.specs.Prelude.{All}
 use Rattle.std.proofs.lemmas.Bool.{false≢true}
 use Rattle.std.proofs.lemmas.Int.{ints}
 use Rattle.plane_geom.specs.declared.point.Point.{Point}
 use Rattle.plane_geom.specs.Point.{IsCoordinate}
 use Rattle.line_lists.specs.Lists.{number_of}
-use Rattle.exit_rows.specs.Exits.{IsLate, IsUndercut}
-use Rattle.exit_rows.specs.Rows.{Keeps, kept_in}
+use Rattle.exit_rows.specs.Exits.{IsLate, IsSmallKept, IsUndercut}
+use Rattle.exit_rows.specs.Rows.{HasRow, Keeps, kept_in}
 use Rattle.exit_rows.specs.declared.exit.Kept.{Kept}
 use Rattle.exit_spread.specs.declared.run.Run.{Run}
 use Rattle.exit_spread.specs.Handing.{IsBehind, IsRun}
 use Rattle.exit_spread.specs.Offers.{IsHandedAt, from_of, kept_of}
+use Rattle.exit_spread.specs.Searching.{IsSearching}
+use Rattle.exit_spread.specs.Taking.{Grows}
 use Rattle.exit_spread.proofs.Known.Numbers.{lists_number}
 use Rattle.exit_spread.proofs.Sizes.{crossing_within}
-use Rattle.exit_spread.proofs.Taking.Keeping.{is_run, keeping_grows, kept_searching, late_then, room, smalls}
+use Rattle.exit_spread.proofs.Taking.Keeping.{is_run, room, smalls, taken_in}
 use Rattle.exit_spread.proofs.Taking.Numbered.{crossing_below}
 use Rattle.exit_spread.proofs.spread.Spread.take_in.Goals as goal
 use Rattle.exit_spread.proofs.spread.Spread.take_in.Goals.{After-reach, After-stop-from}
@@ -22,15 +25,22 @@ pub counts_from-requires-clause-at_within : goal.counts_from-requires-clause-at_
 counts_from-requires-clause-at_within c = crossing_within c.args.problem.now c.args.exit.now.place.crossing c.args.at c.requires.ready c.requires.exit.way.here
 
 pub reach-requires : goal.reach-requires
-reach-requires c = record { within = crossing_within c.args.problem.now c.args.exit.now.place.crossing c.args.at c.requires.ready c.requires.exit.way.here }
+reach-requires c = crossing_within c.args.problem.now c.args.exit.now.place.crossing c.args.at c.requires.ready c.requires.exit.way.here
 
-pub is_late-requires-clause-room : goal.is_late-requires-clause-room
-is_late-requires-clause-room c =
+-- there is a row for the exit, and what is in it is small
+has_row : (c : After-reach) → HasRow c.args.self.now.rows c.args.stage c.args.exit.now.line
+has_row c =
     room c.args.problem.now c.requires.ready c.args.lists.now (number_of c.args.lists.now) c.args.exit.now c.args.at c.requires.exit c.args.stage c.requires.comes c.args.self.now (Some c.args.exit.now) c.requires.searching
 
-pub is_late-requires-clause-small : goal.is_late-requires-clause-small
-is_late-requires-clause-small c =
+are_small : (c : After-reach) → All IsSmallKept (kept_in c.args.self.now.rows c.args.stage c.args.exit.now.line c.args.exit.now.place.heading)
+are_small c =
     smalls c.args.problem.now c.requires.ready c.args.lists.now (number_of c.args.lists.now) c.args.exit.now c.args.at c.requires.exit c.args.stage c.requires.comes c.args.self.now (Some c.args.exit.now) c.requires.searching
+
+pub is_late-requires-clause-room : goal.is_late-requires-clause-room
+is_late-requires-clause-room c = has_row (goal.at.is_late-requires-clause-room c).After-reach
+
+pub is_late-requires-clause-small : goal.is_late-requires-clause-small
+is_late-requires-clause-small c = are_small (goal.at.is_late-requires-clause-small c).After-reach
 
 -- a coordinate as it is stored
 stored : (z y : ℤ) → z ≡ y → IsCoordinate z → to_z w64 (of_z w64 z) ≡ y
@@ -42,7 +52,7 @@ kept_is : (c : After-reach) → ◌≡◌ {A = Kept} (record { crossing = c.args
 kept_is c =
     let x = c.args.exit.now in
     let from = stored c.counts_from.result _ (c.counts_from.ensures.exact ∙ ap (λ (via : List Point). from_of via c.args.stage x.place.heading c.args.at) c.as_slice.ensures) c.counts_from.ensures.within in
-    let at = stored c.reach.result _ c.reach.ensures.exact c.reach.ensures.within in
+    let at = stored c.reach.result _ c.reach.ensures.value c.reach.ensures.within in
     (λ i. record { crossing = x.place.crossing; from = from i; at = at i; next = x.next; ahead = x.ahead })
 
 pub returns-then-is_late-clause-taken : goal.returns-then-is_late-clause-taken
@@ -51,16 +61,13 @@ returns-then-is_late-clause-taken c =
     subst (IsLate (kept_in c.args.self.now.rows c.args.stage x.line x.place.heading)) (kept_is (goal.at.returns-then-is_late-clause-taken c).After-reach) (c.if-is_late.ensures.0 refl)
 
 pub stop-from-requires-clause-room : goal.stop-from-requires-clause-room
-stop-from-requires-clause-room c =
-    room c.args.problem.now c.requires.ready c.args.lists.now (number_of c.args.lists.now) c.args.exit.now c.args.at c.requires.exit c.args.stage c.requires.comes c.args.self.now (Some c.args.exit.now) c.requires.searching
+stop-from-requires-clause-room c = has_row (goal.at.stop-from-requires-clause-room c).After-reach
 
 pub stop-from-requires-clause-small : goal.stop-from-requires-clause-small
-stop-from-requires-clause-small c =
-    smalls c.args.problem.now c.requires.ready c.args.lists.now (number_of c.args.lists.now) c.args.exit.now c.args.at c.requires.exit c.args.stage c.requires.comes c.args.self.now (Some c.args.exit.now) c.requires.searching
+stop-from-requires-clause-small c = are_small (goal.at.stop-from-requires-clause-small c).After-reach
 
 pub keep-requires-clause-room : goal.keep-requires-clause-room
-keep-requires-clause-room c =
-    room c.args.problem.now c.requires.ready c.args.lists.now (number_of c.args.lists.now) c.args.exit.now c.args.at c.requires.exit c.args.stage c.requires.comes c.args.self.now (Some c.args.exit.now) c.requires.searching
+keep-requires-clause-room c = has_row (goal.at.keep-requires-clause-room c).After-reach
 
 -- the exit is not late, and up to the stop it is undercut
 not_late : (c : After-stop-from) → IsLate (kept_in c.args.self.now.rows c.args.stage c.args.exit.now.line c.args.exit.now.place.heading) (kept_of c.args.problem.now c.args.stage c.args.at c.args.exit.now) → ⊥
@@ -93,7 +100,7 @@ run_is : (c : After-stop-from) → ◌≡◌ {A = Run}
 run_is c =
     let x = c.args.exit.now in
     let from = stored c.stop-from.result c.stop-from.result refl (may_run c).within in
-    let at = stored (to_z w64 (of_z w64 c.reach.result)) _ (stored c.reach.result _ c.reach.ensures.exact c.reach.ensures.within) (subst IsCoordinate (sym (stored c.reach.result c.reach.result refl c.reach.ensures.within)) c.reach.ensures.within) in
+    let at = stored (to_z w64 (of_z w64 c.reach.result)) _ (stored c.reach.result _ c.reach.ensures.value c.reach.ensures.within) (subst IsCoordinate (sym (stored c.reach.result c.reach.result refl c.reach.ensures.within)) c.reach.ensures.within) in
     (λ i. record { stage = c.args.stage; line = x.line; heading = x.place.heading; end = c.args.at; kept = record { crossing = x.place.crossing; from = from i; at = at i; next = x.next; ahead = x.ahead } })
 
 pub hand_on-requires-clause-run : goal.hand_on-requires-clause-run
@@ -112,35 +119,28 @@ handed c =
     subst (λ (r : Run). (z : ℕ) (q : Point) → IsBehind c.args.problem.now (number_of c.args.lists.now) r z q → IsHandedAt c.args.problem.now (number_of c.args.lists.now) c.hand_on.new.self None r.stage r.heading r.kept z q)
     (run_is (goal.at.returns-clause-searching c).After-stop-from) c.in_ok-hand_on.ensures.handed
 
-pub returns-clause-searching : goal.returns-clause-searching
-returns-clause-searching c =
+-- the search goes on, nothing is lost, and the exit is late
+all : (c : goal.In_ok-hand_on) → IsSearching c.args.problem.now (number_of c.args.lists.now) c.hand_on.new.self (Some c.args.exit.now) None
+    × Grows c.args.problem.now c.args.lists.now c.args.self.now c.hand_on.new.self
+    × IsLate (kept_in c.hand_on.new.self.rows c.args.stage c.args.exit.now.line c.args.exit.now.place.heading)
+    (kept_of c.args.problem.now c.args.stage c.args.at c.args.exit.now)
+all c =
     let p = c.args.problem.now in
     let lists = c.args.lists.now in
     let x = c.args.exit.now in
     let arena = c.requires.ready.arena in
     let are = c.requires.of.are_lists in
-    kept_searching p c.requires.ready lists (number_of lists) x c.args.at c.requires.exit c.args.stage c.requires.comes c.args.self.now (Some x) c.requires.searching
-    c.stop-from.result (stops (goal.at.returns-clause-searching c).After-stop-from).0 (stops (goal.at.returns-clause-searching c).After-stop-from).1 (lists_number p.arena.now lists arena are) (crossing_below p.arena.now arena lists are x.place.crossing c.args.at c.requires.exit.way.here) (not_late (goal.at.returns-clause-searching c).After-stop-from)
+    let past = (goal.at.returns-clause-searching c).After-stop-from in
+    taken_in p c.requires.ready lists (number_of lists) x c.args.at c.requires.exit c.args.stage c.requires.comes c.args.self.now (Some x) c.requires.searching
+    c.stop-from.result (stops past).0 (stops past).1 (lists_number p.arena.now lists arena are)
+    (crossing_below p.arena.now arena lists are x.place.crossing c.args.at c.requires.exit.way.here) (not_late past)
     c.keep.new.self (keeps c) c.in_ok-keep.ensures.marked c.hand_on.new.self c.in_ok-hand_on.ensures.rows c.in_ok-hand_on.ensures.adds (handed c)
+
+pub returns-clause-searching : goal.returns-clause-searching
+returns-clause-searching c = (all c).0
 
 pub returns-clause-grows : goal.returns-clause-grows
-returns-clause-grows c =
-    let p = c.args.problem.now in
-    let lists = c.args.lists.now in
-    let x = c.args.exit.now in
-    let arena = c.requires.ready.arena in
-    let are = c.requires.of.are_lists in
-    keeping_grows p c.requires.ready lists (number_of lists) x c.args.at c.requires.exit c.args.stage c.requires.comes c.args.self.now (Some x) c.requires.searching
-    c.stop-from.result (stops (goal.at.returns-clause-searching c).After-stop-from).0 (stops (goal.at.returns-clause-searching c).After-stop-from).1 (lists_number p.arena.now lists arena are) (crossing_below p.arena.now arena lists are x.place.crossing c.args.at c.requires.exit.way.here) (not_late (goal.at.returns-clause-searching c).After-stop-from)
-    c.keep.new.self (keeps c) c.in_ok-keep.ensures.marked c.hand_on.new.self c.in_ok-hand_on.ensures.rows c.in_ok-hand_on.ensures.adds (handed c)
+returns-clause-grows c = (all c).1
 
 pub returns-clause-taken : goal.returns-clause-taken
-returns-clause-taken c =
-    let p = c.args.problem.now in
-    let lists = c.args.lists.now in
-    let x = c.args.exit.now in
-    let arena = c.requires.ready.arena in
-    let are = c.requires.of.are_lists in
-    late_then p c.requires.ready lists (number_of lists) x c.args.at c.requires.exit c.args.stage c.requires.comes c.args.self.now (Some x) c.requires.searching
-    c.stop-from.result (stops (goal.at.returns-clause-searching c).After-stop-from).0 (stops (goal.at.returns-clause-searching c).After-stop-from).1 (lists_number p.arena.now lists arena are) (crossing_below p.arena.now arena lists are x.place.crossing c.args.at c.requires.exit.way.here) (not_late (goal.at.returns-clause-searching c).After-stop-from)
-    c.keep.new.self (keeps c) c.in_ok-keep.ensures.marked c.hand_on.new.self c.in_ok-hand_on.ensures.rows c.in_ok-hand_on.ensures.adds (handed c)
+returns-clause-taken c = (all c).2

@@ -6,13 +6,14 @@ use Rattle.std.specs.declared.cmp.Reverse.{Reverse}
 use Rattle.std.proofs.lemmas.Bool.{cases_lt, false≢true, lt-ltb}
 use Rattle.std.proofs.lemmas.List.Sorted.{length_permutation}
 use Rattle.std.proofs.lemmas.Nat.{mul-add-lt}
+use Rattle.candidate_queue.specs.declared.queue.Candidate.{Candidate}
+use Rattle.move_model.specs.declared.place.Place.{Place}
 use Rattle.search_labels.specs.Labels.{empty_row, label_in, with_label}
 use Rattle.search_labels.specs.Tables.{HasRow, row_of}
 use Rattle.search_labels.specs.declared.label.Label.TheVariants.{Absent, Open}
 use Rattle.search_labels.specs.declared.label.Label.{Label}
-use Rattle.search_labels.specs.declared.queue.Candidate.{Candidate}
 use Rattle.proof_model.specs.Rules.{Suffices}
-use Rattle.exit_spread.proofs.Taking.Queues.{push_all, push_has, push_keeps}
+use Rattle.candidate_queue.proofs.Queues.{push_all, push_has, push_keeps}
 use Rattle.proof_search.specs.Scopes.{claim_of, label_for}
 use Rattle.proof_search.specs.Search.{IsPlace, IsReachedAt, cost_at, cost_in, label_at, label_weight, row_weight}
 use Rattle.proof_search.specs.declared.labels.Labels.{Labels}
@@ -56,21 +57,21 @@ higher c w e = elim (cases_lt c.in-Some.cost w) as (λ _. c.in-Some.cost < w) [
 ]
 
 -- the queue has the candidate and what it had before
-abbrev candidate : In_ok-put → Reverse Candidate
-candidate c = record { 0 = record { bound = c.in-Some.cost; place = c.args.place.now } }
+abbrev candidate : In_ok-put → Reverse (Candidate Place)
+candidate c = record { 0 = record { bound = c.in-Some.cost; item = c.args.place.now } }
 
-kept : (c : In_ok-put) (d : Reverse Candidate) → Contains (heap_items c.args.self.now.queue.heap) d → Contains (heap_items c.push.new.self.heap) d
+kept : (c : In_ok-put) (d : Reverse (Candidate Place)) → Contains (heap_items c.args.self.now.queue.heap) d → Contains (heap_items c.push.new.self.heap) d
 kept c = push_keeps (candidate c) (heap_items c.args.self.now.queue.heap) (heap_items c.push.new.self.heap) c.in_ok-push.ensures.ok
 
 has : (c : In_ok-put) → Contains (heap_items c.push.new.self.heap) (candidate c)
 has c = push_has (candidate c) (heap_items c.args.self.now.queue.heap) (heap_items c.push.new.self.heap) c.in_ok-push.ensures.ok
 
-places : (c : In_ok-put) → All (λ d. IsPlace c.args.problem.now d.0.place) (heap_items c.push.new.self.heap)
+places : (c : In_ok-put) → All (λ d. IsPlace c.args.problem.now d.0.item) (heap_items c.push.new.self.heap)
 places c =
     let old = heap_items c.args.self.now.queue.heap in
     let new = heap_items c.push.new.self.heap in
     let coming = c.requires.coming in
-    push_all (candidate c) old new c.in_ok-push.ensures.ok (λ (d : Reverse Candidate). IsPlace c.args.problem.now d.0.place)
+    push_all (candidate c) old new c.in_ok-push.ensures.ok (λ (d : Reverse (Candidate Place)). IsPlace c.args.problem.now d.0.item)
     c.requires.searching.1.candidates (record { at = coming.at; here = coming.here; stage = coming.stage })
 
 pub returns-clause-searching : goal.returns-clause-searching

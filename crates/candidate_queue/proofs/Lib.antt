@@ -1,0 +1,2 @@
+-- The lemmas on queues.
+pub mod Queues
