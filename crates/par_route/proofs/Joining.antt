@@ -1,5 +1,5 @@
 -- The answers of all pieces, and how often all searched.
-use Rattle.std.proofs.Common.{ℕ, ◌≡◌, ◌+◌, List, [], ◌∷◌, refl, length, arith, Result, Ok, Err, All, IsOk, IfOk}
+use Rattle.std.proofs.Common.{ℕ, ◌≡◌, List, [], ◌∷◌, refl, length, arith, Result, Ok, Err, All, IsOk, IfOk}
 use Rattle.std.specs.List.{AllZip, flat_map, sum_by}
 use Rattle.std.proofs.lemmas.Bool.{false≢true}
 use Rattle.std.proofs.lemmas.List.{length-append}

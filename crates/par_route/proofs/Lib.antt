@@ -4,3 +4,4 @@ pub mod Zips
 pub mod Lengths
 pub mod Cutting
 pub mod Joining
+pub mod Sheet

@@ -4,12 +4,13 @@ ghost use Rattle.std.specs.List.{flat_map, sum_by};
 ghost use Rattle.line_arena.specs.Count.{counted_by};
 ghost use Rattle.par_route.specs.Pieces.{AreCut, IsSearched, answers_in, piece_length, searches_in};
 ghost use Rattle.par_route.specs.Routes.{MayBeSearched};
+ghost use Rattle.route_search.specs.Matching.{AreLinesOf};
 
 use crate::gate::Gate;
 use crate::passed::Passed;
 use line_arena::LineArena;
 use plane_geom::Solid;
-use route_search::{Finder, Tally};
+use route_search::{Finder, Lines, Tally};
 use std::alloc::{AllocError, Global};
 use walk_model::{Route, Task};
 
@@ -71,13 +72,15 @@ impl<'a> Piece<'a> {
         alloc: Global,
         arena: &LineArena,
         solids: &[Solid],
+        lines: &Lines,
         gate: &G,
     ) -> Result<Searched, AllocError>
-        requires { All (MayBeSearched arena.now solids.now) self.tasks.now }
+        requires tasks { All (MayBeSearched arena.now solids.now) self.tasks.now }
+        requires lines { AreLinesOf arena.now solids.now lines.now }
         ensures { IfOk result (IsSearched solids.now self.entry) }
     {
         let passed = Passed::through(gate, self.number);
-        self.searched(passed, alloc, arena, solids)
+        self.searched(passed, alloc, arena, solids, lines)
     }
 
     /// Searches for each task of the piece, which has passed the gate.
@@ -87,8 +90,10 @@ impl<'a> Piece<'a> {
         alloc: Global,
         arena: &LineArena,
         solids: &[Solid],
+        lines: &Lines,
     ) -> Result<Searched, AllocError>
-        requires { All (MayBeSearched arena.now solids.now) self.tasks.now }
+        requires tasks { All (MayBeSearched arena.now solids.now) self.tasks.now }
+        requires lines { AreLinesOf arena.now solids.now lines.now }
         ensures { IfOk result (IsSearched solids.now self.entry) }
     {
         let Piece {
@@ -96,7 +101,7 @@ impl<'a> Piece<'a> {
             tasks,
             mut tally,
         } = self;
-        let mut finder = Finder::new(alloc, arena, solids);
+        let mut finder = Finder::with_lines(alloc, arena, solids, lines);
         let mut answers = Vec::new(alloc);
         for task in tasks {
             answers.push(finder.find(task, &mut tally)?)?;

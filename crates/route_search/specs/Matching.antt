@@ -1,4 +1,4 @@
--- The lists of an arena by equations, so that the fact has one proof and a finder can keep it. No public clause cites this module.
+-- The lists of an arena by equations, so that the fact has one proof and a finder can keep it. Public clauses cite `AreLinesOf`.
 use Rattle.std.specs.Prelude.{ℕ, ◌≡◌, ◌≢◌, ◌==◌, ◌<ℤ◌, true, Option, Some, None, List, All, AllPairs, length, slice_get}
 use Rattle.std.specs.List.{list_any}
 use Rattle.std.specs.FinMap.{get}
@@ -14,7 +14,9 @@ use Rattle.line_lists.specs.Lists.{IsNumbered, Lists, number_of, stops_of}
 use Rattle.line_lists.specs.Numbers.{other_way}
 use Rattle.line_lists.specs.declared.stop.Stop.{Stop}
 use Rattle.side_touches.specs.Touches.{AreTouches}
-use Rattle.route_search.specs.declared.finder.Lines.{Lines as FinderLines}
+use Rattle.route_search.specs.declared.lines.Lines.{Lines as SearchLines}
+use Rattle.route_search.specs.declared.lines.FinderLines.{FinderLines}
+use Rattle.route_search.specs.declared.lines.FinderLines.TheVariants.{Unmade, Own, Lent}
 
 -- the point where two lines cross, if both are there
 abbrev pub point_across : Option Line → Option Line → Option Point
@@ -54,7 +56,13 @@ pub record AreMatchingLists (a : Arena) (lists : Lists) : Type 0 where
   pub numbers : (c : ℕ) (pair : Pair) (way : Way) → get a.crossings c ≡ Some pair → HasMatchingNumber a lists (line_along (rising way) pair) (number_of lists c way)
   pub places : length lists.numbers ≡ a.places
 
--- the lists and the touches are those of the arena, with these solids
-pub record AreLinesOf (a : Arena) (solids : List Solid) (l : FinderLines) : Type 0 where
+-- the lines are those of the arena with these solids
+pub record AreLinesOf (a : Arena) (solids : List Solid) (l : SearchLines) : Type 0 where
   pub are_lists : AreMatchingLists a l.lists
   pub are_touches : ∥ AreTouches l.lists.lines solids l.touches ∥₁
+
+-- the lines of a finder, if there are any
+abbrev pub made_lines : FinderLines → Option SearchLines
+made_lines Unmade = None
+made_lines (Own lines) = Some lines
+made_lines (Lent lines) = Some lines.now

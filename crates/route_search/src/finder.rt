@@ -1,46 +1,23 @@
 //! Searches over one arena.
-ghost use Rattle.std.specs.Prelude.{◌≡◌, All, IfOk, IfSome, IsSome, OnOk};
+ghost use Rattle.std.specs.Prelude.{◌≡◌, IfOk, IfSome};
 ghost use Rattle.std.proofs.Props.{props};
 ghost use Rattle.move_model.specs.Problems.{IsProblem};
 ghost use Rattle.plane_geom.specs.declared.floor.Floor.{Floor};
-ghost use Rattle.plane_geom.specs.Rect.{RectIsOnSheet};
 ghost use Rattle.exit_rows.specs.Rows.{IsMarked};
 ghost use Rattle.exit_spread.specs.Searching.{AreNone};
-ghost use Rattle.route_search.specs.Matching.{AreLinesOf};
+ghost use Rattle.route_search.specs.Matching.{AreLinesOf, made_lines};
 ghost use Rattle.walk_model.specs.Answers.{IsAnswer};
 ghost use Rattle.line_arena.specs.Count.{counted_by};
 
 use crate::follow::Follower;
+use crate::lines::{FinderLines, Lines};
 use crate::tally::Tally;
 use exit_spread::Spread;
 use line_arena::LineArena;
-use line_lists::LineLists;
 use plane_geom::Solid;
 use search_labels::Problem;
-use side_touches::Touches;
 use std::alloc::{AllocError, Global};
 use walk_model::{Route, Task};
-
-/// What searches read of the lines of an arena: their crossings in order, and the sides of solids
-/// that touch them.
-#[derive(Drop)]
-struct Lines {
-    lists: LineLists,
-    touches: Touches,
-}
-
-impl Lines {
-    /// Of the arena of a floor with these solids. The only error is out of memory.
-    fn new(alloc: Global, arena: &LineArena, solids: &[Solid]) -> Result<Lines, AllocError>
-        requires { All (λ s. RectIsOnSheet s.rect) solids.now }
-        ensures { IfOk result (AreLinesOf arena.now solids.now) }
-    {
-        arena.laws();
-        let lists = LineLists::new(alloc, arena)?;
-        let touches = Touches::new(alloc, lists.lines(), solids)?;
-        Ok(Lines { lists, touches })
-    }
-}
 
 /// Searches over one arena, with what they keep between them.
 #[derive(Drop)]
@@ -48,29 +25,11 @@ pub struct Finder<'a> {
     alloc: Global,
     pub arena: &'a LineArena,
     pub solids: &'a [Solid],
-    // Made by the first search.
-    lines: Option<Lines>,
+    // Made by the first search, unless they are lent.
+    lines: FinderLines<'a>,
     spread: Spread,
     ghost idle: { AreNone spread } by { Prim.hlevel props },
-    ghost made: { IfSome lines (AreLinesOf arena.now solids.now) } by { Prim.hlevel props },
-}
-
-/// Makes the lines of the arena of a floor with these solids, unless they were made.
-fn make_lines(
-    alloc: Global,
-    arena: &LineArena,
-    solids: &[Solid],
-    lines: &mut Option<Lines>,
-) -> Result<(), AllocError>
-    requires solids { All (λ s. RectIsOnSheet s.rect) solids.now }
-    requires made { IfSome lines.old (AreLinesOf arena.now solids.now) }
-    ensures made { IfSome lines.new (AreLinesOf arena.now solids.now) }
-    ensures some { OnOk result (IsSome lines.new) }
-{
-    if lines.is_none() {
-        *lines = Some(Lines::new(alloc, arena, solids)?);
-    }
-    Ok(())
+    ghost made: { IfSome (made_lines lines) (AreLinesOf arena.now solids.now) } by { Prim.hlevel props },
 }
 
 /// The result of a search that begins without exits and leaves some.
@@ -110,7 +69,28 @@ impl<'a> Finder<'a> {
             alloc,
             arena,
             solids,
-            lines: None,
+            lines: FinderLines::Unmade,
+            spread: Spread::new(alloc),
+        }
+    }
+
+    /// A finder for tasks over the arena of a floor with these solids, whose lines are lent to it.
+    /// Takes no memory.
+    pub fn with_lines(
+        alloc: Global,
+        arena: &'a LineArena,
+        solids: &'a [Solid],
+        lines: &'a Lines,
+    ) -> Finder<'a>
+        requires { AreLinesOf arena.now solids.now lines.now }
+        ensures arena { result.arena.now ≡ arena.now }
+        ensures solids { result.solids.now ≡ solids.now }
+    {
+        Finder {
+            alloc,
+            arena,
+            solids,
+            lines: FinderLines::Lent(lines),
             spread: Spread::new(alloc),
         }
     }
@@ -127,8 +107,8 @@ impl<'a> Finder<'a> {
         ensures solids { self.new.solids.now ≡ self.old.solids.now }
     {
         tally.rise();
-        make_lines(self.alloc, self.arena, self.solids, &mut self.lines)?;
-        let Some(lines) = &self.lines else {
+        self.lines.make(self.alloc, self.arena, self.solids)?;
+        let Some(lines) = self.lines.made() else {
             unreachable!()
         };
         let answer = search(

@@ -5,7 +5,9 @@
 
 mod finder;
 mod follow;
+mod lines;
 mod tally;
 
 pub use finder::{Finder, find_first};
+pub use lines::Lines;
 pub use tally::Tally;

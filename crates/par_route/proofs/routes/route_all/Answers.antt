@@ -1,48 +1,7 @@
--- All pieces, searched side by side, are all tasks.
-use Rattle.std.proofs.Common.{rules, ◌≡◌, ◌∙◌, All, IsOk, length}
-use Rattle.std.specs.List.{AllZip, flat_map, sum_by}
-use Rattle.line_arena.specs.Count.{counted_by}
-use Rattle.par_route.specs.declared.pieces.Piece.{Piece}
-use Rattle.par_route.specs.Pieces.{answers_in, searches_in}
-use Rattle.par_route.specs.Routes.{AreAnswers, MayBeSearched}
-use Rattle.par_route.proofs.Cutting.{All-pieces}
-use Rattle.par_route.proofs.Joining.{Fits, IfOk-both, counted_part, joined_answers, joined_searches}
-use Rattle.par_route.proofs.Zips.{All-read, zip_from_places}
+-- Where there is a task, its floor's solids lie on the sheet.
+use Rattle.std.proofs.Common.{rules}
+use Rattle.par_route.proofs.Sheet.{solids_on_sheet}
 use Rattle.par_route.proofs.routes.route_all.Goals as goal
-use Rattle.par_route.proofs.routes.route_all.Given as given
 
-pub map_vec-requires-after_bounds : goal.map_vec-requires-after_bounds
-map_vec-requires-after_bounds g c κs within i x lt at =
-    let P = MayBeSearched c.args.arena.now c.args.solids.now in
-    let cut = c.in_ok-pieces.ensures.cut in
-    let each : All (λ p. All P p.tasks.now) c.in_ok-pieces.pieces.items = All-pieces P c.in_ok-pieces.pieces.items (rw cut.tasks c.requires.tasks) in
-    (All-read (λ (p : Piece). All P p.tasks.now) c.in_ok-pieces.pieces.items i x lt at each, record { shared = c.type_bounds.sync-G.shared })
-
--- each piece is searched
-fit : (g : given.Over) (c : goal.After-join g) → AllZip (Fits c.args.solids.now) c.in_ok-pieces.pieces.items c.in_ok-searched.searched.items
-fit g c =
-    let same : length c.in_ok-searched.searched.items ≡ length c.in_ok-pieces.pieces.items = search rules in
-    zip_from_places (Fits c.args.solids.now) c.in_ok-pieces.pieces.items c.in_ok-searched.searched.items same (λ i d e lt.
-    let job = (c.in_ok-searched.ensures.each i e lt).1 in
-    rw (job.job_is d) job.call.met)
-
-pub returns-clause-answers : goal.returns-clause-answers
-returns-clause-answers g c =
-    let pieces = c.in_ok-pieces.pieces.items in
-    let results = c.in_ok-searched.searched.items in
-    let cut = c.in_ok-pieces.ensures.cut in
-    IfOk-both c.join.result (λ _. All (λ r. IsOk r) results) (λ a. a.items ≡ flat_map answers_in results) (λ a. AreAnswers c.args.solids.now c.args.tasks.now a.items)
-    (λ a ok at. rw (at, ← cut.tasks) (joined_answers c.args.solids.now pieces results (fit g c) ok))
-    c.join.ensures.memory c.join.ensures.answers
-
-pub returns-clause-tally : goal.returns-clause-tally
-returns-clause-tally g c =
-    let pieces = c.in_ok-pieces.pieces.items in
-    let results = c.in_ok-searched.searched.items in
-    let cut = c.in_ok-pieces.ensures.cut in
-    let before = c.in_ok-pieces.ensures.tally in
-    let idle : All (λ p. p.tally ≡ 0) pieces = cut.idle in
-    IfOk-both c.join.result (λ _. All (λ r. IsOk r) results) (λ _. c.join.new.tally ≡ counted_by (counted_by (sum_by searches_in results) 0) c.args.tally.now)
-    (λ _. c.join.new.tally ≡ counted_by (length c.args.tasks.now) c.args.tally.now)
-    (λ _ ok at. at ∙ (counted_part (sum_by searches_in results) c.args.tally.now ∙ (rw (← cut.tasks) (joined_searches c.args.solids.now pieces results c.args.tally.now (fit g c) ok idle))))
-    c.join.ensures.memory (rw (← before) c.join.ensures.tally)
+pub new-requires-2 : goal.new-requires-2
+new-requires-2 g c = solids_on_sheet c.args.arena.now c.args.solids.now c.args.tasks.now (search rules) c.requires.tasks

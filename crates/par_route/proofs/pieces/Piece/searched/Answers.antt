@@ -9,7 +9,7 @@ use Rattle.par_route.proofs.pieces.Piece.searched.Goals as goal
 pub find-requires : goal.find-requires
 find-requires c =
     rw (c.loop-task.invariant.0, c.loop-task.invariant.1)
-    (All-read (MayBeSearched c.args.arena.now c.args.solids.now) c.args.self.tasks.now c.loop-task.task-index c.task-item.result c.loop-task-test.true c.task-item.is c.requires)
+    (All-read (MayBeSearched c.args.arena.now c.args.solids.now) c.args.self.tasks.now c.loop-task.task-index c.task-item.result c.loop-task-test.true c.task-item.is c.requires.tasks)
 
 pub loop-task-preserved : goal.loop-task-preserved
 loop-task-preserved c =

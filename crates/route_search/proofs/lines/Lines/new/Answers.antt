@@ -2,7 +2,7 @@
 use Rattle.std.proofs.Common.{subst}
 use Rattle.side_touches.specs.Touches.{AreTouches}
 use Rattle.route_search.proofs.Matching.{lists_match}
-use Rattle.route_search.proofs.finder.Lines.new.Goals as goal
+use Rattle.route_search.proofs.lines.Lines.new.Goals as goal
 
 pub returns : goal.returns
 returns c = record {
