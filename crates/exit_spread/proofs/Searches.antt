@@ -50,8 +50,8 @@ no_exit t clear k l d = none_both (nat_lt l t.lines) (exits_in (slice_get t.rows
 module _ (p : Problem) (line_of : ℕ → Way → ℕ) where
   pub searching_begins : (s : Spread) → AreNone s → HasRooms p line_of s → IsSearching p line_of s None None
   searching_begins s none rooms = record {
-    kept = λ k c d at here. none_all (kept_in s.rows k (line_of c (way_of d)) d) (no_exit s.rows none.rows k (line_of c (way_of d)) d) (IsKeptOf p line_of k (line_of c (way_of d)) d);
-    handed = λ k c d at e here has but. absurd (none_has (kept_in s.rows k (line_of c (way_of d)) d) (no_exit s.rows none.rows k (line_of c (way_of d)) d) e has);
+    kept = λ k c d at here. (let l = line_of c (way_of d) in none_all (kept_in s.rows k l d) (no_exit s.rows none.rows k l d) (IsKeptOf p line_of k l d));
+    handed = λ k c d at e here has but. (let l = line_of c (way_of d) in absurd (none_has (kept_in s.rows k l d) (no_exit s.rows none.rows k l d) e has));
     candidates = none_all (heap_items s.queue.heap) none.queue (λ c. IsCandidate p line_of c.0);
     best = record { most = omega (arith, none.best); of_walk = inl none.best };
     marked = record {

@@ -24,7 +24,8 @@ loop-checkpoint-preserved c =
       | then-lies_up_to w ↦ subst (λ o. All (upto o) (take (i + 1) via)) (sym w.last-is)
           (All-more (upto w.greater-last.result) via i no_point c.loop-checkpoint-test.true
           (All-weaker (upto last) (upto w.greater-last.result) (λ r old lies. w.greater-last.ensures.first (reach h r) (old lies)) (take i via) c.loop-checkpoint.invariant)
-          (λ lies. w.greater-last.ensures.second (reach h here) (let reached : w.reach.result ≡ reach h here = w.reach.ensures.value in omega (arith, ints, reached))))
+          (λ lies. w.greater-last.ensures.second (reach h here)
+          (let reached : w.reach.result ≡ reach h here = w.reach.ensures.value in omega (arith, ints, reached))))
       | else-lies_up_to w ↦ subst (λ o. All (upto o) (take (i + 1) via)) (sym w.last-is)
           (All-more (upto last) via i no_point c.loop-checkpoint-test.true c.loop-checkpoint.invariant
           (λ lies. absurd (true≢false (sym (c.lies_up_to.ensures.1 lies) ∙ w.if-lies_up_to.false))))

@@ -25,6 +25,7 @@ returns-clause-some c =
     ∙ sym (to_z-of_z w64 c.across.result a_fits) ∙ ap (to_z w64) c.if-across.false ∙ to_z-of_z w64 c.across-2.result b_fits
     ∙ c.across-2.ensures ∙ ap (λ w. across w r.end) c.way-2.ensures in
     let z = reach r.heading at in
-    let is : c.counted_at.result ≡ counted_at r.kept z = c.counted_at.ensures ∙ ap (counted_at r.kept) (to_z-of_z w64 c.reach.result z_fits ∙ c.reach.ensures.value) in
+    let is : c.counted_at.result ≡ counted_at r.kept z =
+    c.counted_at.ensures ∙ ap (counted_at r.kept) (to_z-of_z w64 c.reach.result z_fits ∙ c.reach.ensures.value) in
     both c.counted_at.result r.kept z _ same
     (subst (λ o. IfSome o (λ v. CountsAt r.kept z × (v ≡ ahead_at r.kept z))) (sym is) (counted r.kept z))

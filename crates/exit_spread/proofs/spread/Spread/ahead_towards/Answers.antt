@@ -55,8 +55,8 @@ turned-requires-clause-ahead c =
     let within = crossing_within p x.crossing c.point-at.result c.requires.ready c.point-at.ensures in
     let small = All-weaker (IsKeptOf p n x.stage (n x.crossing (way_of c.args.dir)) c.args.dir) IsSmallKept (λ e h. kept_small p n c.requires.ready x.stage (n x.crossing (way_of c.args.dir)) c.args.dir e h)
     (kept_in c.args.self.now.rows x.stage (n x.crossing (way_of c.args.dir)) c.args.dir) (c.requires.searching.kept x.stage x.crossing c.args.dir c.point-at.result c.point-at.ensures) in
-    least_small (kept_in c.args.self.now.rows x.stage (n x.crossing (way_of c.args.dir)) c.args.dir) (reach c.args.dir c.point-at.result) c.in_ok-ahead.ahead small
-    (reach_within c.args.dir c.point-at.result within) (sym (along (goal.at.turned-requires-clause-ahead c).After-ahead_along) ∙ c.in_ok-ahead.was)
+    least_small (kept_in c.args.self.now.rows x.stage (n x.crossing (way_of c.args.dir)) c.args.dir) (reach c.args.dir c.point-at.result)
+    c.in_ok-ahead.ahead small (reach_within c.args.dir c.point-at.result within) (sym (along (goal.at.turned-requires-clause-ahead c).After-ahead_along) ∙ c.in_ok-ahead.was)
 
 pub turned-requires-clause-within : goal.turned-requires-clause-within
 turned-requires-clause-within c = crossing_within c.args.problem.now c.args.place.now.crossing c.point-at.result c.requires.ready c.point-at.ensures

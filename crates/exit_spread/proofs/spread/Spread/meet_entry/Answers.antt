@@ -37,7 +37,8 @@ counts c =
     let r = c.args.run.now in
     let fits : FitsSigned w64 c.reach.result = search rules in
     let there = counted_some r.kept (reach r.heading e.port) c.in-Some.ahead
-    (sym (c.counted_at.ensures ∙ ap (λ z. Rattle.exit_rows.specs.Exits.counted_at r.kept z) (to_z-of_z w64 c.reach.result fits ∙ c.reach.ensures.value)) ∙ c.in-Some.is) in (
+    (sym (c.counted_at.ensures ∙ ap (λ z. Rattle.exit_rows.specs.Exits.counted_at r.kept z)
+    (to_z-of_z w64 c.reach.result fits ∙ c.reach.ensures.value)) ∙ c.in-Some.is) in (
       record {
         here = entry_here c.args.problem.now c.requires.ready e c.requires.entry;
         on = sym (c.line_of-line.ensures ∙ (λ i. number_of c.args.lists.now (c.index-number.ensures.number i) (c.way.ensures i))) ∙ c.if-line-run.false;

@@ -100,7 +100,9 @@ run_is : (c : After-stop-from) → ◌≡◌ {A = Run}
 run_is c =
     let x = c.args.exit.now in
     let from = stored c.stop-from.result c.stop-from.result refl (may_run c).within in
-    let at = stored (to_z w64 (of_z w64 c.reach.result)) _ (stored c.reach.result _ c.reach.ensures.value c.reach.ensures.within) (subst IsCoordinate (sym (stored c.reach.result c.reach.result refl c.reach.ensures.within)) c.reach.ensures.within) in
+    let at = stored (to_z w64 (of_z w64 c.reach.result)) _
+    (stored c.reach.result _ c.reach.ensures.value c.reach.ensures.within)
+    (subst IsCoordinate (sym (stored c.reach.result c.reach.result refl c.reach.ensures.within)) c.reach.ensures.within) in
     (λ i. record { stage = c.args.stage; line = x.line; heading = x.place.heading; end = c.args.at; kept = record { crossing = x.place.crossing; from = from i; at = at i; next = x.next; ahead = x.ahead } })
 
 pub hand_on-requires-clause-run : goal.hand_on-requires-clause-run
