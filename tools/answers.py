@@ -19,8 +19,8 @@ Row = collections.namedtuple('Row', 'call answer when after')
 STATUSES = {'Status': ('Done', 'IsOutputWritten result', ('NoMemory', 'WriteFault'))}
 # Other results that say what failed, with the word for that.
 OTHERS = {'ExitCode': 'a code other than 0', 'Said': 'a line of refusal', '(Said, bool)': 'a line of refusal'}
-# The end of the name of an answer that is always allowed.
-MEMORY = 'Memory'
+# The end of the name of an answer that is always allowed, and a failure of the outside that is.
+MEMORY, OUTSIDE = 'Memory', 'ReadFailed'
 ANY_TIME, ONLY_READS = 'any time', 'only reads'
 ITEM = re.compile(r'( *)(pub )?((?:const |unsafe )?fn) (\w+)')
 CLAUSE = re.compile(r'^ *ensures\*?(?: (\w+))? \{ ?(.*)', re.S)
@@ -274,7 +274,7 @@ class Answers:
         variants = Variants(call, error, self.crates.enums.get(error, []))
         if any(says_when(text, OF_OK) and not variants.in_text(text) for _, text in call.clauses) or not variants.all:
             # (a clause speaks of all of them)
-            yield self.row(call, f'`{error}`', OF_OK)
+            yield self.row(call, f'`{error}`', OF_OK, ANY_TIME if error == OUTSIDE else '')
             return
         for variant in variants.all:
             yield self.of_variant(call, error, variants, variant, call.clauses)

@@ -1,6 +1,6 @@
 //! Reading and writing in whole thousandths.
 
-ghost use Rattle.std.specs.Prelude.{◌≡◌, ◌++◌, IfOk, OnOk, string_bytes};
+ghost use Rattle.std.specs.Prelude.{◌≡◌, ◌++◌, IfOk, OnErr, OnOk, string_bytes};
 ghost use Rattle.fixed_milli.specs.Milli.{Reads, milli_text, size_text};
 ghost use Rattle.fixed_milli.specs.Value.{read};
 
@@ -49,11 +49,13 @@ pub fn read_milli(lexeme: &[u8]) -> Result<i64, MilliFault>
 /// Appends `size` thousandths as a number of units: the whole units without leading zeros, a point
 /// and three digits. Accepts any number of 64 bits, more than a coordinate can be.
 ///
-/// When out of memory, the contents of `text` are unspecified.
+/// The number is written aside and then appended. The only error is out of memory, and `text` is then as it was.
 pub fn push_milli(text: &mut String, size: u64) -> Result<(), AllocError>
-    ensures { OnOk result (string_bytes text.new ≡ string_bytes text.old ++ size_text size) }
+    ensures ok { OnOk result (string_bytes text.new ≡ string_bytes text.old ++ size_text size) }
+    ensures err { OnErr result (string_bytes text.new ≡ string_bytes text.old) }
 {
-    write!(text, "{}.{:03}", size / 1000, size % 1000)
+    let number = format!(in *text.allocator(); "{}.{:03}", size / 1000, size % 1000)?;
+    text.push_str(&number)
 }
 
 /// Writes thousandths as a number of units: `-` exactly if the value is negative, and then what

@@ -1,6 +1,7 @@
 -- A line that is read byte by byte.
 use Rattle.std.proofs.Common.{◌≡◌, ℕ, zero, suc, ◌<◌, ◌≤◌, Bool, true, false, List, [], ◌∷◌, ◌++◌, length, take, Option, None, Some, refl, sym, subst, ap, ◌∙◌, arith, length-append, append_assoc}
 use Rattle.std.specs.Prelude.{IfSome, if◌then◌else◌}
+use Rattle.std.specs.Io.KnownBytes.{Consumes}
 use Rattle.std.proofs.lemmas.List.{take-append-le, length-take-le}
 use Rattle.host_edge.specs.Lines.{first_line, after_line, IsNextByte}
 
@@ -98,3 +99,15 @@ reads_on limit byte (Some bytes) before after line more long now other h next is
       is_left = step.2;
       so_far = seen_on limit byte bytes h.seen step.0 line more long now other (subst (λ (l : List ℕ). IsSeen limit bytes h.seen l line long) step.1 h.so_far) is full free;
     }
+
+-- what was seen was taken, and the next byte, if there is one
+pub taken_with_next : (limit : ℕ) (o before after : Option (List ℕ)) (line : List ℕ) (long : Bool) (next : Option ℕ) → IfSome o (λ bytes. IsReading limit bytes before line long)
+    → IfSome before (λ bytes. IsNextByte bytes after next) → (taken : List ℕ) × Consumes o after taken
+taken_with_next limit None before after line long next h is_next = ([], tt)
+taken_with_next limit (Some bytes) before after line long None h is_next =
+    let step : IsNextByte h.left after None = subst (λ o. IfSome o (λ bytes. IsNextByte bytes after None)) h.is_left is_next in
+    (h.seen, subst (λ o. Consumes (Some bytes) o h.seen) (sym step.1) (h.so_far.whole ∙ ap (λ l. h.seen ++ l) step.0))
+taken_with_next limit (Some bytes) before after line long (Some byte) h is_next =
+    let step : IsNextByte h.left after (Some byte) = subst (λ o. IfSome o (λ bytes. IsNextByte bytes after (Some byte))) h.is_left is_next in
+    let taken = h.seen ++ byte ∷ [] in
+    (taken, subst (λ o. Consumes (Some bytes) o taken) (sym step.2) (h.so_far.whole ∙ ap (λ l. h.seen ++ l) step.1 ∙ sym (append_assoc h.seen (byte ∷ []) step.0)))

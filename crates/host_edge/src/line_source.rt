@@ -1,5 +1,6 @@
 //! What contracts ask of input that is read line by line.
 ghost use Rattle.std.specs.Prelude.{◌≡◌, ◌≤◌, ℕ, List, Option, IfOk, IfSome, vec_capacity};
+ghost use Rattle.std.specs.Io.KnownBytes.{Consumes};
 ghost use Rattle.host_edge.specs.Lines.{IsLineRead};
 
 use thiserror::Error;
@@ -29,10 +30,14 @@ pub trait LineSource {
 
     /// Reads the next line into the buffer, in place of what stands there, and answers once the line has ended.
     ///
-    /// The limit is in bytes, and the buffer has room for them. After an error a part of a line may be lost.
+    /// The limit is in bytes, and the buffer has room for them. The error is `ReadFailed`, which may come at any time.
+    /// Bytes that were read before it are lost, and the next read goes on after them.
     fn next_line(&mut self, line: &mut Vec<u8>, limit: usize) -> Result<LineRead, ReadFailed>
         requires { limit ≤ vec_capacity line.old }
         ensures read { IfSome (rest self.old) (λ bytes.
             IfOk result (λ read. IsLineRead limit bytes read line.new.items (rest self.new))) }
-        ensures room { vec_capacity line.new ≡ vec_capacity line.old };
+        ensures room { vec_capacity line.new ≡ vec_capacity line.old }
+
+        // Whatever the answer is, bytes are only taken from the front.
+        ensures taken { (bytes : List ℕ) × Consumes (rest self.old) (rest self.new) bytes };
 }

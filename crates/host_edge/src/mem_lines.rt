@@ -1,5 +1,5 @@
 //! Input in memory.
-ghost use Rattle.std.specs.Prelude.{◌≡◌, ◌≤◌, IfOk, IsErr, IsTrue, Some, vec_capacity};
+ghost use Rattle.std.specs.Prelude.{◌≡◌, ◌≤◌, ℕ, List, ◌++◌, IfOk, IsErr, IsTrue, Some, vec_capacity};
 ghost use Rattle.host_edge.specs.Count.{is_listed, next_count};
 ghost use Rattle.host_edge.specs.Lines.{IsLineRead};
 
@@ -54,6 +54,7 @@ impl LineSource for MemLines {
         ensures read { IfOk result (λ read.
             IsLineRead limit self.old.bytes read line.new.items (Some self.new.bytes)) }
         ensures room { vec_capacity line.new ≡ vec_capacity line.old }
+        ensures taken { (bytes : List ℕ) × (self.old.bytes ≡ bytes ++ self.new.bytes) }
 
         // A call fails where it is listed, and then it reads nothing.
         ensures counted { self.new.calls ≡ next_count self.old.calls }

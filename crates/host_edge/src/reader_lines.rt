@@ -1,5 +1,7 @@
 //! The lines of a reader, such as standard input.
-ghost use Rattle.std.specs.Prelude.{◌≡◌, ◌<◌, ◌≤◌, ◌++◌, ◌∷◌, [], length, true, false, if◌then◌else◌, IfOk, IfSome, vec_capacity};
+ghost use Rattle.std.specs.Prelude.{◌≡◌, ℕ, ◌<◌, ◌≤◌, List, ◌++◌, ◌∷◌, [], length, true, false, if◌then◌else◌};
+ghost use Rattle.std.specs.Prelude.{IfOk, IfSome, OnErr, vec_capacity};
+ghost use Rattle.std.specs.Io.KnownBytes.{Consumes, Keeps};
 ghost use Rattle.host_edge.specs.Lines.{IsLineRead, IsNextByte};
 
 use crate::line_source::{LineRead, LineSource, ReadFailed};
@@ -15,8 +17,9 @@ pub struct ReaderLines<R: Read> {
 
 /// The next byte, or `None` at the end of the input.
 fn next_byte<R: Read>(reader: &mut R) -> Result<Option<u8>, ReadFailed>
-    ensures { IfSome (R.remaining reader.old) (λ bytes.
+    ensures ok { IfSome (R.remaining reader.old) (λ bytes.
         IfOk result (IsNextByte bytes (R.remaining reader.new))) }
+    ensures err { OnErr result (Keeps (R.remaining reader.old) (R.remaining reader.new)) }
 {
     let mut byte = [0];
     for _ in 0..u64::MAX {
@@ -67,6 +70,7 @@ pub(crate) fn read_line<R: Read>(
     ensures read { IfSome (R.remaining reader.old) (λ bytes.
         IfOk result (λ read. IsLineRead limit bytes read line.new.items (R.remaining reader.new))) }
     ensures room { vec_capacity line.new ≡ vec_capacity line.old }
+    ensures taken { (bytes : List ℕ) × Consumes (R.remaining reader.old) (R.remaining reader.new) bytes }
 {
     line.clear();
     let mut is_long = false;

@@ -1,5 +1,5 @@
 //! The lines for input that is refused.
-ghost use Rattle.std.specs.Prelude.{◌≡◌, ◌++◌, OnOk};
+ghost use Rattle.std.specs.Prelude.{◌≡◌, ◌++◌, OnErr, OnOk};
 ghost use Rattle.report_text.specs.Faults.{fault_line, fault_text, gml_fault_line, gml_fault_text, part_text, place_text};
 
 use crate::number::push_numbered;
@@ -9,12 +9,14 @@ use std::alloc::AllocError;
 
 /// Appends the line for bytes that are not valid GML.
 pub fn push_gml_fault_line(out: &mut Vec<u8>, fault: &GmlFault) -> Result<(), AllocError>
-    ensures { OnOk result (out.new.items ≡ out.old.items ++ gml_fault_line fault.now) }
+    ensures ok { OnOk result (out.new.items ≡ out.old.items ++ gml_fault_line fault.now) }
+    ensures err { OnErr result (out.new.items ≡ out.old.items) }
 {
-    out.extend_from_slice(b"diagram: ")?;
-    push_gml_fault(out, fault)?;
-    out.push(b'\n')?;
-    Ok(())
+    let mut text = Vec::new(*out.allocator());
+    text.extend_from_slice(b"diagram: ")?;
+    push_gml_fault(&mut text, fault)?;
+    text.push(b'\n')?;
+    out.extend_from_slice(&text)
 }
 
 fn push_gml_fault(out: &mut Vec<u8>, fault: &GmlFault) -> Result<(), AllocError>
@@ -30,12 +32,14 @@ fn push_gml_fault(out: &mut Vec<u8>, fault: &GmlFault) -> Result<(), AllocError>
 /// Appends the line for a document that is not a valid diagram, or that has a line which cannot be
 /// read.
 pub fn push_fault_line(out: &mut Vec<u8>, fault: &DiagramFault) -> Result<(), AllocError>
-    ensures { OnOk result (out.new.items ≡ out.old.items ++ fault_line fault.now) }
+    ensures ok { OnOk result (out.new.items ≡ out.old.items ++ fault_line fault.now) }
+    ensures err { OnErr result (out.new.items ≡ out.old.items) }
 {
-    out.extend_from_slice(b"diagram: ")?;
-    push_fault(out, fault)?;
-    out.push(b'\n')?;
-    Ok(())
+    let mut text = Vec::new(*out.allocator());
+    text.extend_from_slice(b"diagram: ")?;
+    push_fault(&mut text, fault)?;
+    text.push(b'\n')?;
+    out.extend_from_slice(&text)
 }
 
 fn push_fault(out: &mut Vec<u8>, fault: &DiagramFault) -> Result<(), AllocError>

@@ -1,5 +1,5 @@
 //! The result of checking the line that a diagram has for an edge.
-ghost use Rattle.std.specs.Prelude.{◌≡◌, ◌++◌, OnOk, Err};
+ghost use Rattle.std.specs.Prelude.{◌≡◌, ◌++◌, OnErr, OnOk, Err};
 ghost use Rattle.route_check.specs.declared.verdict.Breach.TheVariants.{Hits};
 ghost use Rattle.report_text.specs.Findings.{finding_line, finding_lines, finding_text, verdict_text};
 
@@ -27,12 +27,14 @@ pub struct EdgeFinding {
 
 /// Appends one line for each edge.
 pub fn push_finding_lines(out: &mut Vec<u8>, findings: &[EdgeFinding]) -> Result<(), AllocError>
-    ensures { OnOk result (out.new.items ≡ out.old.items ++ finding_lines findings.now) }
+    ensures ok { OnOk result (out.new.items ≡ out.old.items ++ finding_lines findings.now) }
+    ensures err { OnErr result (out.new.items ≡ out.old.items) }
 {
+    let mut text = Vec::new(*out.allocator());
     for finding in findings {
-        push_finding_line(out, finding)?;
+        push_finding_line(&mut text, finding)?;
     }
-    Ok(())
+    out.extend_from_slice(&text)
 }
 
 fn push_finding_line(out: &mut Vec<u8>, finding: &EdgeFinding) -> Result<(), AllocError>

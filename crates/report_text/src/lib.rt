@@ -1,8 +1,8 @@
 //! The lines of outputs, each appended to a text.
 //!
 //! Costs are whole thousandths of a GML unit, and are written in units with three digits after the
-//! decimal point. Each call appends its line, or lines, to `out`. The only error is out of memory;
-//! `out` then has its former contents, perhaps followed by a part of the line.
+//! decimal point. Each call appends its line, or lines, to `out`: it writes them to a text of its own
+//! and appends that at the end. The only error is out of memory, and `out` is then as it was.
 #![tactic(auto)]
 
 mod audit;

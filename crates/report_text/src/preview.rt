@@ -1,5 +1,5 @@
 //! The lines of proposed transactions.
-ghost use Rattle.std.specs.Prelude.{◌≡◌, ◌++◌, OnOk};
+ghost use Rattle.std.specs.Prelude.{◌≡◌, ◌++◌, OnErr, OnOk};
 ghost use Rattle.report_text.specs.Previews.{preview_edge_line, preview_edge_lines, preview_lines, refused_preview_line};
 
 use crate::number::push_numbered;
@@ -16,12 +16,15 @@ pub fn push_preview_lines(
     searched: u64,
     edges: &[EdgeRouted],
 ) -> Result<(), AllocError>
-    ensures { OnOk result (out.new.items ≡ out.old.items ++ preview_lines number searched edges.now) }
+    ensures ok { OnOk result (out.new.items ≡ out.old.items ++ preview_lines number searched edges.now) }
+    ensures err { OnErr result (out.new.items ≡ out.old.items) }
 {
-    push_numbered(out, b"preview ", number)?;
-    push_numbered(out, b": searched ", searched)?;
-    out.push(b'\n')?;
-    push_preview_edges(out, number, edges)
+    let mut text = Vec::new(*out.allocator());
+    push_numbered(&mut text, b"preview ", number)?;
+    push_numbered(&mut text, b": searched ", searched)?;
+    text.push(b'\n')?;
+    push_preview_edges(&mut text, number, edges)?;
+    out.extend_from_slice(&text)
 }
 
 /// Appends one line for each edge.
@@ -56,12 +59,14 @@ pub fn push_refused_preview(
     place: u32,
     fault: &SceneFault,
 ) -> Result<(), AllocError>
-    ensures { OnOk result (out.new.items ≡ out.old.items ++ refused_preview_line number place fault.now) }
+    ensures ok { OnOk result (out.new.items ≡ out.old.items ++ refused_preview_line number place fault.now) }
+    ensures err { OnErr result (out.new.items ≡ out.old.items) }
 {
-    push_numbered(out, b"preview ", number)?;
-    out.extend_from_slice(b": ")?;
-    push_edit(out, fault)?;
-    push_numbered(out, b" at edit ", u64::from(place))?;
-    out.push(b'\n')?;
-    Ok(())
+    let mut text = Vec::new(*out.allocator());
+    push_numbered(&mut text, b"preview ", number)?;
+    text.extend_from_slice(b": ")?;
+    push_edit(&mut text, fault)?;
+    push_numbered(&mut text, b" at edit ", u64::from(place))?;
+    text.push(b'\n')?;
+    out.extend_from_slice(&text)
 }

@@ -1,5 +1,5 @@
 //! Why a line of a script, or its end, is refused.
-ghost use Rattle.std.specs.Prelude.{◌≡◌, ◌++◌, OnOk, decimal};
+ghost use Rattle.std.specs.Prelude.{◌≡◌, ◌++◌, OnErr, OnOk, decimal};
 ghost use Rattle.std.specs.Fmt.{signed_decimal};
 ghost use Rattle.report_text.specs.Refusals.{command_text, edit_text, refusal_text};
 
@@ -20,13 +20,16 @@ pub enum Refusal {
 
 /// Appends a refusal's code, its name and its value, if it has one.
 pub fn push_refusal(out: &mut Vec<u8>, why: &Refusal) -> Result<(), AllocError>
-    ensures { OnOk result (out.new.items ≡ out.old.items ++ refusal_text why.now) }
+    ensures ok { OnOk result (out.new.items ≡ out.old.items ++ refusal_text why.now) }
+    ensures err { OnErr result (out.new.items ≡ out.old.items) }
 {
+    let mut text = Vec::new(*out.allocator());
     match why {
-        Refusal::Syntax => out.extend_from_slice(b"X1 Syntax"),
-        Refusal::Command(fault) => push_command(out, fault),
-        Refusal::Unfinished => out.extend_from_slice(b"X16 Unfinished"),
+        Refusal::Syntax => text.extend_from_slice(b"X1 Syntax")?,
+        Refusal::Command(fault) => push_command(&mut text, fault)?,
+        Refusal::Unfinished => text.extend_from_slice(b"X16 Unfinished")?,
     }
+    out.extend_from_slice(&text)
 }
 
 fn push_command(out: &mut Vec<u8>, fault: &SessionFault) -> Result<(), AllocError>

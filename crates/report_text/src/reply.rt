@@ -1,6 +1,6 @@
 //! The lines in the report of a replay for the opening, for each command and for the end of the
 //! script.
-ghost use Rattle.std.specs.Prelude.{◌≡◌, ◌++◌, OnOk, true};
+ghost use Rattle.std.specs.Prelude.{◌≡◌, ◌++◌, OnErr, OnOk, true};
 ghost use Rattle.report_text.specs.Replies.{end_line, open_line, reply_lines, reply_text};
 
 use crate::number::push_numbered;
@@ -28,14 +28,16 @@ pub struct LineReply {
 /// Appends the line of the opening, which searched `searched` connectors, if `count` asks for the
 /// numbers of searches.
 pub fn push_open_line(out: &mut Vec<u8>, count: bool, searched: u64) -> Result<(), AllocError>
-    ensures { OnOk result (out.new.items ≡ out.old.items ++ open_line count searched) }
+    ensures ok { OnOk result (out.new.items ≡ out.old.items ++ open_line count searched) }
+    ensures err { OnErr result (out.new.items ≡ out.old.items) }
 {
     if !count {
         return Ok(());
     }
-    push_numbered(out, b"# open: searched ", searched)?;
-    out.push(b'\n')?;
-    Ok(())
+    let mut text = Vec::new(*out.allocator());
+    push_numbered(&mut text, b"# open: searched ", searched)?;
+    text.push(b'\n')?;
+    out.extend_from_slice(&text)
 }
 
 /// Appends the lines of the commands that were refused and, if `count`, of those that searched.
@@ -44,12 +46,14 @@ pub fn push_reply_lines(
     count: bool,
     replies: &[LineReply],
 ) -> Result<(), AllocError>
-    ensures { OnOk result (out.new.items ≡ out.old.items ++ reply_lines count replies.now) }
+    ensures ok { OnOk result (out.new.items ≡ out.old.items ++ reply_lines count replies.now) }
+    ensures err { OnErr result (out.new.items ≡ out.old.items) }
 {
+    let mut text = Vec::new(*out.allocator());
     for reply in replies {
-        push_reply(out, count, reply)?;
+        push_reply(&mut text, count, reply)?;
     }
-    Ok(())
+    out.extend_from_slice(&text)
 }
 
 fn push_reply(out: &mut Vec<u8>, count: bool, reply: &LineReply) -> Result<(), AllocError>
@@ -84,13 +88,15 @@ fn push_refused(out: &mut Vec<u8>, line: u64, why: &Refusal) -> Result<(), Alloc
 
 /// Appends the line for a transaction that is still open at the end of the script, if there is one.
 pub fn push_end_line(out: &mut Vec<u8>, open_still: bool) -> Result<(), AllocError>
-    ensures { OnOk result (out.new.items ≡ out.old.items ++ end_line open_still) }
+    ensures ok { OnOk result (out.new.items ≡ out.old.items ++ end_line open_still) }
+    ensures err { OnErr result (out.new.items ≡ out.old.items) }
 {
     if !open_still {
         return Ok(());
     }
-    out.extend_from_slice(b"# end: ")?;
-    push_refusal(out, &Refusal::Unfinished)?;
-    out.push(b'\n')?;
-    Ok(())
+    let mut text = Vec::new(*out.allocator());
+    text.extend_from_slice(b"# end: ")?;
+    push_refusal(&mut text, &Refusal::Unfinished)?;
+    text.push(b'\n')?;
+    out.extend_from_slice(&text)
 }

@@ -1,5 +1,5 @@
 //! The lines in the report of a replay for the routes at its end.
-ghost use Rattle.std.specs.Prelude.{◌≡◌, ◌++◌, OnOk};
+ghost use Rattle.std.specs.Prelude.{◌≡◌, ◌++◌, OnErr, OnOk};
 ghost use Rattle.report_text.specs.Routed.{routed_line, routed_lines, routed_text};
 
 use crate::number::{push_cost, push_numbered};
@@ -25,12 +25,14 @@ pub struct EdgeRouted {
 
 /// Appends one line for each edge.
 pub fn push_routed_lines(out: &mut Vec<u8>, edges: &[EdgeRouted]) -> Result<(), AllocError>
-    ensures { OnOk result (out.new.items ≡ out.old.items ++ routed_lines edges.now) }
+    ensures ok { OnOk result (out.new.items ≡ out.old.items ++ routed_lines edges.now) }
+    ensures err { OnErr result (out.new.items ≡ out.old.items) }
 {
+    let mut text = Vec::new(*out.allocator());
     for edge in edges {
-        push_routed_line(out, edge)?;
+        push_routed_line(&mut text, edge)?;
     }
-    Ok(())
+    out.extend_from_slice(&text)
 }
 
 fn push_routed_line(out: &mut Vec<u8>, edge: &EdgeRouted) -> Result<(), AllocError>

@@ -1,5 +1,5 @@
 //! What is said of the paths that routes share, and of the crossings of lines.
-ghost use Rattle.std.specs.Prelude.{◌≡◌, ◌++◌, OnOk};
+ghost use Rattle.std.specs.Prelude.{◌≡◌, ◌++◌, OnErr, OnOk};
 ghost use Rattle.report_text.specs.Shared.{crossings_line, end_text, ends_text, runs_text};
 ghost use Rattle.report_text.specs.Shared.{shared_line, shared_lines, side_text, some_side_text};
 
@@ -9,12 +9,14 @@ use std::alloc::AllocError;
 
 /// Appends one line for each path.
 pub fn push_shared_lines(out: &mut Vec<u8>, paths: &[SharedPath]) -> Result<(), AllocError>
-    ensures { OnOk result (out.new.items ≡ out.old.items ++ shared_lines paths.now) }
+    ensures ok { OnOk result (out.new.items ≡ out.old.items ++ shared_lines paths.now) }
+    ensures err { OnErr result (out.new.items ≡ out.old.items) }
 {
+    let mut text = Vec::new(*out.allocator());
     for path in paths {
-        push_shared_line(out, path)?;
+        push_shared_line(&mut text, path)?;
     }
-    Ok(())
+    out.extend_from_slice(&text)
 }
 
 fn push_shared_line(out: &mut Vec<u8>, path: &SharedPath) -> Result<(), AllocError>
@@ -75,9 +77,11 @@ fn push_side(out: &mut Vec<u8>, side: Side) -> Result<(), AllocError>
 
 /// Appends the line on the number of crossings.
 pub fn push_crossings_line(out: &mut Vec<u8>, crossings: u64) -> Result<(), AllocError>
-    ensures { OnOk result (out.new.items ≡ out.old.items ++ crossings_line crossings) }
+    ensures ok { OnOk result (out.new.items ≡ out.old.items ++ crossings_line crossings) }
+    ensures err { OnErr result (out.new.items ≡ out.old.items) }
 {
-    push_numbered(out, b"crossings ", crossings)?;
-    out.push(b'\n')?;
-    Ok(())
+    let mut text = Vec::new(*out.allocator());
+    push_numbered(&mut text, b"crossings ", crossings)?;
+    text.push(b'\n')?;
+    out.extend_from_slice(&text)
 }
