@@ -55,7 +55,7 @@ pub enum DiagramFault {
     #[error("edge {place} has a bad weight")]
     BadWeight { place: u32 },
     /// Out of memory.
-    #[error("memory is wanting")]
+    #[error("out of memory")]
     Memory,
 }
 

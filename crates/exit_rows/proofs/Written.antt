@@ -177,7 +177,7 @@ AreMarkedFrom rows marks i = (k : ℕ) (d : Row) → slice_get rows k ≡ Some d
 
 -- ---- rooms
 
--- where there are rows for so many lines in so many stages, each of these lines has its rows
+-- where there are rows for all lines in all stages, each line has its rows in each stage
 pub has_row : (t : Rows) (lines stages k l : ℕ) → t.lines ≡ lines → stages * lines * 2 ≤ length t.rows.items → k < stages → l < lines → HasRow t k l
 has_row t lines stages k l same rows stage line =
     let fits : (k + 1) * lines ≤ stages * lines = mul-le-mul_right lines (omega (arith, stage)) in

@@ -108,7 +108,7 @@ impl Rows {
         Ok(())
     }
 
-    /// Makes room for so many lines in `stages` stages. No line keeps an exit. The only error is out
+    /// Makes room for `lines` lines in `stages` stages. No line keeps an exit. The only error is out
     /// of memory.
     pub fn fit(&mut self, alloc: Global, lines: usize, stages: usize) -> Result<(), AllocError>
         requires { IsClear self.old }

@@ -65,7 +65,7 @@ pub record IsSound (p : Problem) (line_of : ℕ → Way → ℕ) (s : Spread) : 
   pub candidates : All (λ c. IsCandidate p line_of c.0) (heap_items s.queue.heap)
   pub best : IsBest p s.best
 
--- the rows stayed, the best cost did not rise, and at most so many candidates were added
+-- the rows stayed, the best cost did not rise, and at most n candidates were added
 pub record Adds (p : Problem) (line_of : ℕ → Way → ℕ) (old new : Spread) (n : ℕ) : Type 0 where
   pub rows : new.rows ≡ old.rows
   pub best : new.best ≤ old.best

@@ -53,7 +53,7 @@ fn counts_after(next: Point, heading: Dir, at: Point) -> i64
     }
 }
 
-/// The checkpoint after so many.
+/// The checkpoint after the first `stage` ones.
 fn next_checkpoint(via: &[Point], stage: u32) -> Option<Point>
     ensures { result ≡ slice_get via.now stage }
 {

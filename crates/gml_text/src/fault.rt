@@ -12,6 +12,6 @@ pub enum GmlFault {
     #[error("the list at byte {at} is too deep")]
     TooDeep { at: u64 },
     /// Out of memory.
-    #[error("memory is wanting")]
+    #[error("out of memory")]
     Memory,
 }

@@ -17,7 +17,7 @@ struct Tied {
     corners: &'static [Corner],
 }
 
-const TIED: [Tied; 12] = [
+const TIED: [Tied; 15] = [
     // East: three stubs tie, and the one that ends first passes the port of another.
     Tied {
         asked: Asked {
@@ -234,6 +234,78 @@ const TIED: [Tied; 12] = [
         end: 2,
         cost: 14,
         corners: &[Corner(3, -2), Corner(3, -10)],
+    },
+    // South: a checkpoint twice at one point.
+    Tied {
+        asked: Asked {
+            starts: &[Stub(3, 4, West, 0, 2), Stub(3, 2, North, 4, 4)],
+            ends: &[
+                Stub(3, 9, North, 1, 2),
+                Stub(3, 9, West, 1, 2),
+                Stub(3, 11, North, 2, 0),
+            ],
+            via: &[(6, 4), (6, 4)],
+            penalty: 2,
+        },
+        start: 0,
+        end: 0,
+        cost: 27,
+        corners: &[
+            Corner(3, 4),
+            Corner(2, 4),
+            Corner(6, 4),
+            Corner(3, 4),
+            Corner(3, 9),
+        ],
+    },
+    // East: checkpoints at the port of an end, and then at that of the start.
+    Tied {
+        asked: Asked {
+            starts: &[Stub(3, 3, South, 1, 1)],
+            ends: &[
+                Stub(9, 3, West, 3, 4),
+                Stub(11, 3, West, 0, 2),
+                Stub(12, 3, West, 3, 1),
+            ],
+            via: &[(10, 3), (3, 5)],
+            penalty: 3,
+        },
+        start: 0,
+        end: 0,
+        cost: 54,
+        corners: &[
+            Corner(3, 3),
+            Corner(3, 5),
+            Corner(10, 5),
+            Corner(10, 3),
+            Corner(3, 3),
+            Corner(3, 5),
+            Corner(3, 3),
+            Corner(9, 3),
+        ],
+    },
+    // West: checkpoints on the lines of stubs, past the port of one and before that of another.
+    Tied {
+        asked: Asked {
+            starts: &[Stub(-1, 3, East, 0, 3), Stub(-4, 3, East, 3, 0)],
+            ends: &[
+                Stub(-12, 3, East, 2, 1),
+                Stub(-11, 3, East, 3, 2),
+                Stub(-7, 3, East, 3, 1),
+            ],
+            via: &[(-8, 3), (-2, 3)],
+            penalty: 3,
+        },
+        start: 0,
+        end: 2,
+        cost: 42,
+        corners: &[
+            Corner(-1, 3),
+            Corner(0, 3),
+            Corner(-8, 3),
+            Corner(-2, 3),
+            Corner(-7, 3),
+        ],
     },
 ];
 

@@ -146,7 +146,7 @@ module _ (nodes links : ℕ) (from to : ℕ → ℕ) (Open : ℕ → Type 0) (op
   leads_or m u v = some_below links (Goes m u v)
       (λ j. one_of (both (open_or j) (both (ℕ_discrete (from j) u) (ℕ_discrete (to j) v))) (both (int_lt (pos 0) (m j)) (both (ℕ_discrete (from j) v) (ℕ_discrete (to j) u))))
 
-  -- one unit can go from the start to the node over so many links at most
+  -- one unit can go from the start to the node over at most that number of links
   abbrev Comes : (ℕ → ℤ) → ℕ → ℕ → ℕ → Type 0
   Comes m s zero v = v ≡ s
   Comes m s (suc l) v = Comes m s l v ⊎ ((u : ℕ) × (u < nodes) × (Comes m s l u × Leads m u v))

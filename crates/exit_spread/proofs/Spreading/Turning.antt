@@ -1,4 +1,4 @@
--- Turns that cost too much are left out; and a line has at most so many stops.
+-- Turns that cost too much are left out; and no line has more stops than the bound that is counted with.
 use Rattle.std.proofs.Common.{◌≡◌, ◌⊎◌, ℕ, ℤ, ◌<◌, ◌≤◌, ◌<ℤ◌, ◌≤ℤ◌, Bool, true, false, List, [], get_or, length, ap, refl, inl, inr, arith}
 use Rattle.std.specs.Prelude.{int_lt, sum_by}
 use Rattle.std.proofs.lemmas.Bool.{cases_lt}
