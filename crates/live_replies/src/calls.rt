@@ -16,7 +16,6 @@ use scene_model::{Command, SessionFault};
 use scene_store::Scene;
 use std::alloc::{AllocError, Global};
 use std::thread::Threads;
-use visibility_graph::Graph;
 use walk_model::WrittenRoute;
 
 /// Makes the call of a command, which is none for a line that has no form.
@@ -65,35 +64,6 @@ pub(crate) fn call<R: Threads + Sync, G: Gate>(
     answer
 }
 
-/// The right answers of the working scene, from those of the present scene.
-fn working_book<R: Threads + Sync, G: Gate>(
-    rt: &R,
-    alloc: Global,
-    session: &Session,
-    working: &Scene,
-    workers: u32,
-    gate: &G,
-) -> Result<Book, AllocError>
-    requires some { 1 ≤ workers }
-    requires few_workers { workers ≤ 4 }
-    ensures { IfOk result (AreAnswers working.now) }
-{
-    let present = session.scene();
-    let mut book = session.book().copy()?;
-    let graph = Graph::build(alloc, &working.floor()?)?;
-    let mut changes = book.follow(
-        rt,
-        present,
-        working,
-        &graph,
-        workers,
-        gate,
-        &mut Tally::new(),
-    )?;
-    book.swap(&mut changes);
-    Ok(book)
-}
-
 /// The lines of the scene with the answers.
 fn lines_of(alloc: Global, scene: &Scene, book: &Book) -> Result<Vec<WrittenRoute>, AllocError>
     requires { AreAnswers scene.now book.now }
@@ -119,6 +89,10 @@ pub(crate) fn preview<R: Threads + Sync, G: Gate>(
     requires working { session.now.world.working ≡ Some working.now }
     ensures { IfOk result (λ lines. WouldGive session.now lines.items) }
 {
-    let book = working_book(rt, alloc, session, working, workers, gate)?;
+    let mut tally = Tally::new();
+    let present = session.scene();
+    let book = session
+        .book()
+        .followed(rt, present, working, workers, gate, &mut tally)?;
     lines_of(alloc, working, &book)
 }
