@@ -3,7 +3,7 @@ ghost use Rattle.std.specs.Prelude.{◌≡◌, ◌≢◌, ◌≤◌, IfErr, IfOk
 ghost use Rattle.scene_model.specs.Answers.{AreAnswers};
 ghost use Rattle.scene_model.specs.World.{IsDirectedCommand, given_up, step};
 ghost use Rattle.scene_model.specs.declared.edit.Command.TheVariants as commands;
-ghost use Rattle.session_laws.specs.Calls.{IsCall, IsFaultOf};
+ghost use Rattle.session_laws.specs.Calls.{IsFaultOf};
 ghost use Rattle.form_route.specs.Routes.{AreLines};
 ghost use Rattle.live_replies.specs.Answers.{WouldGive};
 
@@ -16,11 +16,10 @@ use scene_model::{Command, SessionFault};
 use scene_store::Scene;
 use std::alloc::{AllocError, Global};
 use std::thread::Threads;
-use visibility_graph::Graph;
 use walk_model::WrittenRoute;
 
 /// Makes the call of a command, which is none for a line that has no form.
-fn made<R: Threads + Sync, G: Gate>(
+pub(crate) fn made<R: Threads + Sync, G: Gate>(
     rt: &R,
     session: &mut Session,
     command: &Command,
@@ -44,54 +43,6 @@ fn made<R: Threads + Sync, G: Gate>(
         Command::Redo => session.redo(),
         Command::Bad => Ok(()),
     }
-}
-
-/// Makes the call of a command that has a form.
-pub(crate) fn call<R: Threads + Sync, G: Gate>(
-    rt: &R,
-    session: &mut Session,
-    command: &Command,
-    workers: u32,
-    gate: &G,
-) -> Result<(), SessionFault>
-    requires some { 1 ≤ workers }
-    requires few_workers { workers ≤ 4 }
-    requires directed { IsDirectedCommand command.now }
-    requires form { command.now ≢ commands.Bad }
-    ensures { IsCall command.now result session.old session.new }
-{
-    let answer = made(rt, session, command, workers, gate);
-    session.right();
-    answer
-}
-
-/// The right answers of the working scene, from those of the present scene.
-fn working_book<R: Threads + Sync, G: Gate>(
-    rt: &R,
-    alloc: Global,
-    session: &Session,
-    working: &Scene,
-    workers: u32,
-    gate: &G,
-) -> Result<Book, AllocError>
-    requires some { 1 ≤ workers }
-    requires few_workers { workers ≤ 4 }
-    ensures { IfOk result (AreAnswers working.now) }
-{
-    let present = session.scene();
-    let mut book = session.book().copy()?;
-    let graph = Graph::build(alloc, &working.floor()?)?;
-    let mut changes = book.follow(
-        rt,
-        present,
-        working,
-        &graph,
-        workers,
-        gate,
-        &mut Tally::new(),
-    )?;
-    book.swap(&mut changes);
-    Ok(book)
 }
 
 /// The lines of the scene with the answers.
@@ -119,6 +70,10 @@ pub(crate) fn preview<R: Threads + Sync, G: Gate>(
     requires working { session.now.world.working ≡ Some working.now }
     ensures { IfOk result (λ lines. WouldGive session.now lines.items) }
 {
-    let book = working_book(rt, alloc, session, working, workers, gate)?;
+    let mut tally = Tally::new();
+    let present = session.scene();
+    let book = session
+        .book()
+        .followed(rt, present, working, workers, gate, &mut tally)?;
     lines_of(alloc, working, &book)
 }

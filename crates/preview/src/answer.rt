@@ -14,7 +14,6 @@ use route_search::Tally;
 use scene_model::{Edit, SceneFault};
 use scene_store::Scene;
 use std::alloc::{AllocError, Global};
-use visibility_graph::Graph;
 
 /// The answer to a proposed transaction.
 #[derive(Drop)]
@@ -66,7 +65,7 @@ fn after_edits(alloc: Global, scene: &Scene, edits: &[Edit]) -> Result<Edited, A
 }
 
 /// The right answers of the new scene, from those of the old one, with the number of searches.
-fn followed(alloc: Global, old: &Scene, book: &Book, new: Scene) -> Result<Previewed, AllocError>
+fn followed(old: &Scene, book: &Book, new: Scene) -> Result<Previewed, AllocError>
     requires { AreAnswers old.now book.now }
     ensures { (edits : List Edit) → first_refused 1 edits old.now ≡ None → new ≡ redone edits old.now →
         IfOk result (IsPreview old.now book.now edits) }
@@ -74,11 +73,8 @@ fn followed(alloc: Global, old: &Scene, book: &Book, new: Scene) -> Result<Previ
     // Both scenes are known to be valid from here.
     old.valid();
     new.valid();
-    let graph = Graph::build(alloc, &new.floor()?)?;
-    let mut book = book.copy()?;
     let mut tally = Tally::new();
-    let mut changes = book.follow_alone(old, &new, &graph, &mut tally)?;
-    book.swap(&mut changes);
+    let book = book.followed_alone(old, &new, &mut tally)?;
     Ok(Previewed::Committed {
         scene: new,
         book,
@@ -98,7 +94,7 @@ pub(crate) fn answer(
     ensures { IfOk result (IsPreview scene.now book.now edits.now) }
 {
     match after_edits(alloc, scene, edits)? {
-        Edited::Done(new) => followed(alloc, scene, book, new),
+        Edited::Done(new) => followed(scene, book, new),
         Edited::Refused { place, fault } => Ok(Previewed::Refused { place, fault }),
     }
 }

@@ -245,6 +245,55 @@ impl Book {
         })
     }
 
+    /// The right answers of the new scene, from these of the old one. Only the stale connectors are searched, by at most
+    /// `workers` searches side by side.
+    ///
+    /// The tally rises by their number. The only error is out of memory, in which case the tally may have risen as well.
+    pub fn followed<R: Threads + Sync, G: Gate>(
+        &self,
+        rt: &R,
+        old: &Scene,
+        new: &Scene,
+        workers: u32,
+        gate: &G,
+        tally: &mut Tally,
+    ) -> Result<Book, AllocError>
+        requires some { 1 ≤ workers }
+        requires few { workers ≤ 4 }
+        requires right { AreAnswers old.now self.now }
+        ensures right { IfOk result (AreAnswers new.now) }
+        ensures tally { OnOk result (CountsStale old.now self.now new.now tally.old tally.new) }
+        ensures never_falls { tally.old ≤ tally.new }
+    {
+        let graph = Graph::build(self.alloc, &new.floor()?)?;
+        let mut book = self.copy()?;
+        let mut changes = book.follow(rt, old, new, &graph, workers, gate, tally)?;
+        book.swap(&mut changes);
+        Ok(book)
+    }
+
+    /// The right answers of the new scene, from these of the old one, without threads. Only the stale connectors are
+    /// searched.
+    ///
+    /// The tally rises by their number. The only error is out of memory, in which case the tally may have risen as well.
+    pub fn followed_alone(
+        &self,
+        old: &Scene,
+        new: &Scene,
+        tally: &mut Tally,
+    ) -> Result<Book, AllocError>
+        requires right { AreAnswers old.now self.now }
+        ensures right { IfOk result (AreAnswers new.now) }
+        ensures tally { OnOk result (CountsStale old.now self.now new.now tally.old tally.new) }
+        ensures never_falls { tally.old ≤ tally.new }
+    {
+        let graph = Graph::build(self.alloc, &new.floor()?)?;
+        let mut book = self.copy()?;
+        let mut changes = book.follow_alone(old, new, &graph, tally)?;
+        book.swap(&mut changes);
+        Ok(book)
+    }
+
     /// Exchanges the book's answers with those of the other scene in `changes`, which are reversed,
     /// so that a second `swap` restores the former answers. Takes no memory.
     pub fn swap(&mut self, changes: &mut Changes)
