@@ -3,7 +3,7 @@ ghost use Rattle.std.specs.Prelude.{◌≡◌, ◌≢◌, ◌≤◌, IfErr, IfOk
 ghost use Rattle.scene_model.specs.Answers.{AreAnswers};
 ghost use Rattle.scene_model.specs.World.{IsDirectedCommand, given_up, step};
 ghost use Rattle.scene_model.specs.declared.edit.Command.TheVariants as commands;
-ghost use Rattle.session_laws.specs.Calls.{IsFaultOf};
+ghost use Rattle.session_laws.specs.Calls.{IsCall, IsFaultOf};
 ghost use Rattle.form_route.specs.Routes.{AreLines};
 ghost use Rattle.live_replies.specs.Answers.{WouldGive};
 
@@ -19,7 +19,7 @@ use std::thread::Threads;
 use walk_model::WrittenRoute;
 
 /// Makes the call of a command, which is none for a line that has no form.
-pub(crate) fn made<R: Threads + Sync, G: Gate>(
+fn made<R: Threads + Sync, G: Gate>(
     rt: &R,
     session: &mut Session,
     command: &Command,
@@ -43,6 +43,25 @@ pub(crate) fn made<R: Threads + Sync, G: Gate>(
         Command::Redo => session.redo(),
         Command::Bad => Ok(()),
     }
+}
+
+/// Makes the call of a command that has a form.
+pub(crate) fn call<R: Threads + Sync, G: Gate>(
+    rt: &R,
+    session: &mut Session,
+    command: &Command,
+    workers: u32,
+    gate: &G,
+) -> Result<(), SessionFault>
+    requires some { 1 ≤ workers }
+    requires few_workers { workers ≤ 4 }
+    requires directed { IsDirectedCommand command.now }
+    requires form { command.now ≢ commands.Bad }
+    ensures { IsCall command.now result session.old session.new }
+{
+    let answer = made(rt, session, command, workers, gate);
+    session.right();
+    answer
 }
 
 /// The lines of the scene with the answers.

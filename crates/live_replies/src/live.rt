@@ -16,7 +16,7 @@ ghost use Rattle.live_replies.specs.Texts.{drawn_texts, gml_text, next_text, no_
 ghost use Rattle.live_replies.specs.declared.request.Request.TheVariants as requests;
 ghost use Rattle.host_edge.specs.declared.line_source.LineRead.TheVariants as reads;
 
-use crate::calls::{made, preview};
+use crate::calls::{call, preview};
 use crate::reply::{Said, refused};
 use crate::request::{Request, is_quit, request_of};
 use crate::text::{changes_text, gml_text, lines_text, next_text};
@@ -110,9 +110,7 @@ impl Live {
         ensures told { self.new.told ≡ self.old.told }
         ensures diagram { self.new.diagram ≡ self.old.diagram }
     {
-        let answer = made(rt, &mut self.session, command, workers, gate);
-        self.session.right();
-        answer
+        call(rt, &mut self.session, command, workers, gate)
     }
 
     /// Drops the transaction if one is open.
