@@ -5,9 +5,9 @@ use Rattle.std.proofs.lemmas.List.{append_assoc, drop-map, drop_all, drop_more, 
 use Rattle.std.proofs.lemmas.List.Elements.{filter_agree}
 use Rattle.plane_geom.specs.declared.rect.Rect.{Rect}
 use Rattle.plane_geom.specs.declared.floor.Line.{Line}
-use Rattle.plane_geom.specs.Order.{stands_before}
+use Rattle.plane_geom.specs.Order.{AreOrdered, stands_before}
 use Rattle.plane_geom.proofs.Order.{before_apart, stands_through}
-use Rattle.sweep_lines.specs.Kept.{AreOrdered, is_near}
+use Rattle.sweep_lines.specs.Kept.{is_near}
 use Rattle.sweep_lines.proofs.Members.{Among, Rising, all_among, rising_of_pairs}
 use Rattle.graph_repair.specs.Listed.{goes, is_listed, lines_of, same_line, stays}
 use Rattle.graph_repair.proofs.Listing.{among_of_listed, line_of_same, not_true, same_itself}

@@ -15,10 +15,10 @@ use Rattle.plane_geom.specs.declared.floor.Line.{Line}
 use Rattle.plane_geom.specs.declared.floor.Floor.{Floor}
 use Rattle.plane_geom.specs.Floor.{IsKept}
 use Rattle.line_arena.specs.Arena.{Arena}
-use Rattle.line_arena.specs.Order.{AreInOrder}
+use Rattle.line_arena.specs.Order.{AreOrderedWithIds}
 use Rattle.line_arena.specs.Stands.{StandsFor}
-use Rattle.sweep_lines.specs.Kept.{AreAllKept, AreKept, AreOrdered, is_near}
-use Rattle.plane_geom.specs.Order.{stands_before}
+use Rattle.sweep_lines.specs.Kept.{AreAllKept, AreKept, is_near}
+use Rattle.plane_geom.specs.Order.{AreOrdered, stands_before}
 use Rattle.sweep_lines.proofs.Members.{Among, among_all, among_filter, among_filtered, among_map, among_mapped, among_of_any, among_of_contains, any_of_among, contains_of_among, pairs_of_rising, rising_joined, rising_map, rising_of_pairs}
 use Rattle.plane_geom.proofs.Order.{before_apart}
 use Rattle.visibility_graph.specs.Meeting.{same_way}
@@ -216,13 +216,13 @@ distinct_shared a b stay shared = distinct_ordered stay shared.ordered
 
 -- ---- the lines of an arena, in order
 
-pub ordered_lines : (pairs : List (Line × ℕ)) → AreInOrder pairs → AreOrdered (lines_of pairs)
+pub ordered_lines : (pairs : List (Line × ℕ)) → AreOrderedWithIds pairs → AreOrdered (lines_of pairs)
 ordered_lines pairs ordered =
     pairs_of_rising (λ l m. stands_before l m ≡ true) (lines_of pairs)
     (rising_map (λ l m. stands_before l m ≡ true) (λ e. e.0) pairs (rising_of_pairs (λ d e. stands_before d.0 e.0 ≡ true) pairs ordered))
 
 -- they are the kept lines of the floor for which it stands
-pub kept_of_arena : (floor : Floor) (arena : Arena) (pairs : List (Line × ℕ)) → StandsFor floor arena → AreInOrder pairs → ((line : Line) (id : ℕ) → Contains pairs (line, id) ↔ (get arena.lines id ≡ Some line)) → AreAllKept floor (lines_of pairs)
+pub kept_of_arena : (floor : Floor) (arena : Arena) (pairs : List (Line × ℕ)) → StandsFor floor arena → AreOrderedWithIds pairs → ((line : Line) (id : ℕ) → Contains pairs (line, id) ↔ (get arena.lines id ≡ Some line)) → AreAllKept floor (lines_of pairs)
 kept_of_arena floor arena pairs stands ordered listed = record {
   kept = All-from_recursion (λ l. IsKept floor l × Unit {0}) (lines_of pairs) (among_all (λ l. IsKept floor l × Unit {0}) (lines_of pairs) (λ l a.
       let e = among_mapped (λ (e : Line × ℕ). e.0) pairs l a in

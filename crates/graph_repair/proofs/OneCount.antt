@@ -3,8 +3,7 @@ use Rattle.std.proofs.Common.{◌≡◌, ℕ, ◌+◌, true, List, length, sym, 
 use Rattle.std.specs.Prelude.{Contains}
 use Rattle.plane_geom.specs.declared.floor.Line.{Line}
 use Rattle.plane_geom.specs.declared.floor.Floor.{Floor}
-use Rattle.sweep_lines.specs.Kept.{AreOrdered}
-use Rattle.plane_geom.specs.Order.{stands_before}
+use Rattle.plane_geom.specs.Order.{AreOrdered, stands_before}
 use Rattle.sweep_lines.proofs.Members.{among_of_contains, contains_of_among, rising_of_pairs}
 use Rattle.plane_geom.proofs.Order.{never_both}
 use Rattle.sweep_lines.proofs.OneList.{one_list}

@@ -4,7 +4,7 @@ use Rattle.std.specs.FinMap.{len}
 use Rattle.plane_geom.specs.declared.floor.Line.{Line}
 use Rattle.plane_geom.specs.declared.floor.Floor.{Floor}
 use Rattle.plane_geom.specs.Floor.{IsKept}
-use Rattle.sweep_lines.specs.Kept.{AreOrdered}
+use Rattle.plane_geom.specs.Order.{AreOrdered}
 use Rattle.visibility_graph.specs.Drawing.{Drawing}
 use Rattle.visibility_graph.specs.Meeting.{coming, meets, pairs_by}
 use Rattle.line_arena.specs.Count.{counted_by}

@@ -1,6 +1,6 @@
 //! What two lists of lines have in common, and what is only in one of them.
 ghost use Rattle.std.specs.Prelude.{◌≡◌, ◌++◌, not, IfOk, OnOk, filter};
-ghost use Rattle.sweep_lines.specs.Kept.{AreOrdered};
+ghost use Rattle.plane_geom.specs.Order.{AreOrdered};
 ghost use Rattle.graph_repair.specs.Listed.{goes, is_listed, lines_of, stays};
 
 use line_arena::LineId;

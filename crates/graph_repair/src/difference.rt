@@ -1,7 +1,7 @@
 //! The changes from one floor to another, and the room for them.
 ghost use Rattle.std.specs.Prelude.{◌≡◌, ◌-◌, ◌≤◌, false, length, IfOk, OnOk};
 ghost use Rattle.plane_geom.specs.Floor.{IsFloor};
-ghost use Rattle.sweep_lines.specs.Kept.{AreOrdered};
+ghost use Rattle.plane_geom.specs.Order.{AreOrdered};
 ghost use Rattle.visibility_graph.specs.Meeting.{coming};
 ghost use Rattle.graph_repair.specs.Change.{LeadsFrom};
 

@@ -1,7 +1,7 @@
 //! Switches a graph between the two floors of a repair.
 ghost use Rattle.std.specs.Prelude.{◌≡◌, true, false, not, All, [], ◌∷◌};
+ghost use Rattle.plane_geom.specs.Order.{AreOrdered};
 ghost use Rattle.line_arena.specs.Stands.{HasLine, IsComplete, StandsFor};
-ghost use Rattle.sweep_lines.specs.Kept.{AreOrdered};
 ghost use Rattle.graph_repair.specs.Change.{CountsWrites, LeadsFrom};
 ghost use Rattle.graph_repair.specs.Take.{AreTaken};
 

@@ -1,11 +1,11 @@
 -- Lines with their ids, in order.
-use Rattle.std.specs.Prelude.{◌≡◌, ◌≤◌, ◌↔◌, ℕ, true, false, ◌≤ℤ◌, List, Some, AllPairs, Contains}
+use Rattle.std.specs.Prelude.{◌≡◌, ◌≤◌, ◌↔◌, ℕ, true, false, ◌≤ℤ◌, List, Some, Contains}
 use Rattle.slab.specs.Slab.{slab_len}
 use Rattle.plane_geom.specs.declared.point.Point.{Point}
 use Rattle.plane_geom.specs.declared.point.Way.TheVariants.{Vertical}
 use Rattle.plane_geom.specs.declared.floor.Line.{Line}
 use Rattle.plane_geom.specs.Floor.{AreOnOneWholeLine, Holds}
-use Rattle.plane_geom.specs.Order.{stands_before}
+use Rattle.plane_geom.specs.Order.{AreOrderedBy, stands_before}
 use Rattle.line_arena.specs.declared.lists.Lists.{Lists}
 use Rattle.line_arena.specs.Lists.{AreLists, line_at}
 
@@ -13,9 +13,9 @@ use Rattle.line_arena.specs.Lists.{AreLists, line_at}
 abbrev pub at_point : Point → Line
 at_point p = record { way = Vertical; at = p.x; lo = p.y; hi = p.y }
 
--- each line comes before all later ones
-abbrev pub AreInOrder : List (Line × ℕ) → Type 0
-AreInOrder = AllPairs (λ d e. stands_before d.0 e.0 ≡ true)
+-- each line, with its id, comes before all later ones
+abbrev pub AreOrderedWithIds : List (Line × ℕ) → Type 0
+AreOrderedWithIds = AreOrderedBy (λ e. e.0)
 
 -- each of the lines comes before the line or after it
 abbrev pub HasPlace : List (Line × ℕ) → Line → Type 0
@@ -29,7 +29,7 @@ pub record AreApart (lines : List (Line × ℕ)) : Type 0 where
 -- the invariant of an arena: its lists, and all their `held` lines in order, with a capacity of at least the room
 pub record IsOrderedArena (a : Lists) (lines : List (Line × ℕ)) (held capacity : ℕ) : Type 0 where
   pub lists : AreLists a
-  pub ordered : AreInOrder lines
+  pub ordered : AreOrderedWithIds lines
   pub listed : (line : Line) (id : ℕ) → Contains lines (line, id) ↔ (line_at a id ≡ Some line)
   pub count : held ≡ slab_len a.lines.slab
   pub room : a.lines.room ≤ capacity

@@ -4,12 +4,12 @@ ghost use Rattle.std.specs.FinMap as map;
 ghost use Rattle.plane_geom.specs.declared.floor.Line.{Line};
 ghost use Rattle.line_arena.specs.Arena.{IsApart, IsArena, IsFirst, IsNearest, IsOn, LiesFurther, Meet, StandsAt};
 ghost use Rattle.line_arena.specs.Count.{counted_by};
-ghost use Rattle.line_arena.specs.Order.{AreInOrder};
+ghost use Rattle.line_arena.specs.Order.{AreOrderedWithIds};
 
 use crate::entries::Entries;
 use crate::id::{CrossId, LineId};
 use crate::lists::Lists;
-use crate::order::{column_through, find, find_near, put_in_order, take_out};
+use crate::order::{column_through, find_near, put_in_order, take_out};
 use plane_geom::{Dir, Line, Point};
 use std::alloc::{AllocError, Global};
 use std::marker::Model;
@@ -164,7 +164,7 @@ impl LineArena {
 
     /// All lines with their ids, by way, `at` and `lo`. Takes constant time.
     pub fn lines_in_order(&self) -> &[(Line, LineId)]
-        ensures ordered { AreInOrder result.now }
+        ensures ordered { AreOrderedWithIds result.now }
         ensures listed { (line : Line) (id : ℕ) → Contains result.now (line, id) ↔ (map.get self.now.lines id ≡ Some line) }
     {
         self.order.as_slice()
@@ -176,7 +176,7 @@ impl LineArena {
         ensures absent { IsNone result ↔ ((l : ℕ) → map.get self.now.lines l ≡ Some line → ⊥) }
         ensures arena { IsArena self.now }
     {
-        let (id, _) = find(self.order.as_slice(), &line)?;
+        let (id, _) = self.line_near(line, 0)?;
         Some(id)
     }
 

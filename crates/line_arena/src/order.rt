@@ -4,7 +4,7 @@ ghost use Rattle.std.specs.List.Sorted.{IsPartitionPoint};
 ghost use Rattle.plane_geom.specs.declared.floor.Line.{Line};
 ghost use Rattle.plane_geom.specs.declared.point.Way.TheVariants.{Vertical};
 ghost use Rattle.plane_geom.specs.Floor.{Holds};
-ghost use Rattle.line_arena.specs.Order.{AreApart, AreInOrder, HasPlace, at_point};
+ghost use Rattle.line_arena.specs.Order.{AreApart, AreOrderedWithIds, HasPlace, at_point};
 ghost use Rattle.plane_geom.specs.Order.{stands_before};
 
 use crate::id::LineId;
@@ -12,7 +12,7 @@ use plane_geom::{Line, Point, Way};
 
 /// The number of lines that are before the line or equal to it.
 fn count_upto(lines: &[(Line, LineId)], line: &Line) -> usize
-    requires { AreInOrder lines.now }
+    requires { AreOrderedWithIds lines.now }
     ensures bound { result ≤ length lines.now }
     ensures point { IsPartitionPoint (λ e. stands_before line.now e.0 ≡ false) (λ e. stands_before line.now e.0 ≡ true) lines.now result }
 {
@@ -21,10 +21,10 @@ fn count_upto(lines: &[(Line, LineId)], line: &Line) -> usize
 
 /// Inserts a line at its place, and takes no memory.
 pub fn put_in_order(lines: &mut Vec<(Line, LineId)>, line: Line, id: LineId)
-    requires ordered { AreInOrder lines.old.items }
+    requires ordered { AreOrderedWithIds lines.old.items }
     requires place { HasPlace lines.old.items line }
     requires room { vec_len lines.old < vec_capacity lines.old }
-    ensures ordered { AreInOrder lines.new.items }
+    ensures ordered { AreOrderedWithIds lines.new.items }
     ensures there { (e : Line × ℕ) → Contains lines.new.items e ↔ ((e ≡ (line, id)) ⊎ Contains lines.old.items e) }
     ensures len { vec_len lines.new ≡ vec_len lines.old + 1 }
     ensures room { vec_capacity lines.new ≡ vec_capacity lines.old }
@@ -35,9 +35,9 @@ pub fn put_in_order(lines: &mut Vec<(Line, LineId)>, line: Line, id: LineId)
 
 /// Removes a line that is there.
 pub fn take_out(lines: &mut Vec<(Line, LineId)>, line: &Line)
-    requires ordered { AreInOrder lines.old.items }
+    requires ordered { AreOrderedWithIds lines.old.items }
     requires there { (id : ℕ) × Contains lines.old.items (line.now, id) }
-    ensures ordered { AreInOrder lines.new.items }
+    ensures ordered { AreOrderedWithIds lines.new.items }
     ensures left { (e : Line × ℕ) → Contains lines.new.items e ↔ (Contains lines.old.items e × (e.0 ≢ line.now)) }
     ensures len { vec_len lines.new + 1 ≡ vec_len lines.old }
     ensures room { vec_capacity lines.new ≡ vec_capacity lines.old }
@@ -47,8 +47,8 @@ pub fn take_out(lines: &mut Vec<(Line, LineId)>, line: &Line)
 }
 
 /// The id of the line and its place, in logarithmic time.
-pub fn find(lines: &[(Line, LineId)], line: &Line) -> Option<(LineId, usize)>
-    requires { AreInOrder lines.now }
+fn find(lines: &[(Line, LineId)], line: &Line) -> Option<(LineId, usize)>
+    requires { AreOrderedWithIds lines.now }
     ensures found { IfSome result (λ found. Contains lines.now (line.now, found.0)) }
     ensures absent { IsNone result → (id : ℕ) → Contains lines.now (line.now, id) → ⊥ }
 {
@@ -61,7 +61,7 @@ pub fn find(lines: &[(Line, LineId)], line: &Line) -> Option<(LineId, usize)>
 
 /// The id of the line and its place, in constant time if the line is at the place `near`.
 pub fn find_near(lines: &[(Line, LineId)], line: &Line, near: usize) -> Option<(LineId, usize)>
-    requires { AreInOrder lines.now }
+    requires { AreOrderedWithIds lines.now }
     ensures found { IfSome result (λ found. Contains lines.now (line.now, found.0)) }
     ensures absent { IsNone result → (id : ℕ) → Contains lines.now (line.now, id) → ⊥ }
 {
@@ -86,7 +86,7 @@ fn at_place(lines: &[(Line, LineId)], line: &Line, place: usize) -> Option<(Line
 
 /// The id of the vertical line through the point, in logarithmic time.
 pub fn column_through(lines: &[(Line, LineId)], point: Point) -> Option<LineId>
-    requires ordered { AreInOrder lines.now }
+    requires ordered { AreOrderedWithIds lines.now }
     requires apart { AreApart lines.now }
     ensures found { IfSome result (λ id. (line : Line) × Contains lines.now (line, id) × (line.way ≡ Vertical)) }
     ensures only { (e : Line × ℕ) → Contains lines.now e → e.0.way ≡ Vertical → Holds e.0 point → result ≡ Some e.1 }

@@ -2,6 +2,7 @@
 pub mod Signed
 pub mod Headings
 pub mod Places
+pub mod Held
 pub mod Steps
 pub mod Ways
 pub mod Pieces

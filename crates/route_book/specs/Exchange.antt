@@ -15,8 +15,8 @@ abbrev pub turned : Exchange → Exchange
 turned e = record { here = e.there; there = e.here }
 
 -- the answers are in the order of their connectors' numbers
-abbrev pub AreInOrder : List Answer → Type 0
-AreInOrder answers = AllPairs (λ a b. a.edge < b.edge) answers
+abbrev pub AreByRisingEdge : List Answer → Type 0
+AreByRisingEdge answers = AllPairs (λ a b. a.edge < b.edge) answers
 
 -- the count rose by the number of stale connectors of the new scene
 abbrev pub CountsStale : Scene → List Answer → Scene → ℕ → ℕ → Type 0

@@ -16,13 +16,13 @@ pub(crate) struct AnswerList {
 impl Model for AnswerList {
     ghost use Rattle.std.specs.Prelude.{List};
     ghost use Rattle.walk_model.specs.declared.route.Answer.{Answer};
-    ghost use Rattle.route_book.specs.Exchange.{AreInOrder};
+    ghost use Rattle.route_book.specs.Exchange.{AreByRisingEdge};
 
     ghost Value = { List Answer };
 
     ghost view = { λ a. a.items.items };
 
-    ghost invariant = { λ a. AreInOrder a.items.items };
+    ghost invariant = { λ a. AreByRisingEdge a.items.items };
 }
 
 impl AnswerList {

@@ -14,6 +14,7 @@ use Rattle.plane_geom.specs.declared.floor.Line.{Line}
 use Rattle.plane_geom.specs.Along.{reach, way_of}
 use Rattle.walk_laws.specs.Sides.{SharesSideTo}
 use Rattle.move_model.specs.Stations.{line_between}
+use Rattle.move_model.proofs.Stopping.RunLines.{way_between}
 use Rattle.side_touches.specs.declared.extent.Extent.{Extent}
 use Rattle.side_touches.specs.declared.side.Side.{Side}
 use Rattle.side_touches.specs.Extents.{IsLastPlace, IsMet, begin_in}
@@ -87,12 +88,6 @@ met_on_run East p q x m = (m.ends, m.begins)
 met_on_run South p q x m = (m.ends, m.begins)
 met_on_run West p q x m = (let b = m.begins in omega (arith, ints), let e = m.ends in omega (arith, ints))
 met_on_run North p q x m = (let b = m.begins in omega (arith, ints), let e = m.ends in omega (arith, ints))
-
-way_between : (d : Dir) (p q : Point) → (line_between d p q).way ≡ way_of d
-way_between East p q = refl
-way_between South p q = refl
-way_between West p q = refl
-way_between North p q = refl
 
 -- a run touches a side exactly if one comes on it to an extent of the line
 touched_by : (solids : List Solid) (l : Line) (side heading : Dir) (xs : List Extent) (p q : Point) → (way_of side ≢ l.way → AreTouching solids l side xs) → way_of side ≢ way_of heading → IsRunOn l heading p q →

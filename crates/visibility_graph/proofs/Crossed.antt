@@ -10,8 +10,7 @@ use Rattle.plane_geom.specs.declared.point.Way.TheVariants.{Vertical, Horizontal
 use Rattle.plane_geom.specs.declared.floor.Line.{Line}
 use Rattle.line_arena.specs.Arena.{Arena, IsArena, Pair}
 use Rattle.line_arena.proofs.Arenas.ArenaLaws.{within_crossing_put}
-use Rattle.sweep_lines.specs.Kept.{AreOrdered}
-use Rattle.plane_geom.specs.Order.{stands_before}
+use Rattle.plane_geom.specs.Order.{AreOrdered, stands_before}
 use Rattle.sweep_lines.proofs.Members.{Among, among_filter, among_filtered, among_of_contains, contains_of_among}
 use Rattle.plane_geom.proofs.Order.{never_both}
 use Rattle.line_arena.specs.Count.{counted_by}

@@ -11,8 +11,7 @@ use Rattle.plane_geom.specs.declared.floor.Line.{Line}
 use Rattle.line_arena.specs.Arena.{Arena, IsApart, IsArena, Meet}
 use Rattle.line_arena.specs.Stands.{HasLine, IsComplete}
 use Rattle.line_arena.proofs.Arenas.ArenaLaws.{across_where_meet, within_line_put}
-use Rattle.sweep_lines.specs.Kept.{AreOrdered}
-use Rattle.plane_geom.specs.Order.{stands_before}
+use Rattle.plane_geom.specs.Order.{AreOrdered, stands_before}
 use Rattle.sweep_lines.proofs.Members.{among_filter, among_of_contains, contains_of_among}
 use Rattle.visibility_graph.specs.Meeting.{coming, meets}
 use Rattle.line_arena.specs.Count.{counted_by}

@@ -9,8 +9,7 @@ use Rattle.std.proofs.lemmas.Int.{ints}
 use Rattle.plane_geom.specs.declared.point.Way.{Way}
 use Rattle.plane_geom.specs.declared.point.Way.TheVariants.{Vertical, Horizontal}
 use Rattle.plane_geom.specs.declared.floor.Line.{Line}
-use Rattle.sweep_lines.specs.Kept.{AreOrdered}
-use Rattle.plane_geom.specs.Order.{way_before}
+use Rattle.plane_geom.specs.Order.{AreOrdered, way_before}
 use Rattle.visibility_graph.specs.Meeting.{meets, reaches, same_way, sorted_out}
 
 not_both : (a b : Bool) → ((a && false) && b) ≡ false

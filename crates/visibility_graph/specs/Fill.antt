@@ -6,9 +6,9 @@ use Rattle.plane_geom.specs.declared.point.Way.{Way}
 use Rattle.plane_geom.specs.declared.point.Way.TheVariants.{Vertical, Horizontal}
 use Rattle.plane_geom.specs.declared.floor.Line.{Line}
 use Rattle.plane_geom.specs.Floor.{AreOnOneWholeLine, Holds}
+use Rattle.plane_geom.specs.Order.{AreOrdered}
 use Rattle.line_arena.specs.Arena.{Arena, Pair}
 use Rattle.line_arena.specs.Stands.{HasLine, IsComplete}
-use Rattle.sweep_lines.specs.Kept.{AreOrdered}
 use Rattle.visibility_graph.specs.Meeting.{coming}
 use Rattle.line_arena.specs.Count.{counted_by}
 

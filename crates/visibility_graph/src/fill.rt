@@ -4,7 +4,7 @@ ghost use Rattle.std.specs.FinMap as map;
 ghost use Rattle.line_arena.specs.Arena.{IsApart};
 ghost use Rattle.line_arena.specs.Stands.{HasLine, IsComplete};
 ghost use Rattle.plane_geom.specs.declared.floor.Line.{Line};
-ghost use Rattle.sweep_lines.specs.Kept.{AreOrdered};
+ghost use Rattle.plane_geom.specs.Order.{AreOrdered};
 ghost use Rattle.visibility_graph.specs.Meeting.{coming, meets};
 ghost use Rattle.visibility_graph.specs.Fill.{AreLines, ArePut, AreStrange, CanPut, IsCrossed, IsUncrossed};
 

@@ -2,8 +2,8 @@
 ghost use Rattle.std.specs.Prelude.{◌≡◌, ◌+◌, ◌≤ℤ◌, [], All, Contains, IfOk};
 ghost use Rattle.std.specs.FinMap.{len};
 ghost use Rattle.plane_geom.specs.Floor.{IsFloor};
+ghost use Rattle.plane_geom.specs.Order.{AreOrdered};
 ghost use Rattle.line_arena.specs.Stands.{IsComplete, StandsFor};
-ghost use Rattle.sweep_lines.specs.Kept.{AreOrdered};
 ghost use Rattle.visibility_graph.specs.Fill.{AreApart, AreLines};
 
 use crate::fill::put_lines;

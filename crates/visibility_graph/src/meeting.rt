@@ -2,7 +2,7 @@
 ghost use Rattle.std.specs.Prelude.{◌≡◌, ◌+◌, ◌≤◌, true, false, not, int_lt, filter, count_by, length, All, IsTrue, IfOk, OnOk};
 ghost use Rattle.std.specs.List.Sorted.{IsPartitionPoint};
 ghost use Rattle.plane_geom.specs.declared.point.Way.{Way};
-ghost use Rattle.sweep_lines.specs.Kept.{AreOrdered};
+ghost use Rattle.plane_geom.specs.Order.{AreOrdered};
 ghost use Rattle.visibility_graph.specs.Meeting.{coming, meets, reaches, sorted_out};
 
 use plane_geom::{Line, Way};

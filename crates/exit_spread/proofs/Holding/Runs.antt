@@ -24,7 +24,7 @@ use Rattle.line_lists.specs.Lists.{AreListsOf, Lists, number_of}
 use Rattle.line_lists.proofs.OnLine.{same_line}
 use Rattle.exit_spread.proofs.Known.Numbers.{numbered_line}
 use Rattle.move_model.specs.Stations.{line_between}
-use Rattle.move_model.proofs.Stopping.RunLines.{lie_on_line}
+use Rattle.move_model.proofs.Stopping.RunLines.{lie_on_line, way_between}
 use Rattle.walk_model.specs.Cost.{turn}
 use Rattle.walk_laws.proofs.Steps.Shift.{turn_back}
 use Rattle.walk_laws.proofs.Steps.Turns.{across_two}
@@ -37,12 +37,6 @@ use Rattle.search_labels.specs.declared.problem.Problem.{Problem}
 use Rattle.side_touches.specs.Touches.{AreLineTouches, IsRunOn, LineTouches}
 use Rattle.exit_spread.specs.Handing.{AreOf, crosswise}
 use Rattle.exit_spread.proofs.Known.Lines.{further_less}
-
-way_between : (d : Dir) (p q : Point) → (line_between d p q).way ≡ way_of d
-way_between East p q = refl
-way_between South p q = refl
-way_between West p q = refl
-way_between North p q = refl
 
 not_both : (w : Way) → w ≡ Vertical → w ≡ Horizontal → ⊥
 not_both w v h = absurd (let wrong : Vertical ≡ Horizontal = sym v ∙ h in cc)

@@ -14,6 +14,7 @@ use Rattle.plane_geom.specs.Along.{across, along, reach, way_of}
 use Rattle.plane_geom.specs.Floor.{Holds, point_on}
 use Rattle.plane_geom.specs.Point.{distance}
 use Rattle.plane_geom.proofs.Headings.{same_point}
+use Rattle.plane_geom.proofs.Held.{held_across, held_along}
 use Rattle.line_arena.specs.Arena.{Arena, IsArena, LiesFurther, StandsAt, line_along}
 use Rattle.line_arena.proofs.Arenas.ArenaLaws.{IsHeldAlong, held_in, one_further, placed, same_pair}
 use Rattle.walk_laws.proofs.Steps.Shift.{across-forward}
@@ -23,14 +24,6 @@ use Rattle.exit_rows.proofs.Orders.{gap_above}
 use Rattle.exit_spread.specs.Ways.{AreNumbered}
 
 -- ---- points of one line
-
-held_across : (way : Way) (l : Line) (p : Point) → l.way ≡ way → Holds l p → across way p ≡ l.at
-held_across Vertical l p e h = ap (λ (q : Point). q.x) (h.here ∙ ap (λ (v : Way). point_on v l.at h.along) e)
-held_across Horizontal l p e h = ap (λ (q : Point). q.y) (h.here ∙ ap (λ (v : Way). point_on v l.at h.along) e)
-
-held_along : (way : Way) (l : Line) (p : Point) → l.way ≡ way → (h : Holds l p) → along way p ≡ h.along
-held_along Vertical l p e h = ap (λ (q : Point). q.y) (h.here ∙ ap (λ (v : Way). point_on v l.at h.along) e)
-held_along Horizontal l p e h = ap (λ (q : Point). q.x) (h.here ∙ ap (λ (v : Way). point_on v l.at h.along) e)
 
 -- a line holds what lies between two of its points
 held_within : (way : Way) (l : Line) (p q r : Point) → l.way ≡ way → Holds l p → Holds l q → across way r ≡ across way p → along way p ≤ℤ along way r → along way r ≤ℤ along way q → Holds l r

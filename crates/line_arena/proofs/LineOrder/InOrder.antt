@@ -17,7 +17,7 @@ use Rattle.plane_geom.specs.declared.point.Way.{Way}
 use Rattle.plane_geom.specs.declared.point.Way.TheVariants.{Vertical, Horizontal}
 use Rattle.plane_geom.specs.declared.floor.Line.{Line}
 use Rattle.plane_geom.specs.Floor.{Holds, point_on}
-use Rattle.line_arena.specs.Order.{AreApart, AreInOrder, HasPlace, at_point}
+use Rattle.line_arena.specs.Order.{AreApart, AreOrderedWithIds, HasPlace, at_point}
 use Rattle.plane_geom.specs.Order.{stands_before, way_before}
 use Rattle.plane_geom.proofs.Order.{before_apart, not_before_itself, stands_through}
 use Rattle.line_arena.proofs.Linking.Put.{held}
@@ -34,7 +34,7 @@ none_before line l m e f =
       | inr n ↦ ap not n
     ]
 
-pub parted : (line : Line) (lines : List (Line × ℕ)) → AreInOrder lines → IsPartitionedBy (λ e. not (stands_before line e.0)) lines
+pub parted : (line : Line) (lines : List (Line × ℕ)) → AreOrderedWithIds lines → IsPartitionedBy (λ e. not (stands_before line e.0)) lines
 parted line lines ordered = λ i j d h l e. elim (cases_lt i j) [
   | inl k ↦ none_before line (get_or lines i d).0 (get_or lines j d).0 (ordered i j d k l) e
   | inr k ↦ (let same : i ≡ j = omega arith in subst (λ (n : ℕ). not (stands_before line (get_or lines n d).0) ≡ true) (sym same) e)
@@ -79,9 +79,9 @@ all_pairs_insert R xs n y l h front back i j d lt within =
           ]
     ]
 
-module _ (lines : List (Line × ℕ)) (ordered : AreInOrder lines) (line : Line) (p : ℕ) (bound : p ≤ length lines)
+module _ (lines : List (Line × ℕ)) (ordered : AreOrderedWithIds lines) (line : Line) (p : ℕ) (bound : p ≤ length lines)
     (front : AllWithin (λ e. stands_before line e.0 ≡ false) lines 0 p) (back : AllWithin (λ e. stands_before line e.0 ≡ true) lines p (length lines)) where
-  pub in_order_put : (id : ℕ) → HasPlace lines line → AreInOrder (insert lines p (line, id))
+  pub in_order_put : (id : ℕ) → HasPlace lines line → AreOrderedWithIds (insert lines p (line, id))
   in_order_put id place = all_pairs_insert (λ d e. stands_before d.0 e.0 ≡ true) lines p (line, id) bound ordered
       (λ k d less. place (get_or lines k d) (Contains-get_or lines k d (omega arith)) (front k d (omega arith) less)) back
 
@@ -115,7 +115,7 @@ module _ (lines : List (Line × ℕ)) (ordered : AreInOrder lines) (line : Line)
 
 -- ---- a line removed
 
-module _ (lines : List (Line × ℕ)) (ordered : AreInOrder lines) (line : Line) (id : ℕ) (there : Contains lines (line, id)) (p : ℕ) (at : there.0 + 1 ≡ p) where
+module _ (lines : List (Line × ℕ)) (ordered : AreOrderedWithIds lines) (line : Line) (id : ℕ) (there : Contains lines (line, id)) (p : ℕ) (at : there.0 + 1 ≡ p) where
   pub inside : p - 1 < length lines
   inside = let l = there.1 in omega arith
 
@@ -218,7 +218,7 @@ down_holds l x y way at from to = record {
   here = sym (λ i. point_on (way i) (at i) y);
 }
 
-module _ (lines : List (Line × ℕ)) (ordered : AreInOrder lines) (apart : AreApart lines) (point : Point) (p : ℕ) (bound : p ≤ length lines)
+module _ (lines : List (Line × ℕ)) (ordered : AreOrderedWithIds lines) (apart : AreApart lines) (point : Point) (p : ℕ) (bound : p ≤ length lines)
     (front : AllWithin (λ e. stands_before (at_point point) e.0 ≡ false) lines 0 p) (back : AllWithin (λ e. stands_before (at_point point) e.0 ≡ true) lines p (length lines))
     (e : Line × ℕ) (there : Contains lines e) (way : e.0.way ≡ Vertical) (holds : Holds e.0 point) where
   down : HoldsDown e.0 point

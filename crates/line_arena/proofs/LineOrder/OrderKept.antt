@@ -14,7 +14,7 @@ use Rattle.line_arena.specs.declared.lists.Lists.{Lists}
 use Rattle.line_arena.specs.Arena.{Arena, StandsAt}
 use Rattle.line_arena.specs.View.{arena_of}
 use Rattle.line_arena.specs.Lists.{AreLists, IsApart, Spot, UpdatesAt, line_at, spot_at}
-use Rattle.line_arena.specs.Order.{AreApart, AreInOrder, HasPlace, IsOrderedArena}
+use Rattle.line_arena.specs.Order.{AreApart, AreOrderedWithIds, HasPlace, IsOrderedArena}
 use Rattle.line_arena.proofs.Arenas.ArenaLemmas.{line_in, spot_standing, stands_at}
 use Rattle.plane_geom.proofs.Order.{either_before}
 
@@ -85,7 +85,7 @@ module _ (a : Lists) (lines : List (Line × ℕ)) (held capacity : ℕ) (kept : 
       })
 
   pub kept_put : (b : Lists) (to : List (Line × ℕ)) (holds places id : ℕ) (line : Line) → AreLists b → line_at a id ≡ None → UpdatesAt (line_at a) (line_at b) id (Some line)
-      → slab_len b.lines.slab ≡ slab_len a.lines.slab + 1 → b.lines.room ≡ a.lines.room → AreInOrder to
+      → slab_len b.lines.slab ≡ slab_len a.lines.slab + 1 → b.lines.room ≡ a.lines.room → AreOrderedWithIds to
       → ((e : Line × ℕ) → Contains to e ↔ ((e ≡ (line, id)) ⊎ Contains lines e)) → holds ≡ held + 1 → places ≡ capacity → IsOrderedArena b to holds places
   kept_put b to holds places id line lists new updates count room ordered there len same = record {
     lists = lists;
@@ -109,7 +109,7 @@ module _ (a : Lists) (lines : List (Line × ℕ)) (held capacity : ℕ) (kept : 
   }
 
   pub kept_removed : (b : Lists) (to : List (Line × ℕ)) (holds places id : ℕ) (line : Line) → AreLists b → line_at a id ≡ Some line → UpdatesAt (line_at a) (line_at b) id None
-      → slab_len b.lines.slab + 1 ≡ slab_len a.lines.slab → b.lines.room ≡ a.lines.room → AreInOrder to
+      → slab_len b.lines.slab + 1 ≡ slab_len a.lines.slab → b.lines.room ≡ a.lines.room → AreOrderedWithIds to
       → ((e : Line × ℕ) → Contains to e ↔ (Contains lines e × (e.0 ≢ line))) → holds + 1 ≡ held → places ≡ capacity → IsOrderedArena b to holds places
   kept_removed b to holds places id line lists was updates count room ordered left len same = record {
     lists = lists;

@@ -6,14 +6,13 @@ use Rattle.std.proofs.lemmas.Int.{ints}
 use Rattle.plane_geom.specs.declared.point.Point.{Point}
 use Rattle.plane_geom.specs.declared.point.Dir.{Dir}
 use Rattle.plane_geom.specs.declared.point.Dir.TheVariants.{East, South, West, North}
-use Rattle.plane_geom.specs.declared.point.Way.{Way}
-use Rattle.plane_geom.specs.declared.point.Way.TheVariants.{Vertical, Horizontal}
 use Rattle.plane_geom.specs.declared.floor.Line.{Line}
 use Rattle.plane_geom.specs.declared.floor.Floor.{Floor}
 use Rattle.plane_geom.specs.Along.{across, reach, way_of}
-use Rattle.plane_geom.specs.Floor.{Holds, IsKept, point_on}
+use Rattle.plane_geom.specs.Floor.{Holds, IsKept}
 use Rattle.plane_geom.specs.Point.{forward, opposite}
 use Rattle.plane_geom.proofs.Headings.{same_point}
+use Rattle.plane_geom.proofs.Held.{held_across}
 use Rattle.plane_geom.proofs.Steps.{distance_up}
 use Rattle.line_arena.specs.Arena.{Arena, IsArena, IsNearest, LiesFurther, StandsAt, line_along}
 use Rattle.line_arena.specs.Stands.{StandsFor}
@@ -39,11 +38,6 @@ pub record IsAlong (floor : Floor) (p : Point) (d : Dir) (n : ℕ) (q : Point) :
   pub end : Holds line q
   pub some : 0 < n
   pub straight : q ≡ forward d n p
-
--- a line runs at one coordinate
-held_across : (way : Way) (l : Line) (p : Point) → l.way ≡ way → Holds l p → across way p ≡ l.at
-held_across Vertical l p e h = ap (λ (q : Point). q.x) (h.here ∙ ap (λ (v : Way). point_on v l.at h.along) e)
-held_across Horizontal l p e h = ap (λ (q : Point). q.y) (h.here ∙ ap (λ (v : Way). point_on v l.at h.along) e)
 
 -- of two points at one coordinate, the one that lies further in a direction stands some steps on
 steps_on : (d : Dir) (p q : Point) → across (way_of d) p ≡ across (way_of d) q → reach d p <ℤ reach d q → (n : ℕ) × (0 < n) × (q ≡ forward d n p)

@@ -10,15 +10,23 @@ use Rattle.plane_geom.specs.declared.point.Way.TheVariants.{Vertical, Horizontal
 use Rattle.plane_geom.specs.declared.floor.Line.{Line}
 use Rattle.plane_geom.specs.declared.rect.Rect.{Rect}
 use Rattle.plane_geom.specs.declared.rect.Solid.{Solid}
-use Rattle.plane_geom.specs.Along.{across, along, way_of}
+use Rattle.plane_geom.specs.Along.{along, way_of}
 use Rattle.plane_geom.specs.Floor.{Holds, point_on}
 use Rattle.plane_geom.specs.Point.{distance, forward}
+use Rattle.plane_geom.proofs.Held.{held_across, held_along}
 use Rattle.line_arena.specs.Arena.{Arena, IsArena, IsOn, LiesFurther, Pair, StandsAt, line_along}
 use Rattle.line_arena.proofs.Arenas.ArenaLaws.{IsHeldAlong, held_in, placed, same_pair}
 use Rattle.walk_laws.specs.Lines.{run_line}
 use Rattle.walk_laws.specs.Sides.{IsHeldTo, SharesSideTo}
 use Rattle.move_model.specs.Stations.{IsPartOf, LieOnLine, line_between}
 use Rattle.move_model.proofs.Moving.Moves.{apart}
+
+-- the line runs the way of the direction
+pub way_between : (d : Dir) (p q : Point) → (line_between d p q).way ≡ way_of d
+way_between East p q = refl
+way_between South p q = refl
+way_between West p q = refl
+way_between North p q = refl
 
 forward_between : (d : Dir) (p : Point) (n : ℕ) → run_line p d n ≡ line_between d p (forward d n p)
 forward_between East p n = refl
@@ -50,14 +58,6 @@ held_longer solids via side l m h (inl (i, s, within, is, shares)) = inl (i, s, 
 held_longer solids via side l m h (inr (i, c, within, is, holds)) = inr (i, c, within, is, holds_more l m c h holds)
 
 -- ---- the line of the arena
-
-held_across : (way : Way) (l : Line) (p : Point) → l.way ≡ way → Holds l p → across way p ≡ l.at
-held_across Vertical l p e h = ap (λ (q : Point). q.x) (h.here ∙ ap (λ (v : Way). point_on v l.at h.along) e)
-held_across Horizontal l p e h = ap (λ (q : Point). q.y) (h.here ∙ ap (λ (v : Way). point_on v l.at h.along) e)
-
-held_along : (way : Way) (l : Line) (p : Point) → l.way ≡ way → (h : Holds l p) → along way p ≡ h.along
-held_along Vertical l p e h = ap (λ (q : Point). q.y) (h.here ∙ ap (λ (v : Way). point_on v l.at h.along) e)
-held_along Horizontal l p e h = ap (λ (q : Point). q.x) (h.here ∙ ap (λ (v : Way). point_on v l.at h.along) e)
 
 low_along : (way : Way) (l : Line) (p : Point) → l.way ≡ way → Holds l p → l.lo ≤ℤ along way p
 low_along way l p e h = subst (λ z. l.lo ≤ℤ z) (sym (held_along way l p e h)) h.from

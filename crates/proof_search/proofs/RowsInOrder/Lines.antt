@@ -42,7 +42,7 @@ use Rattle.plane_geom.specs.declared.floor.Line.{Line}
 use Rattle.plane_geom.specs.Floor.{Holds, point_on}
 use Rattle.plane_geom.specs.Order.{stands_before, way_before}
 use Rattle.line_arena.specs.Arena.{Arena, IsArena, IsOn}
-use Rattle.line_arena.specs.Order.{AreInOrder}
+use Rattle.line_arena.specs.Order.{AreOrderedWithIds}
 use Rattle.line_arena.proofs.Arenas.ArenaLaws.{placed}
 use Rattle.proof_search.specs.declared.spots.Spot.{Spot}
 use Rattle.proof_search.specs.Spots.{AreOfLines, AreSpots, HasLineCome, IsBeforeLine, IsOfLines, comes_before}
@@ -160,7 +160,7 @@ in_front xs i d y le has =
     (has.0, less, get_or_default xs has.0 d y (omega (arith, less, le)) ∙ sym (get_or-take i xs has.0 y less) ∙ has.2)
 
 -- the line at a place of all lines, in order
-module _ (a : Arena) (arena : IsArena a) (lines : List (Line × ℕ)) (ordered : AreInOrder lines)
+module _ (a : Arena) (arena : IsArena a) (lines : List (Line × ℕ)) (ordered : AreOrderedWithIds lines)
     (listed : (line : Line) (id : ℕ) → Contains lines (line, id) ↔ (get a.lines id ≡ Some line))
     (i : ℕ) (e : Line × ℕ) (lt : i < length lines) (at : e ≡ get_or lines i e) where
   pub line_is : get a.lines e.1 ≡ Some e.0

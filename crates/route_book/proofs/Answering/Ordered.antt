@@ -13,7 +13,7 @@ use Rattle.std.proofs.lemmas.List.Elements.{All-from_recursion, recursion_from_A
 use Rattle.walk_model.specs.declared.route.Answer.{Answer}
 use Rattle.scene_model.specs.Stale.{answer_of}
 use Rattle.scene_model.proofs.Editing.Entries.{Pairs, pairs_from, pairs_to, pairs_weaker, found_none, key_found}
-use Rattle.route_book.specs.Exchange.{AreInOrder}
+use Rattle.route_book.specs.Exchange.{AreByRisingEdge}
 use Rattle.route_book.specs.Search.{AreRising, newer}
 use Rattle.route_book.proofs.Answering.Found.{each_found}
 
@@ -26,21 +26,21 @@ pairs_of [] h = tt
 pairs_of (x ∷ xs) h = (each_from x.edge xs h.0, pairs_of xs h.1)
 
 -- answers of rising numbers are in order
-pub in_order : (xs : List Answer) (numbers : List ℕ) → map (λ a. a.edge) xs ≡ numbers → AreRising numbers → AreInOrder xs
+pub in_order : (xs : List Answer) (numbers : List ℕ) → map (λ a. a.edge) xs ≡ numbers → AreRising numbers → AreByRisingEdge xs
 in_order xs numbers are rising =
     pairs_to (λ a b. a.edge < b.edge) xs (pairs_of xs (pairs_from (λ m n. m < n) (map (λ a. a.edge) xs) (subst AreRising (sym are) rising)))
 
 differ : (a b : Answer) → a.edge < b.edge → a.edge ≢ b.edge
 differ a b l e = absurd (omega (arith, l, e))
 
-all_found : (xs : List Answer) → AreInOrder xs → All (λ a. answer_of xs a.edge ≡ Some a) xs
+all_found : (xs : List Answer) → AreByRisingEdge xs → All (λ a. answer_of xs a.edge ≡ Some a) xs
 all_found xs order =
     All-from_recursion (λ a. answer_of xs a.edge ≡ Some a) xs
     (each_found (λ (a : Answer). a.edge) eqb Decides-eqb xs
     (pairs_weaker (λ a b. a.edge < b.edge) (λ a b. a.edge ≢ b.edge) differ xs (pairs_from (λ a b. a.edge < b.edge) xs order)))
 
 -- an answer with the number is the one that is found
-pub got : (xs : List Answer) (n i : ℕ) (a : Answer) → AreInOrder xs → i < length xs → a ≡ get_or xs i a → nat_cmp a.edge n ≡ Equal → Some a ≡ answer_of xs n
+pub got : (xs : List Answer) (n i : ℕ) (a : Answer) → AreByRisingEdge xs → i < length xs → a ≡ get_or xs i a → nat_cmp a.edge n ≡ Equal → Some a ≡ answer_of xs n
 got xs n i a order l at equal =
     let here : answer_of xs a.edge ≡ Some a = subst (λ b. answer_of xs b.edge ≡ Some b) (sym at) (all_found xs order i a l) in
     sym (subst (λ m. answer_of xs m ≡ Some a) (ranked a.edge n Equal (sym equal)) here)
@@ -48,7 +48,7 @@ got xs n i a order l at equal =
 index_rises : (a b n : ℕ) → a ≤ b → ordering_index (nat_cmp a n) ≤ ordering_index (nat_cmp b n)
 index_rises a b n l = grind (arith, nat_tests)
 
-no_fall : (xs : List Answer) (n : ℕ) → AreInOrder xs → IsNonDecreasingBy (λ y. ordering_index (nat_cmp y.edge n)) xs
+no_fall : (xs : List Answer) (n : ℕ) → AreByRisingEdge xs → IsNonDecreasingBy (λ y. ordering_index (nat_cmp y.edge n)) xs
 no_fall xs n order i j d l within =
     elim (cases_lt i j) as (λ _. ordering_index (nat_cmp (get_or xs i d).edge n) ≤ ordering_index (nat_cmp (get_or xs j d).edge n)) [
       | inl before ↦ let rise = order i j d before within in index_rises (get_or xs i d).edge (get_or xs j d).edge n (omega (arith, rise))
@@ -63,7 +63,7 @@ not_greater : (a n : ℕ) → nat_cmp a n ≡ Greater → eqb a n ≡ false
 not_greater a n h = let l = ranked a n Greater (sym h) in ne_eqb a n (λ e. absurd (omega (arith, l, e)))
 
 -- where none has the number, none is found
-pub not_got : (xs : List Answer) (n i : ℕ) → AreInOrder xs
+pub not_got : (xs : List Answer) (n i : ℕ) → AreByRisingEdge xs
     → (IsNonDecreasingBy (λ y. ordering_index (nat_cmp y.edge n)) xs → IsPartitionPoint (λ y. nat_cmp y.edge n ≡ Less) (λ y. nat_cmp y.edge n ≡ Greater) xs i)
     → answer_of xs n ≡ None
 not_got xs n i order point =

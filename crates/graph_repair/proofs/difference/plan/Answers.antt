@@ -1,9 +1,10 @@
 -- The shared lines and those of one floor alone follow from the two lists of kept lines, and the room that is made is enough.
 use Rattle.std.proofs.Common.{◌≡◌, true, false, List, length, not, refl, sym, ap, subst, ◌∙◌, arith}
 use Rattle.plane_geom.specs.declared.floor.Line.{Line}
+use Rattle.plane_geom.specs.Order.{AreOrdered}
 use Rattle.line_arena.specs.Arena.{IsArena}
 use Rattle.line_arena.specs.Stands.{StandsFor}
-use Rattle.sweep_lines.specs.Kept.{AreKept, AreOrdered, is_near}
+use Rattle.sweep_lines.specs.Kept.{AreKept, is_near}
 use Rattle.visibility_graph.specs.Meeting.{coming}
 use Rattle.graph_repair.specs.Change.{AreAlone, AreShared}
 use Rattle.graph_repair.specs.Hull.{IsAloneWithin}

@@ -3,7 +3,7 @@ use Rattle.std.proofs.Common.{◌≡◌, ◌⊎◌, ◌≤◌, true, false, leng
 use Rattle.std.specs.Prelude.{Contains, ◌↔◌}
 use Rattle.std.specs.List.{insert}
 use Rattle.std.specs.List.Sorted.{IsPartitionPoint}
-use Rattle.line_arena.specs.Order.{AreInOrder}
+use Rattle.line_arena.specs.Order.{AreOrderedWithIds}
 use Rattle.plane_geom.specs.Order.{stands_before}
 use Rattle.line_arena.proofs.LineOrder.InOrder.{in_order_put, succeeded, there_put}
 use Rattle.line_arena.proofs.order.put_in_order.Goals as goal
@@ -20,7 +20,7 @@ items c = succeeded c.insert.result _ _ _ (c.insert.ensures.succeeds c.requires.
 
 pub returns-clause-ordered : goal.returns-clause-ordered
 returns-clause-ordered c =
-    subst AreInOrder (sym (items c))
+    subst AreOrderedWithIds (sym (items c))
     (in_order_put c.args.lines.now.items c.requires.ordered c.args.line c.count_upto-place.result (bound c) (point c).0 (point c).1 c.args.id c.requires.place)
 
 pub returns-clause-there : goal.returns-clause-there

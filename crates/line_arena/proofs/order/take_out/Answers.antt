@@ -3,7 +3,7 @@ use Rattle.std.proofs.Common.{◌≡◌, ◌≢◌, ◌≤◌, ◌+◌, true, fa
 use Rattle.std.specs.Prelude.{Contains, ◌↔◌}
 use Rattle.std.specs.List.Sorted.{IsPartitionPoint}
 use Rattle.std.proofs.lemmas.List.Quantifiers.{all_pairs_remove}
-use Rattle.line_arena.specs.Order.{AreInOrder}
+use Rattle.line_arena.specs.Order.{AreOrderedWithIds}
 use Rattle.plane_geom.specs.Order.{stands_before}
 use Rattle.line_arena.proofs.LineOrder.InOrder.{inside, last_upto, left_out}
 use Rattle.line_arena.proofs.order.take_out.Goals as goal
@@ -21,7 +21,7 @@ pub returns-clause-ordered : goal.returns-clause-ordered
 returns-clause-ordered c =
     let lines = c.args.lines.now.items in
     let there = c.requires.there in
-    subst AreInOrder (sym c.remove.ensures.items)
+    subst AreOrderedWithIds (sym c.remove.ensures.items)
     (all_pairs_remove (λ d e. stands_before d.0 e.0 ≡ true) lines _ (inside lines c.requires.ordered c.args.line.now there.0 there.1 c.count_upto-place.result (at c)) c.requires.ordered)
 
 pub returns-clause-left : goal.returns-clause-left

@@ -1,12 +1,12 @@
 -- The order that is kept lists exactly the lines of the lists.
 use Rattle.std.proofs.Common.{◌∙◌, sym, subst}
 use Rattle.std.specs.Prelude.{Contains}
-use Rattle.line_arena.specs.Order.{AreInOrder}
+use Rattle.line_arena.specs.Order.{AreOrderedWithIds}
 use Rattle.line_arena.proofs.Arenas.ArenaLemmas.{line_in}
 use Rattle.line_arena.proofs.arena.LineArena.lines_in_order.Goals as goal
 
 pub returns-clause-ordered : goal.returns-clause-ordered
-returns-clause-ordered c = subst AreInOrder (sym c.as_slice.ensures.value) c.self.invariant.ordered
+returns-clause-ordered c = subst AreOrderedWithIds (sym c.as_slice.ensures.value) c.self.invariant.ordered
 
 pub returns-clause-listed : goal.returns-clause-listed
 returns-clause-listed c = λ line id.

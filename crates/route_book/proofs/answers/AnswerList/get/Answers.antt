@@ -5,7 +5,7 @@ use Rattle.std.specs.declared.cmp.Ordering.TheVariants.{Equal}
 use Rattle.std.proofs.lemmas.List.Sorted.{answers_always}
 use Rattle.walk_model.specs.declared.route.Answer.{Answer}
 use Rattle.scene_model.specs.Stale.{answer_of}
-use Rattle.route_book.specs.Exchange.{AreInOrder}
+use Rattle.route_book.specs.Exchange.{AreByRisingEdge}
 use Rattle.route_book.proofs.Answering.Ordered.{got, not_got}
 use Rattle.route_book.proofs.answers.AnswerList.get.Goals as goal
 
@@ -14,7 +14,7 @@ returns-in-Ok c =
     let ys : List Answer = c.deref.result.now in
     let r : Answer = c.index.result.now in
     let is : ys ≡ c.self.inside.items.items = c.deref.ensures.value in
-    let order : AreInOrder ys = subst AreInOrder (sym is) c.self.invariant in
+    let order : AreByRisingEdge ys = subst AreByRisingEdge (sym is) c.self.invariant in
     let at : r ≡ get_or ys c.in-Ok.place r = subst (λ (zs : List Answer). r ≡ get_or zs c.in-Ok.place r) (sym is) c.index.ensures in
     let here = c.in-Ok.ensures.position (λ (a : Answer). a.edge) (answers_always _ _ _ (λ f a q g called. search rules)) in
     let equal : nat_cmp r.edge c.args.number ≡ Equal = subst (λ (b : Answer). nat_cmp b.edge c.args.number ≡ Equal) (sym at) (here r) in
@@ -24,6 +24,6 @@ pub returns-in-Err : goal.returns-in-Err
 returns-in-Err c =
     let ys : List Answer = c.deref.result.now in
     let is : ys ≡ c.self.inside.items.items = c.deref.ensures.value in
-    let order : AreInOrder ys = subst AreInOrder (sym is) c.self.invariant in
+    let order : AreByRisingEdge ys = subst AreByRisingEdge (sym is) c.self.invariant in
     sym (subst (λ (zs : List Answer). answer_of zs c.args.number ≡ None) (is ∙ c.self.view_is)
     (not_got ys c.args.number c.in-Err.field-0 order (c.in-Err.ensures.position (λ (a : Answer). a.edge) (answers_always _ _ _ (λ f a q g called. search rules)))))
