@@ -102,13 +102,13 @@ def scenes(seen):
             hold(seen, want, got, lambda it: random_scenes.diagram_of(it).decode())
 
 
-def hold(seen, want, got, told):
+def hold(seen, want, got, shown):
     if len(want) != len(got):
         sys.exit('%d lines, and %d are wanted' % (len(got), len(want)))
     for (seed, number, line, source), mine in zip(want, got):
         if line != mine:
             seen['DIFFERENT'] += 1
-            print('seed %d, number %s:\n  oracle  %s\n  program %s\n%s' % (seed, number, line, mine, told(source)))
+            print('seed %d, number %s:\n  oracle  %s\n  program %s\n%s' % (seed, number, line, mine, shown(source)))
 
 
 def choices_of(rng, node, solids, line, cost):

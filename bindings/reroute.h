@@ -143,7 +143,7 @@ reroute_fault reroute_set_nudge(reroute_session *session, int64_t value);
  * by the next two calls, by their places from 0, until this is called again. The faults are REROUTE_NO_SESSION and
  * REROUTE_MEMORY; after one, the lines that could be read before and *count are as they were. */
 reroute_fault reroute_lines(reroute_session *session, size_t *count);
-/* The connector of a line, how many corners it has, and whether it is none of the lines before the last reroute_lines. */
+/* A line: its connector, its number of corners, and whether it was not among the lines before the last reroute_lines. */
 typedef struct reroute_line_info { uint32_t connector; size_t corners; bool changed; } reroute_line_info;
 /* The line at a place. If there is none, or the session is closed: connector 0, no corners, not changed. */
 reroute_line_info reroute_line(reroute_session *session, size_t place);

@@ -81,14 +81,14 @@ public:
     void setBuffer(double value) { done(reroute_set_buffer(&session_, milli(value))); }
     void setNudge(double value) { done(reroute_set_nudge(&session_, milli(value))); }
 
-    // Calls changed(connector, points) for each line that is none of those of the last time.
+    // Calls changed(connector, points) for each line that is not among those of the last time.
     template <typename Changed> void forChanged(Changed changed) {
         std::size_t count = 0;
         done(reroute_lines(&session_, &count));
-        tellChanged(count, changed);
+        reportChanged(count, changed);
     }
-    // The same for the lines that these edits would give. They are dropped again, and nothing but the lines that were told
-    // changes.
+    // The same for the lines that these edits would give. They are dropped again, and nothing but the lines that were
+    // reported changes.
     template <typename Edits, typename Changed> void preview(Edits edits, Changed changed) {
         std::size_t count = 0;
         done(reroute_begin(&session_));
@@ -100,7 +100,7 @@ public:
             throw;
         }
         done(reroute_abort(&session_));
-        tellChanged(count, changed);
+        reportChanged(count, changed);
     }
     // Whether the connector has a route, and what it costs.
     bool cost(uint32_t connector, double &cost) {
@@ -119,7 +119,7 @@ public:
         if (length) done(reroute_write_gml(&session_, reinterpret_cast<uint8_t *>(&text[0]), length, &length));
         return text;
     }
-    // Plays a script up to its first line that is refused; an exception tells which that is.
+    // Plays a script up to its first line that is refused; an exception says which that is.
     void play(const std::string &script) {
         std::size_t line = 0;
         reroute_fault fault = reroute_play(&session_, bytes(script), script.size(), &line);
@@ -130,7 +130,7 @@ public:
     std::size_t connectorCount() { return reroute_connector_count(&session_); }
 
 private:
-    template <typename Changed> void tellChanged(std::size_t count, Changed changed) {
+    template <typename Changed> void reportChanged(std::size_t count, Changed changed) {
         for (std::size_t place = 0; place < count; place++) {
             reroute_line_info line = reroute_line(&session_, place);
             if (line.changed) changed(line.connector, points(place, line.corners));

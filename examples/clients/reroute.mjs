@@ -31,9 +31,9 @@ export class Ended extends Error {}
 
 const unit = value => value.toFixed(3);
 
-/** Applies what is told to have changed to these lines, and answers the numbers of the connectors. */
-function apply(told, lines) {
-  return told.map(line => line.split(' ')).map(words => {
+/** Applies what is reported to have changed to these lines, and answers the numbers of the connectors. */
+function apply(reported, lines) {
+  return reported.map(line => line.split(' ')).map(words => {
     const edge = Number(words[0] === 'no' ? words[2] : words[1]);
     if (words[0] === 'no') lines.delete(edge);
     else {
@@ -97,11 +97,11 @@ export class Session {
   async say(command) {
     if (this.fault) throw this.fault;
     const lines = [];
-    const isUntold = await new Promise((done, fail) => {
+    const isUnreported = await new Promise((done, fail) => {
       this.waiting.push({ lines, done, fail });
       this.process.stdin.write(`${command}\n`);
     });
-    if (isUntold) await this.refresh();
+    if (isUnreported) await this.refresh();
     return lines;
   }
 
@@ -111,15 +111,15 @@ export class Session {
     return this.ended;
   }
 
-  #hear(told) {
-    this.changed = apply(told, this.lines);
+  #hear(reported) {
+    this.changed = apply(reported, this.lines);
   }
 
   /** Asks for all lines. */
   async refresh() {
-    const told = await this.say('lines');
+    const reported = await this.say('lines');
     this.lines = new Map();
-    this.#hear(told);
+    this.#hear(reported);
     await this.#count();
   }
 

@@ -93,9 +93,9 @@ class Session:
             raise Ended(f'status {self._process.wait()}')
         return text.decode()
 
-    def _hear(self, told):
-        """Applies what is told to have changed."""
-        self.changed = _apply(told, self.lines)
+    def _hear(self, reported):
+        """Applies what is reported to have changed."""
+        self.changed = _apply(reported, self.lines)
 
     def refresh(self):
         """Asks for all lines."""
@@ -116,7 +116,7 @@ class Session:
             self._hear(self.say('commit'))
         except BaseException:
             self._next = before
-            self._give_up()
+            self._roll_back()
             raise
 
     @contextlib.contextmanager
@@ -128,9 +128,9 @@ class Session:
             yield self
         finally:
             self._next = before
-            self._give_up()
+            self._roll_back()
 
-    def _give_up(self):
+    def _roll_back(self):
         """Drops the transaction if one is open."""
         with contextlib.suppress(Refused, Ended):
             self.say('abort')
@@ -197,10 +197,10 @@ class Session:
         self.say(f'set {setting} {_unit(value)}')
 
 
-def _apply(told, lines):
-    """Applies what is told to have changed to these lines, and answers the numbers of the connectors."""
+def _apply(reported, lines):
+    """Applies what is reported to have changed to these lines, and answers the numbers of the connectors."""
     changed = []
-    for words in (line.split() for line in told):
+    for words in (line.split() for line in reported):
         if words[0] == 'no':
             edge = int(words[2])
             lines.pop(edge, None)

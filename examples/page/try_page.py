@@ -21,7 +21,7 @@ PORT = 8643
 
 
 class Browser:
-    """Chromium, which is told what to do over two pipes."""
+    """Chromium, driven over two pipes."""
 
     def __init__(self, command, folder):
         to_browser, self.to = os.pipe()
@@ -135,7 +135,7 @@ def tried(browser, picture):
     if picture:
         browser.picture(picture)
     drawn = browser.value("[...document.querySelectorAll('polyline')].map(l => [Number(l.dataset.edge), l.getAttribute('points')])")
-    expect('the page draws the lines that were told', bool(drawn) and all(
+    expect('the page draws the lines that were reported', bool(drawn) and all(
         points == ' '.join(f'{x:.15g},{y:.15g}' for x, y in after[edge]) for edge, points in drawn))
     expect("they are those of the program's diagram", lines_in(browser.value('reroute.gml()')) == after)
     browser.value("document.getElementById('undo').click()")

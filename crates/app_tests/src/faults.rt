@@ -122,7 +122,7 @@ const MISSING: [(&str, &str); 4] = [
 ];
 
 #[test]
-fn tells_missing_files(rt: HostRuntime) -> Result<(), Fail> {
+fn reports_missing_files(rt: HostRuntime) -> Result<(), Fail> {
     for (words, output) in MISSING {
         run_row(
             &rt,

@@ -46,7 +46,7 @@ const REFUSALS: [(&str, &str); 2] = [
 ];
 
 #[test]
-fn tells_refusals(rt: HostRuntime) -> Result<(), Fail> {
+fn reports_refusals(rt: HostRuntime) -> Result<(), Fail> {
     for (script, output) in REFUSALS {
         let row = route_row("graph [ ]", script, Status::Refused, output);
         run_row(&rt, rt.alloc(), &row)?;

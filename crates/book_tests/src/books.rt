@@ -458,7 +458,7 @@ struct Outcome {
 }
 
 /// The result for the book of the old scene.
-fn told_of<R: Threads + Sync>(
+fn reported_of<R: Threads + Sync>(
     rt: Option<&R>,
     alloc: Global,
     book: &mut Book,
@@ -480,7 +480,7 @@ fn told_of<R: Threads + Sync>(
 }
 
 /// The result for a book between the scenes.
-fn told<R: Threads + Sync>(
+fn reported<R: Threads + Sync>(
     rt: Option<&R>,
     alloc: Global,
     old: &Scene,
@@ -488,7 +488,7 @@ fn told<R: Threads + Sync>(
 ) -> Result<Outcome, AllocError> {
     let mut tally = Tally::new();
     let mut book = opened(rt, alloc, old, &mut tally)?;
-    told_of(rt, alloc, &mut book, old, new, &mut tally)
+    reported_of(rt, alloc, &mut book, old, new, &mut tally)
 }
 
 /// Loads both scenes, and returns the result of the row.
@@ -501,11 +501,11 @@ fn filled<R: Threads + Sync>(
 ) -> Result<Outcome, SceneFault> {
     fill(alloc, old, row.old)?;
     fill(alloc, new, row.new)?;
-    told(rt, alloc, old, new).map_err(|_| SceneFault::Memory)
+    reported(rt, alloc, old, new).map_err(|_| SceneFault::Memory)
 }
 
 /// The result of a row.
-fn row_told<R: Threads + Sync>(
+fn row_reported<R: Threads + Sync>(
     rt: Option<&R>,
     alloc: Global,
     row: Row,
@@ -525,8 +525,8 @@ fn searches_what_may_change(rt: HostRuntime) {
             searches,
             costs: [before, after, before],
         };
-        assert_eq!(rt; row_told(Some(&rt), rt.alloc(), row), Ok(wanted));
-        let alone = row_told::<HostRuntime>(None, rt.alloc(), row);
+        assert_eq!(rt; row_reported(Some(&rt), rt.alloc(), row), Ok(wanted));
+        let alone = row_reported::<HostRuntime>(None, rt.alloc(), row);
         assert_eq!(rt; alone, Ok(wanted));
     }
 }

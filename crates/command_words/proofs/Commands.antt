@@ -1,4 +1,4 @@
--- Words whose first is no command.
+-- Arguments whose first is not a command.
 use Rattle.std.proofs.Common.{◌≡◌, ◌≢◌, ℕ, List, [], ◌∷◌, map, Some, None, codes, refl, ap, ◌∙◌}
 use Rattle.std.specs.Prelude.{slice_get, string_bytes}
 use Rattle.std.specs.declared.string.String.{String}

@@ -22,9 +22,9 @@ each_text [] = tt
 each_text (word ∷ words) = (IsUtf8-string_bytes word, each_text words)
 
 -- the arguments after the first are text
-pub texts_behind : {Z : Type 0} (words : List (String Z)) → Each IsUtf8 (drop 1 (map string_bytes words))
-texts_behind [] = tt
-texts_behind (word ∷ words) = each_text words
+pub texts_after : {Z : Type 0} (words : List (String Z)) → Each IsUtf8 (drop 1 (map string_bytes words))
+texts_after [] = tt
+texts_after (word ∷ words) = each_text words
 
 says_shown : (has : Bool) (s : Said) (m : ArgMatches) (rows : List Row) → rows_of (found_of m) ≡ rows → Says has s rows → AreShown has (Some s) (Some m)
 says_shown has s m rows is says = record {

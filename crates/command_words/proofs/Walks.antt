@@ -122,8 +122,8 @@ pub record Waits (has : Bool) (s : Said) (w : Walk) : Type 0 where
   pub holds : Holds s rows
   pub is : w ≡ walk_at rows (Some (codes "workers", [])) (option (codes "workers")) false
 
-abbrev pub Tells : Bool → Said → Walk → Type 0
-Tells has s w = Free has s w ⊎ Waits has s w
+abbrev pub Matches : Bool → Said → Walk → Type 0
+Matches has s w = Free has s w ⊎ Waits has s w
 
 -- the faults of the rest of the arguments, and the rows at their end
 abbrev pub faults_at_end : Bool → Text → Held → Kinds
@@ -154,7 +154,7 @@ Agrees has (Some s) faults rows = (faults ≡ []) × Says has s rows
 -- what one argument has to keep
 abbrev Keeps : Bool → Text → Option Said → Walk → Text → Type 0
 Keeps has name None w word = (words : List Text) → whole has name w (word ∷ words) ≡ [] → ⊥
-Keeps has name (Some s) w word = (turn_fault (shape_for has name) [] w word ≡ []) × Tells has s (walked (rules_for has) [] w word)
+Keeps has name (Some s) w word = (turn_fault (shape_for has name) [] w word ≡ []) × Matches has s (walked (rules_for has) [] w word)
 
 or_else_assoc : (a b c : Kinds) → or_else (or_else a b) c ≡ or_else a (or_else b c)
 or_else_assoc [] b c = refl
@@ -181,8 +181,8 @@ keeps_none : (has : Bool) (name : Text) (s : Said) (w : Walk) (word : Text) → 
 keeps_none has name s w word e fails = subst (λ o. Keeps has name o w word) (sym e) fails
 
 keeps_some : (has : Bool) (name : Text) (s next : Said) (w : Walk) (word : Text) → with_word has s word ≡ Some next
-    → turn_fault (shape_for has name) [] w word ≡ [] → Tells has next (walked (rules_for has) [] w word) → Keeps has name (with_word has s word) w word
-keeps_some has name s next w word e fault tells = subst (λ o. Keeps has name o w word) (sym e) (fault, tells)
+    → turn_fault (shape_for has name) [] w word ≡ [] → Matches has next (walked (rules_for has) [] w word) → Keeps has name (with_word has s word) w word
+keeps_some has name s next w word e fault matches = subst (λ o. Keeps has name o w word) (sym e) (fault, matches)
 
 free_plain : (s : Said) (word : Text) → s.waits ≡ false → with_plain s word ≡ record s { plain = s.plain ++ word ∷ [] }
 free_plain s word e = rw e refl
@@ -409,7 +409,7 @@ step_waits : (has : Bool) (name : Text) (s : Said) (word : Text) (rows : List Ro
 step_waits false name s word rows options waits ended holds looks = absurd (true≢false (sym options))
 step_waits true name s word rows options waits ended holds looks = waits_word name s rows word waits ended holds looks
 
-step : (has : Bool) (name : Text) (s : Said) (w : Walk) (word : Text) → Look word → Tells has s w → Keeps has name (with_word has s word) w word
+step : (has : Bool) (name : Text) (s : Said) (w : Walk) (word : Text) → Look word → Matches has s w → Keeps has name (with_word has s word) w word
 step has name s w word looks (inl f) = subst (λ v. Keeps has name (with_word has s word) v word) (sym f.is) (step_free has name s word f.rows f.last f.kind s.ended f.fits f.waits f.holds refl looks)
 step has name s w word looks (inr f) = subst (λ v. Keeps has name (with_word has s word) v word) (sym f.is) (step_waits has name s word f.rows f.options f.waits f.ended f.holds looks)
 
@@ -480,12 +480,12 @@ unfolding walk_fault
 end_waits false name s rows options waits = absurd (true≢false (sym options))
 end_waits true name s rows options waits = rw waits (λ e. some_fault InvalidValue [] e)
 
-at_end : (has : Bool) (name : Text) (s : Said) (w : Walk) → Tells has s w → Agrees has (said_after has s []) (whole has name w []) (rows_at_end has w [])
+at_end : (has : Bool) (name : Text) (s : Said) (w : Walk) → Matches has s w → Agrees has (said_after has s []) (whole has name w []) (rows_at_end has w [])
 at_end has name s w (inl f) = subst (λ v. Agrees has (said_after has s []) (whole has name v []) (rows_at_end has v [])) (sym f.is) (end_free has name s f.rows f.last (calm f.kind) s.ended f.fits f.waits f.holds)
 at_end has name s w (inr f) = subst (λ v. Agrees has (said_after has s []) (whole has name v []) (rows_at_end has v [])) (sym f.is) (end_waits has name s f.rows f.options f.waits)
 
 follow : (has : Bool) (name : Text) (w : Walk) (word : Text) (words : List Text) (o : Option Said) → Keeps has name o w word
-    → ((next : Said) → Tells has next (walked (rules_for has) [] w word)
+    → ((next : Said) → Matches has next (walked (rules_for has) [] w word)
     → Agrees has (said_after has next words) (whole has name (walked (rules_for has) [] w word) words) (rows_at_end has (walked (rules_for has) [] w word) words))
     → Agrees has (option_and_then (λ next. said_after has next words) o) (whole has name w (word ∷ words)) (rows_at_end has w (word ∷ words))
 follow has name w word words None keeps rest = keeps words
@@ -494,19 +494,19 @@ follow has name w word words (Some next) keeps rest =
     (sym (whole_more has name w word words ∙ ap (λ f. or_else f (whole has name (walked (rules_for has) [] w word) words)) keeps.0))
     (rest next keeps.1)
 
-agree : (has : Bool) (name : Text) (s : Said) (w : Walk) (words : List Text) → Each IsUtf8 words → Tells has s w → Agrees has (said_after has s words) (whole has name w words) (rows_at_end has w words)
-agree has name s w [] texts tells = at_end has name s w tells
-agree has name s w (word ∷ words) texts tells =
-    follow has name w word words (with_word has s word) (step has name s w word (look word texts.0) tells)
+agree : (has : Bool) (name : Text) (s : Said) (w : Walk) (words : List Text) → Each IsUtf8 words → Matches has s w → Agrees has (said_after has s words) (whole has name w words) (rows_at_end has w words)
+agree has name s w [] texts matches = at_end has name s w matches
+agree has name s w (word ∷ words) texts matches =
+    follow has name w word words (with_word has s word) (step has name s w word (look word texts.0) matches)
     (λ next more. agree has name next (walked (rules_for has) [] w word) words texts.1 more)
 
 none_fits : (has : Bool) → Fits has nothing
 none_fits false = tt
 none_fits true = tt
 
-words_behind : (has : Bool) (name : Text) (words : List Text) → argument_words (app_for has name) words ≡ drop 1 words
-words_behind false name words = refl
-words_behind true name words = refl
+words_after : (has : Bool) (name : Text) (words : List Text) → argument_words (app_for has name) words ≡ drop 1 words
+words_after false name words = refl
+words_after true name words = refl
 
 abbrev app_built : Bool → Text → App
 app_built has name = record { top = shape_for has name; subs = [] }
@@ -514,19 +514,19 @@ app_built has name = record { top = shape_for has name; subs = [] }
 faults_are : (has : Bool) (name : Text) (words : List Text) → fault_of (app_for has name) words ≡ whole has name (walk_from nothing_held) (drop 1 words)
 faults_are has name words =
     ap (λ a. built_fault a nothing_held (argument_words (app_for has name) words)) (built_is has name)
-    ∙ ap (built_fault (app_built has name) nothing_held) (words_behind has name words)
+    ∙ ap (built_fault (app_built has name) nothing_held) (words_after has name words)
     ∙ leaf_fault (app_built has name) nothing_held (drop 1 words) refl
 
 rows_are : (has : Bool) (name : Text) (words : List Text) → matches_of (app_for has name) words ≡ rows_at_end has (walk_from nothing_held) (drop 1 words)
 rows_are has name words =
     ap (λ a. rows_after a.top.rules (names_of a) (argument_words (app_for has name) words)) (built_is has name)
-    ∙ ap (rows_after (rules_for has) []) (words_behind has name words)
+    ∙ ap (rows_after (rules_for has) []) (words_after has name words)
 
 -- what clap finds in the arguments is what they have given
 pub words_agree : (has : Bool) (name : Text) (words : List Text) → Each IsUtf8 (drop 1 words)
     → Agrees has (said_after has nothing_said (drop 1 words)) (fault_of (app_for has name) words) (matches_of (app_for has name) words)
 words_agree has name words texts =
-    let start : Tells has nothing_said (walk_from nothing_held) = inl (record {
+    let start : Matches has nothing_said (walk_from nothing_held) = inl (record {
       rows = [];
       last = nothing;
       kind = false;

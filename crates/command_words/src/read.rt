@@ -154,7 +154,7 @@ fn audit_words<'a>(alloc: Global, words: &'a [String]) -> Result<Option<Form<'a>
     }))
 }
 
-/// What the arguments after the program's name ask for, or `None` where they are of no form. The forms are
+/// What the arguments after the program's name ask for, or `None` where they fit no subcommand. The forms are
 /// `check FILE`, `route FILE FILE` with `--workers N` and `--count`, `make SEED`, `preview FILE FILE` with
 /// `--workers N`, `shared FILE`, `prove FILE` and `audit FILE FILE`. Its only error is out of memory.
 pub fn read_words<'a>(alloc: Global, words: &'a [String]) -> Result<Option<Form<'a>>, AllocError>

@@ -10,16 +10,16 @@ use Rattle.scene_model.specs.declared.edge.Edge.{Edge}
 use Rattle.scene_model.specs.Scene.{Scene, via_count}
 use Rattle.scene_model.specs.Loads.{IsLoadableEdge}
 use Rattle.scene_model.proofs.Editing.Refusals.{or_none}
-use Rattle.scene_model.proofs.Directions.{told}
-use Rattle.scene_model.proofs.Directions.Told.{yes, no}
+use Rattle.scene_model.proofs.Directions.{tested}
+use Rattle.scene_model.proofs.Directions.Tested.{yes, no}
 use Rattle.diagram_read.specs.declared.fault.Part.TheVariants as part
 use Rattle.diagram_read.specs.declared.fault.DiagramFault.TheVariants.{BadEnd, TooMany, BadVia, BadWeight}
 use Rattle.diagram_read.specs.Checkpoints.{checkpoint_of}
 use Rattle.diagram_read.specs.Faults.{need, refuse, each}
 use Rattle.diagram_read.specs.Values.{ListEntry, value_at, values_at}
 use Rattle.diagram_read.specs.Edges.{end_node, class_in, weight_of, weight_in, with_via, loop_at, connector_in, edge_in}
-use Rattle.diagram_read.proofs.Steps.{bound, chosen, kept, ok_told, not_refused, there}
-use Rattle.diagram_read.proofs.PinsRead.{some_told}
+use Rattle.diagram_read.proofs.Steps.{bound, chosen, kept, ok_holds, not_refused, there}
+use Rattle.diagram_read.proofs.PinsRead.{some_holds}
 
 -- the edge may be loaded, and has few checkpoints
 pub record IsRoomyEdge (s : Scene) (e : Edge) : Type 0 where
@@ -48,7 +48,7 @@ digit_weighs b h = (let parts = and_parts (nat_le 49 b) (nat_le b 52) h in recor
 
 digits_weigh : (bytes : List ℕ) → IfSome (weight_of bytes) IsWeight
 digits_weigh [] = tt
-digits_weigh (b ∷ []) = elim (told (nat_le 49 b && nat_le b 52)) as (λ _. IfSome (weight_of (b ∷ [])) IsWeight) [ yes h ↦ rw h (digit_weighs b h) | no h ↦ rw h tt ]
+digits_weigh (b ∷ []) = elim (tested (nat_le 49 b && nat_le b 52)) as (λ _. IfSome (weight_of (b ∷ [])) IsWeight) [ yes h ↦ rw h (digit_weighs b h) | no h ↦ rw h tt ]
 digits_weigh (b ∷ c ∷ more) = tt
 
 weighs : (value : Option Content) → IfSome (weight_in value) IsWeight
@@ -62,7 +62,7 @@ apart a b h same = false≢true (sym h ∙ (Decides-int_eq a b).1 same)
 
 -- numbers that differ are distinguished
 pub other_ends : (a b : ℤ) → (a ≡ b → ⊥) → int_eq a b ≡ false
-other_ends a b differ = elim (told (int_eq a b)) as (λ _. int_eq a b ≡ false) [ yes h ↦ absurd (differ ((Decides-int_eq a b).0 h)) | no h ↦ h ]
+other_ends a b differ = elim (tested (int_eq a b)) as (λ _. int_eq a b ≡ false) [ yes h ↦ absurd (differ ((Decides-int_eq a b).0 h)) | no h ↦ h ]
 
 connector_roomy : (s : Scene) (place : ℕ) (from to : Node) (entry : ListEntry) → int_eq from.id to.id ≡ false → place ≡ suc (length s.edges) → s.next_edge ≤ place → place < 4294967295 → via_count s ≤ 256
     → IfOk (connector_in place (via_count s) from to entry) (IsRoomyEdge s)
@@ -71,8 +71,8 @@ connector_roomy s place from to entry other here next low few =
     bound _ (need (BadEnd place) (class_in to (value_at (codes "targetPin") entry.1))) _ (λ to_class b.
     bound _ (each (with_via place (via_count s)) [] (values_at (codes "via") entry.1)) _ (λ via c.
     bound _ (need (BadWeight place) (weight_in (value_at (codes "nudgeWeight") entry.1))) _ (λ weight d.
-    let w = some_told (weight_in (value_at (codes "nudgeWeight") entry.1)) weight IsWeight (there (BadWeight place) (weight_in (value_at (codes "nudgeWeight") entry.1)) weight d) (weighs (value_at (codes "nudgeWeight") entry.1)) in
-    let v = ok_told (each (with_via place (via_count s)) [] (values_at (codes "via") entry.1)) via (AreFew (via_count s)) c
+    let w = some_holds (weight_in (value_at (codes "nudgeWeight") entry.1)) weight IsWeight (there (BadWeight place) (weight_in (value_at (codes "nudgeWeight") entry.1)) weight d) (weighs (value_at (codes "nudgeWeight") entry.1)) in
+    let v = ok_holds (each (with_via place (via_count s)) [] (values_at (codes "via") entry.1)) via (AreFew (via_count s)) c
     (kept (AreFew (via_count s)) (with_via place (via_count s)) (via_kept place (via_count s)) [] (values_at (codes "via") entry.1) (omega (arith, few))) in
     record {
       loadable = record { next = next; low = low; loop = λ same. absurd (apart from.id to.id other same); some_weight = w.some; low_weight = w.low };
@@ -99,7 +99,7 @@ fits : (m n : ℕ) → m < n → nat_le n m ≡ false
 fits m n below = grind (arith, nat_tests)
 
 -- the edge of a list between two nodes
-pub edge_told : (s : Scene) (entry : ListEntry) (from to : Node) (place before : ℕ) → place ≡ suc (length s.edges) → before ≡ via_count s → length s.edges < 512
+pub edge_read_as : (s : Scene) (entry : ListEntry) (from to : Node) (place before : ℕ) → place ≡ suc (length s.edges) → before ≡ via_count s → length s.edges < 512
     → end_node s (value_at (codes "source") entry.1) ≡ Some from → end_node s (value_at (codes "target") entry.1) ≡ Some to → int_eq from.id to.id ≡ false
     → edge_in s entry ≡ connector_in place before from to entry
-edge_told s entry from to place before here counted few source target other = rw (here, counted, fits (length s.edges) 512 few, source, target, other) refl
+edge_read_as s entry from to place before here counted few source target other = rw (here, counted, fits (length s.edges) 512 few, source, target, other) refl

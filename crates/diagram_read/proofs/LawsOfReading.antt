@@ -75,12 +75,12 @@ pub others_are_passed_over : OthersArePassedOver
 others_are_passed_over = record { nodes = node_past; edges = edge_past }
 
 -- what is not read as no number
-told_number : (r : Result ℤ MilliFault) → (r ≡ Err NotNumber → ⊥) → is_no_number r ≡ false
-told_number (Ok value) is = refl
-told_number (Err OutOfRange) is = refl
-told_number (Err NotNumber) is = absurd (is refl)
+number_known : (r : Result ℤ MilliFault) → (r ≡ Err NotNumber → ⊥) → is_no_number r ≡ false
+number_known (Ok value) is = refl
+number_known (Err OutOfRange) is = refl
+number_known (Err NotNumber) is = absurd (is refl)
 
 pub numbers_agree : NumbersAgree
-numbers_agree (number bytes) grammatical = told_number (read bytes) (number_read bytes grammatical)
+numbers_agree (number bytes) grammatical = number_known (read bytes) (number_read bytes grammatical)
 numbers_agree (text bytes) grammatical = refl
 numbers_agree (list inner) grammatical = refl

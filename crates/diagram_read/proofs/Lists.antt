@@ -8,8 +8,8 @@ use Rattle.gml_text.specs.View.{content, entry, pairs}
 use Rattle.gml_text.specs.declared.tree.Value.{the_lemmas}
 use Rattle.gml_text.specs.declared.tree.Pair.{Pair}
 use Rattle.gml_text.proofs.Views.{entry_key}
-use Rattle.scene_model.proofs.Directions.{told}
-use Rattle.scene_model.proofs.Directions.Told.{yes, no}
+use Rattle.scene_model.proofs.Directions.{tested}
+use Rattle.scene_model.proofs.Directions.Tested.{yes, no}
 use Rattle.diagram_read.specs.Values.{as_list, value_at, values_at, lists_at, values, entries_from}
 
 -- the value of a pair
@@ -40,7 +40,7 @@ lists_here key ps i p inner within is same listed = ap (lists_at key) (turn ps i
 
 pub lists_no : (key : List ℕ) (ps : List Pair) (i : ℕ) (p : Pair) → i < length ps → p ≡ get_or ps i p → as_list (content p.value) ≡ None
     → lists_at key (pairs (drop i ps)) ≡ lists_at key (pairs (drop (i + 1) ps))
-lists_no key ps i p within is bare = elim (told (bytes_eq p.key key)) as (λ _. lists_at key (pairs (drop i ps)) ≡ lists_at key (pairs (drop (i + 1) ps))) [
+lists_no key ps i p within is bare = elim (tested (bytes_eq p.key key)) as (λ _. lists_at key (pairs (drop i ps)) ≡ lists_at key (pairs (drop (i + 1) ps))) [
   | yes same ↦ ap (lists_at key) (turn ps i p within is) ∙ (rw (same, bare) refl)
   | no other ↦ ap (lists_at key) (turn ps i p within is) ∙ (rw other refl)
 ]
@@ -57,7 +57,7 @@ entries_here key ps i p inner within is same listed =
 
 pub entries_no : (key : List ℕ) (ps : List Pair) (i : ℕ) (p : Pair) → i < length ps → p ≡ get_or ps i p → as_list (content p.value) ≡ None
     → entries_from i key (pairs (drop i ps)) ≡ entries_from (i + 1) key (pairs (drop (i + 1) ps))
-entries_no key ps i p within is bare = elim (told (bytes_eq p.key key)) as (λ _. entries_from i key (pairs (drop i ps)) ≡ entries_from (i + 1) key (pairs (drop (i + 1) ps))) [
+entries_no key ps i p within is bare = elim (tested (bytes_eq p.key key)) as (λ _. entries_from i key (pairs (drop i ps)) ≡ entries_from (i + 1) key (pairs (drop (i + 1) ps))) [
   | yes same ↦ ap (entries_from i key) (turn ps i p within is) ∙ (rw (same, bare) (ap (λ n. entries_from n key (pairs (drop (i + 1) ps))) (sym (add-one i))))
   | no other ↦ ap (entries_from i key) (turn ps i p within is) ∙ (rw other (ap (λ n. entries_from n key (pairs (drop (i + 1) ps))) (sym (add-one i))))
 ]
@@ -74,7 +74,7 @@ key_within (p ∷ ps) zero key is = omega arith
 key_within (p ∷ ps) (suc i) key is = (let deeper = key_within ps i key is in omega arith)
 
 differ : (xs ys : List ℕ) → xs ≢ ys → bytes_eq xs ys ≡ false
-differ xs ys other = elim (told (bytes_eq xs ys)) as (λ _. bytes_eq xs ys ≡ false) [
+differ xs ys other = elim (tested (bytes_eq xs ys)) as (λ _. bytes_eq xs ys ≡ false) [
   | yes same ↦ absurd (other ((bytes_eq-Decides xs ys).0 same))
   | no h ↦ h
 ]

@@ -16,8 +16,8 @@ use Rattle.diagram_read.specs.Faults.{◌>>=◌, need, refuse, each}
 use Rattle.diagram_read.specs.Values.{ListEntry, value_at, values_at, as_list, milli_of, in_range, is_no_number, id_of}
 use Rattle.diagram_read.specs.Pins.{pin_of}
 use Rattle.diagram_read.specs.Nodes.{size_in, boxed, bare_node, with_pin, node_in}
-use Rattle.diagram_read.proofs.Steps.{bound, kept, ok_told, not_refused, there}
-use Rattle.diagram_read.proofs.PinsRead.{pin_loadable, some_told}
+use Rattle.diagram_read.proofs.Steps.{bound, kept, ok_holds, not_refused, there}
+use Rattle.diagram_read.proofs.PinsRead.{pin_loadable, some_holds}
 
 -- the node may be loaded, where the nodes before it have `before` pins
 pub record IsRoomy (before : ℕ) (n : Node) : Type 0 where
@@ -31,7 +31,7 @@ pin_kept place before n value roomy =
     let room = leb-false 256 (before + length n.pins) (not_refused (TooMany part.Pin) (nat_le 256 (before + length n.pins)) few is) in
     let more = length-append n.pins (pin ∷ []) in
     record {
-      loadable = All-push IsLoadablePin n.pins pin roomy.loadable (some_told (pin_of n value) pin IsLoadablePin (there (BadPin place) (pin_of n value) pin got) (pin_loadable n value));
+      loadable = All-push IsLoadablePin n.pins pin roomy.loadable (some_holds (pin_of n value) pin IsLoadablePin (there (BadPin place) (pin_of n value) pin got) (pin_loadable n value));
       few = omega (arith, room, more);
     }))
 
@@ -69,16 +69,16 @@ node_roomy s entry few =
     bound _ (refuse (SameId place) (is_some (node_with s id))) _ (λ new c.
     bound _ (bare_node place id entry) _ (λ n d.
     kept (IsRoomy (pin_count s)) (with_pin place (pin_count s)) (pin_kept place (pin_count s)) n (values_at (codes "pin") entry.1)
-    (begins (pin_count s) n (ok_told (bare_node place id entry) n IsBare d (bare place id entry)) few)))))
+    (begins (pin_count s) n (ok_holds (bare_node place id entry) n IsBare d (bare place id entry)) few)))))
 
 fits : (m n : ℕ) → m < n → nat_le n m ≡ false
 fits m n below = grind (arith, nat_tests)
 
 -- the node of a list whose id is new
-pub node_told : (s : Scene) (entry : ListEntry) (id : ℤ) (place before : ℕ) → place ≡ suc (length s.nodes) → before ≡ pin_count s → length s.nodes < 256
+pub node_read_as : (s : Scene) (entry : ListEntry) (id : ℤ) (place before : ℕ) → place ≡ suc (length s.nodes) → before ≡ pin_count s → length s.nodes < 256
     → option_and_then id_of (value_at (codes "id") entry.1) ≡ Some id → is_some (node_with s id) ≡ false
     → node_in s entry ≡ (bare_node place id entry >>= (λ n. each (with_pin place before) n (values_at (codes "pin") entry.1)))
-node_told s entry id place before here counted few known new = rw (here, counted, fits (length s.nodes) 256 few, known, new) refl
+node_read_as s entry id place before here counted few known new = rw (here, counted, fits (length s.nodes) 256 few, known, new) refl
 
 -- the value of a reference exists if the reference does
 pub copied : {A : Type 0} (o : Option (Bor A)) → is_some (option_copied o) ≡ is_some o

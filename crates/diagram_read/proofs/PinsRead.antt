@@ -10,8 +10,8 @@ use Rattle.scene_model.specs.declared.pin.Dirs.{Dirs}
 use Rattle.scene_model.specs.Valid.{HasDirection}
 use Rattle.scene_model.specs.Edits.{is_outside}
 use Rattle.scene_model.specs.Loads.{IsLoadablePin}
-use Rattle.scene_model.proofs.Directions.{dirs_lead, told}
-use Rattle.scene_model.proofs.Directions.Told.{yes, no}
+use Rattle.scene_model.proofs.Directions.{dirs_lead, tested}
+use Rattle.scene_model.proofs.Directions.Tested.{yes, no}
 use Rattle.diagram_read.specs.Values.{value_at, as_list, class_of, exact_at, in_range, milli_of}
 use Rattle.diagram_read.specs.Pins.{added_class, dirs_in, in_costs, cost_in, within_box, pin_of}
 
@@ -36,7 +36,7 @@ not_below : (a b : ℤ) → int_lt a b ≡ false → b ≤ℤ a
 not_below a b h = omega (arith, ints, h)
 
 in_cost : (cost : ℤ) → IfSome (in_costs cost) IsCost
-in_cost cost = elim (told (int_lt cost (pos 0) || int_lt (pos (10 ^ 9)) cost)) as (λ _. IfSome (in_costs cost) IsCost) [
+in_cost cost = elim (tested (int_lt cost (pos 0) || int_lt (pos (10 ^ 9)) cost)) as (λ _. IfSome (in_costs cost) IsCost) [
   | yes h ↦ rw h tt
   | no h ↦
       (let within = or_none (int_lt cost (pos 0)) (int_lt (pos (10 ^ 9)) cost) h in
@@ -48,11 +48,11 @@ costs None = record { low = omega (arith, ints); high = omega (arith, ints) }
 costs (Some value) = followed _ (in_range (milli_of value)) _ (λ cost is. in_cost cost)
 
 -- a fact of a value, where it is known
-pub some_told : {A : Type 0} (o : Option A) (x : A) (P : A → Type 0) → o ≡ Some x → IfSome o P → P x
-some_told o x P is holds = subst (λ q. IfSome q P) is holds
+pub some_holds : {A : Type 0} (o : Option A) (x : A) (P : A → Type 0) → o ≡ Some x → IfSome o P → P x
+some_holds o x P is holds = subst (λ q. IfSome q P) is holds
 
 inside : (n : Node) (p : Pin) → IsLoadablePin p → IfSome (within_box n p) IsLoadablePin
-inside n p loadable = elim (told (is_outside n.half_w n.half_h p)) as (λ _. IfSome (within_box n p) IsLoadablePin) [ yes h ↦ rw h tt | no h ↦ rw h loadable ]
+inside n p loadable = elim (tested (is_outside n.half_w n.half_h p)) as (λ _. IfSome (within_box n p) IsLoadablePin) [ yes h ↦ rw h tt | no h ↦ rw h loadable ]
 
 pub pin_loadable : (n : Node) (value : Content) → IfSome (pin_of n value) IsLoadablePin
 pin_loadable n value =
@@ -63,6 +63,6 @@ pin_loadable n value =
     followed _ (exact_at (codes "y") pairs) _ (λ dy e.
     followed _ (dirs_in (value_at (codes "dirs") pairs)) _ (λ dirs f.
     followed _ (cost_in (value_at (codes "cost") pairs)) _ (λ cost g.
-    let bounds = some_told (cost_in (value_at (codes "cost") pairs)) cost IsCost g (costs (value_at (codes "cost") pairs)) in
+    let bounds = some_holds (cost_in (value_at (codes "cost") pairs)) cost IsCost g (costs (value_at (codes "cost") pairs)) in
     inside n (record { class = added; dx = dx; dy = dy; dirs = dirs; cost = cost })
     (record { direction = lead (value_at (codes "dirs") pairs) dirs f; cost = bounds.low; low_cost = bounds.high }))))))))

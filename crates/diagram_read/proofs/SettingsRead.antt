@@ -13,7 +13,7 @@ use Rattle.diagram_read.specs.declared.fault.Part.TheVariants.{Router}
 use Rattle.diagram_read.specs.declared.fault.DiagramFault.TheVariants.{OutOfRange}
 use Rattle.diagram_read.specs.Settings.{with_setting_read, with_setting_at, with_settings_in}
 use Rattle.diagram_read.specs.Values.{value_at, milli_of}
-use Rattle.diagram_read.proofs.Steps.{bound, chosen, ok_told}
+use Rattle.diagram_read.proofs.Steps.{bound, chosen, ok_holds}
 
 pub record HasLists (s t : Scene) : Type 0 where
   pub nodes : t.nodes ≡ s.nodes
@@ -32,10 +32,10 @@ all_keep None s = record { nodes = refl; edges = refl; next = refl }
 all_keep (Some router) s =
     bound _ (with_setting_at Penalty (codes "penalty") router s) _ (λ first a.
     bound _ (with_setting_at Buffer (codes "buffer") router first) _ (λ second b.
-    let one = ok_told (with_setting_at Penalty (codes "penalty") router s) first (HasLists s) a (one_keeps Penalty s s (option_map milli_of (value_at (codes "penalty") router)) (record { nodes = refl; edges = refl; next = refl })) in
-    let two = ok_told (with_setting_at Buffer (codes "buffer") router first) second (HasLists s) b (one_keeps Buffer s first (option_map milli_of (value_at (codes "buffer") router)) one) in
+    let one = ok_holds (with_setting_at Penalty (codes "penalty") router s) first (HasLists s) a (one_keeps Penalty s s (option_map milli_of (value_at (codes "penalty") router)) (record { nodes = refl; edges = refl; next = refl })) in
+    let two = ok_holds (with_setting_at Buffer (codes "buffer") router first) second (HasLists s) b (one_keeps Buffer s first (option_map milli_of (value_at (codes "buffer") router)) one) in
     one_keeps Nudge s second (option_map milli_of (value_at (codes "nudge") router)) two))
 
 -- so an empty scene has none yet
 pub still_empty : (o : Option Pairs) (s t : Scene) → s ≡ empty_scene → with_settings_in o s ≡ Ok t → HasLists empty_scene t
-still_empty o s t empty is = subst (λ (e : Scene). HasLists e t) empty (ok_told (with_settings_in o s) t (HasLists s) is (all_keep o s))
+still_empty o s t empty is = subst (λ (e : Scene). HasLists e t) empty (ok_holds (with_settings_in o s) t (HasLists s) is (all_keep o s))

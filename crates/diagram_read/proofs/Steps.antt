@@ -21,14 +21,14 @@ fault_moves (BadWeight place) a b moves is = moves (BadWeight place) is
 fault_moves Memory a b moves is = tt
 
 -- a step that is read leads to the rest of the list
-pub one_more : {S X : Type 0} (step : S → X → Result S DiagramFault) (told : Result S DiagramFault) (s next : S) (x : X) (xs : List X)
-    → told ≡ each step s (x ∷ xs) → step s x ≡ Ok next → told ≡ each step next xs
-one_more step told s next x xs is read = is ∙ ap (λ r. r >>= (λ t. each step t xs)) read
+pub one_more : {S X : Type 0} (step : S → X → Result S DiagramFault) (outcome : Result S DiagramFault) (s next : S) (x : X) (xs : List X)
+    → outcome ≡ each step s (x ∷ xs) → step s x ≡ Ok next → outcome ≡ each step next xs
+one_more step outcome s next x xs is read = is ∙ ap (λ r. r >>= (λ t. each step t xs)) read
 
 -- a step that has a fault ends the list
-pub stops : {S X : Type 0} (step : S → X → Result S DiagramFault) (told : Result S DiagramFault) (s : S) (x : X) (xs : List X) (f : DiagramFault)
-    → told ≡ each step s (x ∷ xs) → IsFault (step s x) f → IsFault told f
-stops step told s x xs f is bad = fault_moves f (step s x) told (λ g e. is ∙ ap (λ r. r >>= (λ t. each step t xs)) e) bad
+pub stops : {S X : Type 0} (step : S → X → Result S DiagramFault) (outcome : Result S DiagramFault) (s : S) (x : X) (xs : List X) (f : DiagramFault)
+    → outcome ≡ each step s (x ∷ xs) → IsFault (step s x) f → IsFault outcome f
+stops step outcome s x xs f is bad = fault_moves f (step s x) outcome (λ g e. is ∙ ap (λ r. r >>= (λ t. each step t xs)) e) bad
 
 -- what holds of what a step leads to holds of what both lead to
 pub bound : {A B : Type 0} (P : B → Type 0) (r : Result A DiagramFault) (next : A → Result B DiagramFault) → ((x : A) → r ≡ Ok x → IfOk (next x) P) → IfOk (r >>= next) P
@@ -36,8 +36,8 @@ bound P (Ok x) next holds = holds x refl
 bound P (Err fault) next holds = tt
 
 -- a fact of what is read, where it is known
-pub ok_told : {A : Type 0} (r : Result A DiagramFault) (x : A) (P : A → Type 0) → r ≡ Ok x → IfOk r P → P x
-ok_told r x P is holds = subst (λ q. IfOk q P) is holds
+pub ok_holds : {A : Type 0} (r : Result A DiagramFault) (x : A) (P : A → Type 0) → r ≡ Ok x → IfOk r P → P x
+ok_holds r x P is holds = subst (λ q. IfOk q P) is holds
 
 -- a choice of two readings
 pub chosen : {A : Type 0} (P : A → Type 0) (b : Bool) (x y : Result A DiagramFault) → (b ≡ true → IfOk x P) → (b ≡ false → IfOk y P) → IfOk (if b then x else y) P
@@ -47,7 +47,7 @@ chosen P false x y one other = other refl
 -- what each step keeps, all of them keep
 pub kept : {S X : Type 0} (P : S → Type 0) (step : S → X → Result S DiagramFault) → ((s : S) (x : X) → P s → IfOk (step s x) P) → (s : S) (xs : List X) → P s → IfOk (each step s xs) P
 kept P step keeps s [] holds = holds
-kept P step keeps s (x ∷ xs) holds = bound P (step s x) _ (λ next is. kept P step keeps next xs (ok_told (step s x) next P is (keeps s x holds)))
+kept P step keeps s (x ∷ xs) holds = bound P (step s x) _ (λ next is. kept P step keeps next xs (ok_holds (step s x) next P is (keeps s x holds)))
 
 -- what was not refused does not hold
 pub not_refused : (fault : DiagramFault) (b : Bool) (done : Unit) → refuse fault b ≡ Ok done → b ≡ false
@@ -60,21 +60,21 @@ there fault (Some y) x is = cc
 there fault None x is = cc
 
 -- a fault of the reading is one of its faults
-pub fault_is : {A : Type 0} (f : DiagramFault) (told : Result A DiagramFault) → told ≡ Err f → IsFault told f
-fault_is NoGraph told is = is
-fault_is (BadId place) told is = is
-fault_is (SameId place) told is = is
-fault_is (NoPlace place) told is = is
-fault_is (BadNumber part place) told is = is
-fault_is (BadEnd place) told is = is
-fault_is (OutOfRange part place) told is = is
-fault_is (TooMany part) told is = is
-fault_is (BadPin place) told is = is
-fault_is (BadVia place) told is = is
-fault_is (BadWeight place) told is = is
-fault_is Memory told is = tt
+pub fault_is : {A : Type 0} (f : DiagramFault) (outcome : Result A DiagramFault) → outcome ≡ Err f → IsFault outcome f
+fault_is NoGraph outcome is = is
+fault_is (BadId place) outcome is = is
+fault_is (SameId place) outcome is = is
+fault_is (NoPlace place) outcome is = is
+fault_is (BadNumber part place) outcome is = is
+fault_is (BadEnd place) outcome is = is
+fault_is (OutOfRange part place) outcome is = is
+fault_is (TooMany part) outcome is = is
+fault_is (BadPin place) outcome is = is
+fault_is (BadVia place) outcome is = is
+fault_is (BadWeight place) outcome is = is
+fault_is Memory outcome is = tt
 
 -- a result that passes a fault
-pub handed_on : {A : Type 0} (told : Result A DiagramFault) (f : DiagramFault) (answer : Result A DiagramFault) → IsFault told f → IsErrAnd answer (λ e. e ≡ f) → IsRead told answer
-handed_on told f (Ok x) is handed = absurd handed
-handed_on told f (Err e) is handed = subst (IsFault told) (sym handed) is
+pub passed_on : {A : Type 0} (outcome : Result A DiagramFault) (f : DiagramFault) (answer : Result A DiagramFault) → IsFault outcome f → IsErrAnd answer (λ e. e ≡ f) → IsRead outcome answer
+passed_on outcome f (Ok x) is passed = absurd passed
+passed_on outcome f (Err e) is passed = subst (IsFault outcome) (sym passed) is

@@ -26,15 +26,15 @@ each step s (x ∷ xs) = step s x >>= (λ next. each step next xs)
 
 -- the fault of the reading, or out of memory, on which the reading has no influence
 abbrev pub IsFault : {A : Type 0} → Result A DiagramFault → DiagramFault → Type 0
-IsFault told Memory = Unit {0}
-IsFault told fault = told ≡ Err fault
+IsFault outcome Memory = Unit {0}
+IsFault outcome fault = outcome ≡ Err fault
 
 -- the result of a call that computes the reading
 abbrev pub IsRead : {A : Type 0} → Result A DiagramFault → Result A DiagramFault → Type 0
-IsRead told (Ok x) = told ≡ Ok x
-IsRead told (Err fault) = IsFault told fault
+IsRead outcome (Ok x) = outcome ≡ Ok x
+IsRead outcome (Err fault) = IsFault outcome fault
 
 -- the same for a call that leaves what it reads in a reference
 abbrev pub IsReadInto : {A : Type 0} → Result A DiagramFault → A → Result Unit DiagramFault → Type 0
-IsReadInto told x (Ok done) = told ≡ Ok x
-IsReadInto told x (Err fault) = IsFault told fault
+IsReadInto outcome x (Ok done) = outcome ≡ Ok x
+IsReadInto outcome x (Err fault) = IsFault outcome fault

@@ -241,7 +241,7 @@ enum Unwritten {
 }
 
 /// The text, unless out of memory.
-fn told(text: Result<Vec<u8>, AllocError>) -> Result<Vec<u8>, Unwritten> {
+fn reported(text: Result<Vec<u8>, AllocError>) -> Result<Vec<u8>, Unwritten> {
     match text {
         Ok(text) => Ok(text),
         Err(_) => Err(Unwritten::Memory),
@@ -305,7 +305,7 @@ fn read_and_routed(alloc: Global, doc: &Doc, points: Vec<Point>) -> Result<Vec<u
     };
     scene.valid();
     if has_connector(&scene) {
-        told(with_line(alloc, doc, &scene, points))
+        reported(with_line(alloc, doc, &scene, points))
     } else {
         Err(Unwritten::Refused)
     }
@@ -338,7 +338,7 @@ fn read_and_edited(alloc: Global, doc: &Doc, edit: &Edit) -> Result<Vec<u8>, Unw
     };
     scene.valid();
     match scene.edit(edit) {
-        Ok(()) => told(written(alloc, doc, &scene, &[])),
+        Ok(()) => reported(written(alloc, doc, &scene, &[])),
         Err(_) => Err(Unwritten::Refused),
     }
 }
@@ -366,7 +366,7 @@ fn joined(alloc: Global, front: &str, middle: &str, back: &str) -> Result<String
 /// A text in its printed form.
 fn laid_out(alloc: Global, text: &str) -> Result<Vec<u8>, Unwritten> {
     match parse(alloc, text.as_bytes()) {
-        Ok(doc) => told(print(alloc, &doc)),
+        Ok(doc) => reported(print(alloc, &doc)),
         Err(_) => Err(Unwritten::Unread),
     }
 }

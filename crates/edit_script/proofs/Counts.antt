@@ -11,8 +11,8 @@ use Rattle.std.proofs.Math.Nat.{pow-le-pow_right}
 use Rattle.fixed_milli.specs.Value.{signed}
 use Rattle.fixed_milli.specs.Whole.{are_digits, whole_of, read_whole}
 use Rattle.edit_script.specs.Values.{count_of}
-use Rattle.scene_model.proofs.Directions.{told}
-use Rattle.scene_model.proofs.Directions.Told.{yes, no}
+use Rattle.scene_model.proofs.Directions.{tested}
+use Rattle.scene_model.proofs.Directions.Tested.{yes, no}
 
 -- a digit is no sign
 no_sign : (b : ℕ) (bs : List ℕ) → is_ascii_digit b ≡ true → signed (b ∷ bs) ≡ (false, b ∷ bs)
@@ -49,13 +49,13 @@ pub record IsCount (word : List ℕ) (value : ℤ) : Type 0 where
 pub count_read : (word : List ℕ) (value : ℤ) → 1 ≤ length word → is_ascii_digit (get_or word 0 0) ≡ true → read_whole 9 word ≡ Some value → IsCount word value
 count_read [] value some digit reads = absurd (omega arith)
 count_read (b ∷ bs) value some digit reads =
-    let told_value : whole_of 9 (false, b ∷ bs) ≡ Some value = sym (ap (whole_of 9) (no_sign b bs digit)) ∙ reads in
-    elim (told (are_digits 9 (b ∷ bs))) as (λ _. IsCount (b ∷ bs) value) [
+    let value_read : whole_of 9 (false, b ∷ bs) ≡ Some value = sym (ap (whole_of 9) (no_sign b bs digit)) ∙ reads in
+    elim (tested (are_digits 9 (b ∷ bs))) as (λ _. IsCount (b ∷ bs) value) [
       | yes are ↦ record {
         count = digits_value 10 (b ∷ bs);
         is_count = rw are refl;
-        same = (let e : Some (pos (digits_value 10 (b ∷ bs))) ≡ Some value = rw are at told_value in cc);
+        same = (let e : Some (pos (digits_value 10 (b ∷ bs))) ≡ Some value = rw are at value_read in cc);
         small = few_digits (b ∷ bs) are;
       }
-      | no not ↦ (let e : None ≡ Some value = rw not at told_value in cc)
+      | no not ↦ (let e : None ≡ Some value = rw not at value_read in cc)
     ]

@@ -3,13 +3,13 @@ use Rattle.std.proofs.Common.{◌≡◌, ℕ, ◌+◌, ◌<◌, List, [], ◌∷
 use Rattle.std.proofs.lemmas.List.{drop_more, map_push, take-append-drop, take_more}
 use Rattle.scene_model.specs.declared.edit.Command.{Command}
 use Rattle.session_laws.specs.State.{State}
-use Rattle.session_laws.specs.Calls.{AreCalls, IsCall, Told}
+use Rattle.session_laws.specs.Calls.{AreCalls, IsCall, CommandResult}
 use Rattle.editor_files.specs.Drawing.{DrawingState, IsDrawingCall, Keeps}
 use Rattle.editor_files.specs.declared.script.Stopped.{Stopped}
 use Rattle.editor_files.specs.Played.{AreDone, IsRefused, StopsAt, done}
 
 -- one more call
-calls_push : (ts : List Told) (t : Told) (old middle new : State) → AreCalls ts old middle → IsCall t.command t.answer middle new → AreCalls (ts ++ t ∷ []) old new
+calls_push : (ts : List CommandResult) (t : CommandResult) (old middle new : State) → AreCalls ts old middle → IsCall t.command t.answer middle new → AreCalls (ts ++ t ∷ []) old new
 calls_push [] t old middle new are call = (new, subst (λ (s : State). IsCall t.command t.answer s new) are call, refl)
 calls_push (u ∷ ts) t old middle new are call = (are.0, are.1, calls_push ts t are.0 middle new are.2 call)
 
@@ -22,7 +22,7 @@ keeps_on old middle new h k = record {
 
 done_push : (cs : List (ℕ × Command)) (c : ℕ × Command) (old middle new : DrawingState) → AreDone cs old middle → IsDrawingCall c.1 (Ok tt) middle new → AreDone (cs ++ c ∷ []) old new
 done_push cs c old middle new are call = record {
-  calls = subst (λ (ts : List Told). AreCalls ts old.session new.session) (sym (map_push done cs c)) (calls_push (map done cs) (done c) old.session middle.session new.session are.calls call.call);
+  calls = subst (λ (ts : List CommandResult). AreCalls ts old.session new.session) (sym (map_push done cs c)) (calls_push (map done cs) (done c) old.session middle.session new.session are.calls call.call);
   keeps = keeps_on old middle new are.keeps call.keeps;
 }
 

@@ -8,7 +8,7 @@ use Rattle.scene_model.specs.declared.edit.Command.TheVariants.{Bad}
 use Rattle.scene_model.specs.declared.fault.SessionFault.{SessionFault}
 use Rattle.scene_model.specs.Scene.{Scene}
 use Rattle.scene_model.specs.Valid.{IsValid}
-use Rattle.scene_model.specs.World.{World, EditsKeep, IsDirectedCommand, given_up, next_world, opened, or_given_up}
+use Rattle.scene_model.specs.World.{World, EditsKeep, IsDirectedCommand, rolled_back, next_world, opened, or_rolled_back}
 use Rattle.scene_model.proofs.Editing.Worlds.{after_keeps}
 use Rattle.gml_scene.proofs.OriginsKept.{edits_keep_origins, own_scenes_fit}
 use Rattle.session_laws.specs.Calls.{IsCall}
@@ -27,13 +27,13 @@ source_after d c w directed h = record {
 }
 
 -- the transaction is dropped
-pub source_given_up : (d : Pairs) (w v : World) → v ≡ given_up w → IsSource d w → IsSource d v
-source_given_up d w v is h = subst (IsSource d) (sym is) (source_after d Bad w tt h)
+pub source_rolled_back : (d : Pairs) (w v : World) → v ≡ rolled_back w → IsSource d w → IsSource d v
+source_rolled_back d w v is h = subst (IsSource d) (sym is) (source_after d Bad w tt h)
 
 -- the session is called
 pub source_called : (d : Pairs) (c : Command) (answer : Result Unit SessionFault) (old new : State) → IsDirectedCommand c → IsCall c answer old new → IsSource d old.world → IsSource d new.world
-source_called d c (Ok done) old new directed call h = subst (IsSource d) (ap (or_given_up old.world) call.ok) (source_after d c old.world directed h)
-source_called d c (Err fault) old new directed call h = source_given_up d old.world new.world call.err h
+source_called d c (Ok done) old new directed call h = subst (IsSource d) (ap (or_rolled_back old.world) call.ok) (source_after d c old.world directed h)
+source_called d c (Err fault) old new directed call h = source_rolled_back d old.world new.world call.err h
 
 -- the scene of a document is opened
 pub source_opened : (d : Pairs) (s : Scene) (w : World) → w ≡ opened s → scene_of d ≡ Ok s → IsPrintable d → IsValid s → IsSource d w

@@ -11,7 +11,7 @@ use Rattle.scene_model.specs.declared.edit.Command.TheVariants.{Commit, Undo, Re
 use Rattle.scene_model.specs.declared.fault.SessionFault.{SessionFault}
 use Rattle.scene_model.specs.Answers.{AreAnswers}
 use Rattle.scene_model.specs.Scene.{Scene, connectors}
-use Rattle.scene_model.specs.World.{World, Everywhere, given_up, opened}
+use Rattle.scene_model.specs.World.{World, Everywhere, rolled_back, opened}
 use Rattle.session_laws.specs.Calls.{IsCall}
 use Rattle.session_laws.specs.State.{State}
 use Rattle.route_book.specs.Exchange.{CountsStale}
@@ -66,8 +66,8 @@ pub record IsDrawingCall (c : Command) (answer : Result Unit SessionFault) (old 
   pub keeps : Keeps old new
 
 -- the transaction is dropped if one is open, and nothing else changes
-pub record GivesUp (old new : DrawingState) : Type 0 where
-  pub world : new.session.world ≡ given_up old.session.world
+pub record RollsBack (old new : DrawingState) : Type 0 where
+  pub world : new.session.world ≡ rolled_back old.session.world
   pub book : new.session.book ≡ old.session.book
   pub searched : new.session.searched ≡ old.session.searched
   pub keeps : Keeps old new

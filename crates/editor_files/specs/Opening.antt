@@ -23,7 +23,7 @@ pub record Opens (text : List ℕ) (d : DrawingState) : Type 0 where
   pub source : scene_of (tree d.document) ≡ Ok scene
   pub opened : IsOpened scene d
 
--- the text is a document that is no diagram, for this reason
+-- the text is GML and not a valid diagram, for this reason
 pub record IsNoDiagram (text : List ℕ) (fault : DiagramFault) : Type 0 where
   pub document : Pairs
   pub is_document : IsDocument document text

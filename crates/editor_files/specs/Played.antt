@@ -2,14 +2,14 @@
 use Rattle.std.specs.Prelude.{◌≡◌, ℕ, List, ◌∷◌, ◌++◌, map, Option, None, Some, Ok, Err}
 use Rattle.scene_model.specs.declared.edit.Command.{Command}
 use Rattle.scene_model.specs.declared.edit.Command.TheVariants.{Bad}
-use Rattle.session_laws.specs.Calls.{AreCalls, Told}
+use Rattle.session_laws.specs.Calls.{AreCalls, CommandResult}
 use Rattle.editor_files.specs.declared.script.Why.{Why}
 use Rattle.editor_files.specs.declared.script.Why.TheVariants.{NoForm, Refused}
 use Rattle.editor_files.specs.declared.script.Stopped.{Stopped}
-use Rattle.editor_files.specs.Drawing.{DrawingState, GivesUp, IsDrawingCall, Keeps}
+use Rattle.editor_files.specs.Drawing.{DrawingState, RollsBack, IsDrawingCall, Keeps}
 
 -- a command that is done
-abbrev pub done : ℕ × Command → Told
+abbrev pub done : ℕ × Command → CommandResult
 done c = record { command = c.1; answer = Ok tt }
 
 -- the commands are done, one after the other
@@ -19,7 +19,7 @@ pub record AreDone (commands : List (ℕ × Command)) (old new : DrawingState) :
 
 -- the command is refused for this reason, or no memory is left for it
 abbrev pub IsRefused : Command → Why → DrawingState → DrawingState → Type 0
-IsRefused c NoForm old new = (c ≡ Bad) × GivesUp old new
+IsRefused c NoForm old new = (c ≡ Bad) × RollsBack old new
 IsRefused c (Refused fault) old new = IsDrawingCall c (Err fault) old new
 
 -- the command is done, or refused

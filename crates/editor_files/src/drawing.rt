@@ -7,7 +7,7 @@ ghost use Rattle.scene_model.specs.Scene.{empty_scene};
 ghost use Rattle.scene_model.specs.World.{IsDirectedCommand};
 ghost use Rattle.scene_model.specs.declared.edit.Command.TheVariants as commands;
 ghost use Rattle.editor_session.specs.Lines.{AreDrawn, AreProposed, IsUnproposed};
-ghost use Rattle.editor_files.specs.Drawing.{DrawingState, GivesUp, IsDrawingCall, IsOpened, IsWritten, Keeps};
+ghost use Rattle.editor_files.specs.Drawing.{DrawingState, IsDrawingCall, IsOpened, IsWritten, Keeps, RollsBack};
 ghost use Rattle.editor_files.specs.Opening.{IsOpenFault, Opens, empty_diagram};
 
 use crate::fault::OpenFault;
@@ -127,8 +127,8 @@ impl Drawing {
     }
 
     /// Drops the transaction if one is open. Takes no memory.
-    pub fn give_up(&mut self)
-        ensures { GivesUp self.old self.new }
+    pub fn roll_back(&mut self)
+        ensures { RollsBack self.old self.new }
     {
         self.editor.session.give_up();
     }

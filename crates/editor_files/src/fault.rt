@@ -8,7 +8,7 @@ use gml_text::GmlFault;
 pub enum OpenFault {
     /// The bytes are not valid GML.
     Text(GmlFault),
-    /// The document is no diagram.
+    /// The document is not a valid diagram.
     Diagram(DiagramFault),
     /// Out of memory, for the session.
     Memory,

@@ -13,7 +13,7 @@ use std::alloc::{AllocError, Global};
 /// Why a command is refused.
 #[derive(Debug, Drop)]
 pub enum Why {
-    /// The line has no form.
+    /// The line is not a valid command.
     NoForm,
     /// The session refuses it, or memory ran out in it.
     Refused(SessionFault),
@@ -28,13 +28,14 @@ pub struct Stopped {
 }
 
 impl Drawing {
-    /// Makes the call of a command, or drops the transaction where the line has no form; why it is refused, if it is.
+    /// Makes the call of a command, or drops the transaction where the line is not a valid command. Returns why it is
+    /// refused, if it is.
     fn answer(&mut self, command: &Command) -> Option<Why>
         requires { IsDirectedCommand command.now }
         ensures { IsAnswered command.now result self.old self.new }
     {
         if matches!(command, Command::Bad) {
-            self.give_up();
+            self.roll_back();
             return Some(Why::NoForm);
         }
         match self.call(command) {

@@ -16,7 +16,7 @@ rank v = v.cost * 43285938432024003289603 + v.runs * 13158408000000001 + int_gap
 abbrev pub most_rank : ℕ
 most_rank = 300000000000000001 * 43285938432024003289603
 
--- the number of where a walk goes on behind an exit
+-- the number of where a walk goes on after an exit
 abbrev pub next_number : Option Dir → ℕ
 next_number None = 0
 next_number (Some East) = 1
@@ -24,7 +24,7 @@ next_number (Some South) = 2
 next_number (Some West) = 3
 next_number (Some North) = 4
 
--- the number of the crossing at which the exit stands, and of where a walk goes on behind it
+-- the number of the crossing at which the exit stands, and of where a walk goes on after it
 abbrev pub slot_of : Kept → ℕ
 slot_of e = e.crossing * 5 + next_number e.next
 

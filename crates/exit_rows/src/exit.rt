@@ -70,7 +70,7 @@ impl Kept {
         }
     }
 
-    /// Whether walks go on alike behind both.
+    /// Whether walks go on alike after both.
     fn goes_on_as(&self, other: &Kept) -> bool
         ensures { IsTrue result ↔ (self.now.next ≡ other.now.next) }
     {

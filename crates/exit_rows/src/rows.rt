@@ -160,7 +160,7 @@ impl Rows {
     }
 
     /// How far on the exit is undercut by nearer ones that the line keeps: from there on it is to be
-    /// handed on.
+    /// propagated.
     pub fn stop(&self, stage: u32, line: usize, heading: Dir, kept: &Kept) -> i64
         requires room { HasRow self.now stage line }
         requires small { All IsSmallKept (kept_in self.now stage line heading) }

@@ -25,7 +25,7 @@ use Rattle.exit_rows.specs.declared.exit.Exit.{Exit}
 use Rattle.exit_rows.specs.declared.exit.Kept.{Kept}
 use Rattle.exit_rows.specs.declared.rows.Rows.{Rows}
 use Rattle.exit_spread.specs.declared.spread.Spread.{Spread}
-use Rattle.exit_spread.specs.Handing.{IsSound}
+use Rattle.exit_spread.specs.Propagating.{IsSound}
 use Rattle.exit_spread.specs.Offers.{IsOffered, IsTaken, kept_of}
 use Rattle.exit_spread.specs.Searching.{AreNone, HasRooms, IsCandidate, IsKeptOf, IsSearching, IsSpread, IsStubOffered, weight}
 use Rattle.exit_spread.specs.Taking.{Grows, IsExit}
@@ -51,7 +51,7 @@ module _ (p : Problem) (line_of : ℕ → Way → ℕ) where
   pub searching_begins : (s : Spread) → AreNone s → HasRooms p line_of s → IsSearching p line_of s None None
   searching_begins s none rooms = record {
     kept = λ k c d at here. (let l = line_of c (way_of d) in none_all (kept_in s.rows k l d) (no_exit s.rows none.rows k l d) (IsKeptOf p line_of k l d));
-    handed = λ k c d at e here has but. (let l = line_of c (way_of d) in absurd (none_has (kept_in s.rows k l d) (no_exit s.rows none.rows k l d) e has));
+    propagated = λ k c d at e here has but. (let l = line_of c (way_of d) in absurd (none_has (kept_in s.rows k l d) (no_exit s.rows none.rows k l d) e has));
     candidates = none_all (heap_items s.queue.heap) none.queue (λ c. IsCandidate p line_of c.0);
     best = record { most = omega (arith, none.best); of_walk = inl none.best };
     marked = record {
@@ -178,7 +178,7 @@ module _ (p : Problem) (lists : Lists) (x : Exit) (at : Point) (old mid : Spread
     ];
   }
 
-  -- from which no walk comes to it
+  -- from which no walk reaches it
   pub taken_past : (ComesTo p.task.now.via k at x.place.stage → ⊥) → TakenUpTo p lists x at old mid (k + 1)
   taken_past never = record {
     searching = h.searching;

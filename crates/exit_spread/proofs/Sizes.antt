@@ -23,7 +23,7 @@ use Rattle.search_labels.specs.declared.problem.Problem.{Problem}
 use Rattle.exit_rows.specs.Exits.{CountsAt, IsSmallKept, ahead_at, least_at}
 use Rattle.exit_rows.specs.declared.exit.Kept.{Kept}
 use Rattle.exit_rows.proofs.Least.{attained}
-use Rattle.exit_spread.specs.Handing.{IsFurtherAhead}
+use Rattle.exit_spread.specs.Propagating.{IsFurtherAhead}
 use Rattle.exit_spread.specs.Offers.{from_after}
 use Rattle.exit_spread.specs.Searching.{IsKeptOf}
 use Rattle.exit_spread.proofs.Known.Attained.{from_cases}

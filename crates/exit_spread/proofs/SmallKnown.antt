@@ -24,7 +24,7 @@ use Rattle.search_labels.specs.declared.problem.Problem.{Problem}
 use Rattle.exit_rows.specs.Exits.{IsSmallKept}
 use Rattle.exit_rows.specs.Rows.{kept_in}
 use Rattle.exit_rows.proofs.Least.{lesser_one}
-use Rattle.exit_spread.specs.Handing.{IsFurtherAhead, IsOfferable}
+use Rattle.exit_spread.specs.Propagating.{IsFurtherAhead, IsOfferable}
 use Rattle.exit_spread.specs.Known.{by_ending, known, known_along, known_onwards, known_towards}
 use Rattle.exit_spread.specs.Searching.{IsKeptOf, IsSearching}
 use Rattle.exit_spread.specs.Ways.{turned}

@@ -1,4 +1,4 @@
--- How exits are offered, kept and handed on.
+-- How exits are offered, kept and propagated.
 pub mod Stops
 pub mod Still
 pub mod Adding

@@ -3,5 +3,5 @@ pub mod Ways
 pub mod Offers
 pub mod Searching
 pub mod Known
-pub mod Handing
+pub mod Propagating
 pub mod Taking

@@ -48,7 +48,7 @@ IsLeftOut p s at x = (s.best < x.ahead.cost + bound_at p x.place at) ⊎ (most_r
 abbrev pub IsQueued : Problem → Spread → Point → Exit → Type 0
 IsQueued p s at x = Contains (heap_items s.queue.heap) (record { 0 = record { bound = x.ahead.cost + bound_at p x.place at; item = x } })
 
--- in each stage from which a walk comes to the exit, its line keeps one that stands for it
+-- in each stage from which a walk reaches the exit, its line keeps one that stands for it
 abbrev pub IsTaken : Problem → Spread → Point → Exit → Type 0
 IsTaken p s at x =
     (k : ℕ) → ComesTo p.task.now.via k at x.place.stage → IsLate (kept_in s.rows k x.line x.place.heading) (kept_of p k at x)
@@ -80,7 +80,7 @@ MayBegin p h c q d =
     ⊎ (Any (λ v. across (way_of h) v ≡ across (way_of h) q) p.task.now.via ⊎ BeginsAtTurn p h c q d)
 
 -- the exits behind this one at the crossing, which is at the point, were offered: by a turn into its direction, by doubling back at a checkpoint, and by going straight on where more checkpoints are passed
-pub record IsHandedAt (p : Problem) (number_of : ℕ → Way → ℕ) (s : Spread) (hole : Option Exit) (k : ℕ) (d : Dir) (e : Kept) (c : ℕ) (r : Point) : Type 0 where
+pub record IsPropagatedAt (p : Problem) (number_of : ℕ → Way → ℕ) (s : Spread) (hole : Option Exit) (k : ℕ) (d : Dir) (e : Kept) (c : ℕ) (r : Point) : Type 0 where
   pub turns : (h : Dir) → turn h d ≡ 1 → IsHeldUpTo p h d r e → MayBegin p h c r d →
       IsOffered p s hole r (exit_of number_of (place_at c k h) (Some d) (turned p h r d (ahead_at e (reach d r))))
   pub tips : Contains p.task.now.via r →
@@ -88,7 +88,7 @@ pub record IsHandedAt (p : Problem) (number_of : ℕ → Way → ℕ) (s : Sprea
   pub ons : (j : ℕ) → j < k → ComesTo p.task.now.via j r k → IsOffered p s hole r (exit_of number_of (place_at c k d) None (ahead_at e (reach d r)))
 
 -- so it is at each crossing of the line for which the exit counts, unless another exit of the line has less ahead there
-abbrev pub IsHandedOn : Problem → (ℕ → Way → ℕ) → Spread → Option Exit → ℕ → ℕ → Dir → Kept → Type 0
-IsHandedOn p number_of s hole k line d e =
+abbrev pub IsPropagated : Problem → (ℕ → Way → ℕ) → Spread → Option Exit → ℕ → ℕ → Dir → Kept → Type 0
+IsPropagated p number_of s hole k line d e =
     (c : ℕ) (r : Point) → StandsAt p.arena.now c r → number_of c (way_of d) ≡ line → CountsAt e (reach d r) →
-    IsUndercut (kept_in s.rows k line d) e (reach d r) ⊎ IsHandedAt p number_of s hole k d e c r
+    IsUndercut (kept_in s.rows k line d) e (reach d r) ⊎ IsPropagatedAt p number_of s hole k d e c r

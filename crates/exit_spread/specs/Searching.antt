@@ -19,7 +19,7 @@ use Rattle.exit_rows.specs.Weights.{rows_weight}
 use Rattle.exit_rows.specs.declared.exit.Exit.{Exit}
 use Rattle.exit_rows.specs.declared.exit.Kept.{Kept}
 use Rattle.exit_spread.specs.declared.spread.Spread.{Spread}
-use Rattle.exit_spread.specs.Offers.{IsHandedOn, IsOffered, exit_of, from_of}
+use Rattle.exit_spread.specs.Offers.{IsPropagated, IsOffered, exit_of, from_of}
 use Rattle.exit_spread.specs.Ways.{IsBest, IsWayAhead, bound_at, place_at}
 
 -- no line has more stops
@@ -58,13 +58,13 @@ pub record KeptIn : Type 0 where
   pub heading : Dir
   pub kept : Kept
 
--- the invariant between two steps of a search, except that one exit may be neither queued nor kept, and one may be kept and not handed on
-pub record IsSearching (p : Problem) (number_of : ℕ → Way → ℕ) (s : Spread) (hole : Option Exit) (unhanded : Option KeptIn) : Type 0 where
+-- the invariant between two steps of a search, except that one exit may be neither queued nor kept, and one may be kept and not propagated
+pub record IsSearching (p : Problem) (number_of : ℕ → Way → ℕ) (s : Spread) (hole : Option Exit) (unpropagated : Option KeptIn) : Type 0 where
   pub kept : (k c : ℕ) (d : Dir) (at : Point) → StandsAt p.arena.now c at →
       All (IsKeptOf p number_of k (number_of c (way_of d)) d) (kept_in s.rows k (number_of c (way_of d)) d)
-  pub handed : (k c : ℕ) (d : Dir) (at : Point) (e : Kept) → StandsAt p.arena.now c at → Contains (kept_in s.rows k (number_of c (way_of d)) d) e →
-      Some (record { stage = k; line = number_of c (way_of d); heading = d; kept = e }) ≢ unhanded →
-      IsHandedOn p number_of s hole k (number_of c (way_of d)) d e
+  pub propagated : (k c : ℕ) (d : Dir) (at : Point) (e : Kept) → StandsAt p.arena.now c at → Contains (kept_in s.rows k (number_of c (way_of d)) d) e →
+      Some (record { stage = k; line = number_of c (way_of d); heading = d; kept = e }) ≢ unpropagated →
+      IsPropagated p number_of s hole k (number_of c (way_of d)) d e
   pub candidates : All (λ c. IsCandidate p number_of c.0) (heap_items s.queue.heap)
   pub best : IsBest p s.best
   pub marked : IsMarked s.rows
@@ -88,6 +88,6 @@ pub record AreNone (s : Spread) : Type 0 where
   pub queue : heap_items s.queue.heap ≡ []
   pub best : s.best ≡ most_cost
 
--- an upper bound on the remaining work: each candidate counts, and each exit that lines may still keep, with the exits to which it may be handed on
+-- an upper bound on the remaining work: each candidate counts, and each exit that lines may still keep, with the exits to which it may be propagated
 abbrev pub weight : Problem → Lists → Spread → ℕ
 weight p lists s = length (heap_items s.queue.heap) + (2 * most_stops lists + 9) * rows_weight p.arena.now.places s.rows

@@ -7,7 +7,7 @@ ghost use Rattle.search_labels.specs.Problems.{IsReady};
 ghost use Rattle.exit_spread.specs.Known.{by_ending, known, known_onwards, known_towards};
 ghost use Rattle.exit_spread.specs.Searching.{IsSearching};
 
-use crate::hand_on::turned;
+use crate::propagate::turned;
 use crate::spread::Spread;
 use exit_rows::lesser;
 use line_lists::LineLists;

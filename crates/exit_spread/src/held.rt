@@ -12,7 +12,7 @@ ghost use Rattle.search_labels.specs.Problems.{IsReady};
 ghost use Rattle.side_touches.specs.Touches.{AreTouches, IsRunOn, IsTouched};
 ghost use Rattle.walk_laws.specs.Sides.{held_to};
 ghost use Rattle.walk_model.specs.Cost.{turn};
-ghost use Rattle.exit_spread.specs.Handing.{AreOf, IsBehind, IsRun, LiesUpTo};
+ghost use Rattle.exit_spread.specs.Propagating.{AreOf, IsBehind, IsRun, LiesUpTo};
 ghost use Rattle.exit_spread.specs.Offers.{IsHeldUpTo, MayBegin};
 
 use crate::run::{Run, crosswise, lies_up_to};
@@ -62,7 +62,7 @@ fn last_checkpoint(via: &[Point], heading: Dir, at: Point) -> Option<i64>
     last
 }
 
-/// The reach up to which a run to the exit may begin, where the walk comes to it with the heading
+/// The reach up to which a run to the exit may begin, where the walk reaches it with the heading
 /// `before`; `None` if no such run is held.
 pub fn held_from(problem: &Problem<'_>, touches: &Touches, run: &Run, before: Dir) -> Option<i64>
     requires ready { IsReady problem.now }
@@ -115,7 +115,7 @@ fn has_entry(origins: &[Origin], way: Way, at: Point) -> bool
 }
 
 /// Whether a run along the line in the heading, up to that reach, may touch the side to which it is
-/// held where the walk comes to it with the heading `before` and goes on to `next`.
+/// held where the walk reaches it with the heading `before` and goes on to `next`.
 fn may_be_held(
     touches: &Touches,
     line: usize,
@@ -133,7 +133,7 @@ fn may_be_held(
     touches.may_touch(line, held_to(before, next), heading, end)
 }
 
-/// Whether a run along the line that comes to the point in the heading, and turns there to `next`,
+/// Whether a run along the line that reaches the point in the heading, and turns there to `next`,
 /// may be part of a first walk: it may begin at an entry or be held.
 pub fn may_begin(
     problem: &Problem<'_>,

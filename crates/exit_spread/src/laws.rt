@@ -1,6 +1,6 @@
 //! The law of what is known, the contract of a function with an empty body.
 ghost use Rattle.std.specs.Prelude.{◌≡◌, List, Some};
-ghost use Rattle.exit_spread.specs.Handing.{IsOfferable};
+ghost use Rattle.exit_spread.specs.Propagating.{IsOfferable};
 ghost use Rattle.exit_spread.specs.Known.{known};
 ghost use Rattle.exit_spread.specs.Searching.{IsSpread};
 ghost use Rattle.exit_spread.specs.Ways.{IsWayAhead};

@@ -5,9 +5,9 @@
 #![tactic(auto)]
 
 mod ahead;
-mod hand_on;
 mod held;
 mod laws;
+mod propagate;
 mod run;
 mod spread;
 

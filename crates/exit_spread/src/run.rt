@@ -5,7 +5,7 @@ ghost use Rattle.plane_geom.specs.Along.{reach};
 ghost use Rattle.plane_geom.specs.Floor.{point_on};
 ghost use Rattle.plane_geom.specs.Point.{IsCoordinate, PointIsOnSheet};
 ghost use Rattle.search_labels.specs.Bounds.{most_cost};
-ghost use Rattle.exit_spread.specs.Handing.{LiesUpTo, crosswise, reach_along};
+ghost use Rattle.exit_spread.specs.Propagating.{LiesUpTo, crosswise, reach_along};
 ghost use Rattle.exit_spread.specs.Offers.{from_after, from_of};
 ghost use Rattle.line_lists.specs.declared.stop.Stop.{Stop as StopOf};
 

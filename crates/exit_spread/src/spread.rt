@@ -12,7 +12,7 @@ ghost use Rattle.side_touches.specs.Touches.{AreTouches};
 ghost use Rattle.search_labels.specs.Problems.{IsReady};
 ghost use Rattle.exit_rows.specs.Exits.{IsLate};
 ghost use Rattle.exit_rows.specs.Rows.{IsMarked, kept_in};
-ghost use Rattle.exit_spread.specs.Handing.{Adds, AreOf, IsOfferable, IsSound};
+ghost use Rattle.exit_spread.specs.Propagating.{Adds, AreOf, IsOfferable, IsSound};
 ghost use Rattle.exit_spread.specs.Offers.{IsOffered, IsTaken, exit_of, kept_of};
 ghost use Rattle.exit_spread.specs.Searching.{AreNone, HasRooms, IsSearching, IsSpread, IsStubOffered, weight};
 ghost use Rattle.exit_spread.specs.Taking.{Grows, IsExit};
@@ -156,7 +156,7 @@ impl Spread {
         Ok(())
     }
 
-    /// Lets its line keep the exit, which is at the point, for walks in the stage, and hands it on;
+    /// Lets its line keep the exit, which is at the point, for walks in the stage, and propagates it;
     /// unless what the line keeps is as good.
     fn take_in(
         &mut self,
@@ -197,11 +197,11 @@ impl Spread {
             end: at,
             kept: Kept { from, ..kept },
         };
-        self.hand_on(problem, lists, touches, &run)?;
+        self.propagate(problem, lists, touches, &run)?;
         Ok(())
     }
 
-    /// Takes the exit in each stage from which a walk comes to it.
+    /// Takes the exit in each stage from which a walk reaches it.
     fn take(
         &mut self,
         problem: &Problem<'_>,

@@ -9,7 +9,7 @@ use Rattle.fixed_milli.specs.declared.milli.MilliFault.TheVariants.{NotNumber, O
 use Rattle.fixed_milli.specs.Number.{Number, IsNumber, IsExponent, Spells, SpellsNothing}
 use Rattle.fixed_milli.specs.Split.{SplitsSign, SplitsDigits, SplitsFraction, EndsDigits}
 use Rattle.fixed_milli.specs.Milli.{Reads, magnitude, thousandths, most_thousandths}
-use Rattle.fixed_milli.specs.Value.{signed, front_digits, behind_digits, spelled_fraction, signed_digits, spelled_exponent, number_with, spelled_number, thousandths_of, read}
+use Rattle.fixed_milli.specs.Value.{signed, front_digits, following_digits, spelled_fraction, signed_digits, spelled_exponent, number_with, spelled_number, thousandths_of, read}
 use Rattle.fixed_milli.proofs.Splitting.{Parts, parts_of, no_digits, no_exponent, parts_spell, no_power, exponent_of}
 use Rattle.fixed_milli.proofs.Reading.{read_same}
 
@@ -26,10 +26,10 @@ signed_splits (b ∷ bs) =
     ]
 
 -- the digits and what follows them are the bytes
-digits_spelled : (bytes : List ℕ) → bytes ≡ front_digits bytes ++ behind_digits bytes
+digits_spelled : (bytes : List ℕ) → bytes ≡ front_digits bytes ++ following_digits bytes
 digits_spelled [] = refl
 digits_spelled (b ∷ bs) =
-    elim (cases_Bool (nat_lt (digit_value b) 10)) as (λ _. b ∷ bs ≡ front_digits (b ∷ bs) ++ behind_digits (b ∷ bs)) [
+    elim (cases_Bool (nat_lt (digit_value b) 10)) as (λ _. b ∷ bs ≡ front_digits (b ∷ bs) ++ following_digits (b ∷ bs)) [
       | inl digit ↦ rw digit (ap (λ l. b ∷ l) (digits_spelled bs))
       | inr none ↦ rw none refl
     ]
@@ -44,16 +44,16 @@ digits_all (b ∷ bs) =
     ]
 
 -- and all that stand first
-digits_end : (bytes : List ℕ) → EndsDigits (behind_digits bytes)
+digits_end : (bytes : List ℕ) → EndsDigits (following_digits bytes)
 digits_end [] = tt
 digits_end (b ∷ bs) =
-    elim (cases_Bool (nat_lt (digit_value b) 10)) as (λ _. EndsDigits (behind_digits (b ∷ bs))) [
+    elim (cases_Bool (nat_lt (digit_value b) 10)) as (λ _. EndsDigits (following_digits (b ∷ bs))) [
       | inl digit ↦ rw digit (digits_end bs)
       | inr none ↦ rw none (ltb-false (digit_value b) 10 none)
     ]
 
 -- so they are split off
-pub digits_split : (bytes : List ℕ) → SplitsDigits bytes (front_digits bytes) (behind_digits bytes)
+pub digits_split : (bytes : List ℕ) → SplitsDigits bytes (front_digits bytes) (following_digits bytes)
 digits_split bytes = record { spelled = digits_spelled bytes; all_digits = digits_all bytes; ended = digits_end bytes }
 
 -- and so is the fraction
@@ -79,7 +79,7 @@ marked_exponent : (b : ℕ) (bs : List ℕ) → (b ≡ 101) ⊎ (b ≡ 69) → I
 marked_exponent b bs mark =
     let unsigned : List ℕ = (signed bs).1 in
     let digits : List ℕ = front_digits unsigned in
-    let rest : List ℕ = behind_digits unsigned in
+    let rest : List ℕ = following_digits unsigned in
     let sign = signed_splits bs in
     let split = digits_split unsigned in
     elim (cases_Bool ((length digits == 0) || nat_lt 0 (length rest))) as (λ _. IsFoundExponent (b ∷ bs) (signed_digits (signed bs))) [
@@ -133,10 +133,10 @@ parts_found bytes whole fraction ending negative (Some e) parts is_exponent =
 number_found : (bytes : List ℕ) → IsFoundNumber bytes (spelled_number bytes)
 number_found bytes =
     let unsigned : List ℕ = (signed bytes).1 in
-    let behind : List ℕ = behind_digits unsigned in
-    let fraction : List ℕ × List ℕ = spelled_fraction behind in
+    let following : List ℕ = following_digits unsigned in
+    let fraction : List ℕ × List ℕ = spelled_fraction following in
     parts_found bytes (front_digits unsigned) fraction.0 fraction.1 (signed bytes).0 (spelled_exponent fraction.1)
-    (parts_of bytes (signed bytes).0 unsigned (front_digits unsigned) behind fraction.0 fraction.1 (signed_splits bytes) (digits_split unsigned) (fraction_splits behind))
+    (parts_of bytes (signed bytes).0 unsigned (front_digits unsigned) following fraction.0 fraction.1 (signed_splits bytes) (digits_split unsigned) (fraction_splits following))
     (exponent_found fraction.1)
 
 -- a number that was found is read as its value

@@ -99,14 +99,14 @@ point_right : (w : ℕ) (fraction : List ℕ) (places taken : ℕ) → AllDigits
 point_right w fraction places taken all t = elim (cases_lt places (length fraction)) as (λ _. digits_value_after 10 w (take taken fraction) * 10 ^ (places - taken) + carry (drop taken fraction) ≡ rounded (digits_value_after 10 w fraction * 10 ^ places) (10 ^ length fraction)) [
   | inl l ↦ (
       let front = take places fraction in
-      let behind = drop places fraction in
+      let following = drop places fraction in
       let m = digits_value_after 10 w fraction in
       let same : taken ≡ places = omega arith in
       let none : places - places ≡ 0 = omega arith in
-      let joined : m ≡ digits_value_after 10 (digits_value_after 10 w front) behind = ap (digits_value_after 10 w) (sym (take-append-drop places fraction)) ∙ after-append w front behind in
-      let power : 10 ^ length fraction ≡ 10 ^ length behind * 10 ^ places = ap (λ n. 10 ^ n) (omega (arith, length-drop places fraction)) ∙ pow-add 10 (length behind) places in
-      let near = ap (λ p. rounded (m * 10 ^ places) p) power ∙ rounded-scaled m (10 ^ length behind) (10 ^ places) (one-le-pow places 10 (omega arith))
-      ∙ ap (λ n. rounded n (10 ^ length behind)) joined ∙ rounded_carry (digits_value_after 10 w front) behind (all_digits-drop places fraction all) in
+      let joined : m ≡ digits_value_after 10 (digits_value_after 10 w front) following = ap (digits_value_after 10 w) (sym (take-append-drop places fraction)) ∙ after-append w front following in
+      let power : 10 ^ length fraction ≡ 10 ^ length following * 10 ^ places = ap (λ n. 10 ^ n) (omega (arith, length-drop places fraction)) ∙ pow-add 10 (length following) places in
+      let near = ap (λ p. rounded (m * 10 ^ places) p) power ∙ rounded-scaled m (10 ^ length following) (10 ^ places) (one-le-pow places 10 (omega arith))
+      ∙ ap (λ n. rounded n (10 ^ length following)) joined ∙ rounded_carry (digits_value_after 10 w front) following (all_digits-drop places fraction all) in
       rw (same, none) (omega (arith, near)))
   | inr l ↦ (
       let m = digits_value_after 10 w fraction in
@@ -145,15 +145,15 @@ pub moved_left : (whole fraction : List ℕ) (places kept result : ℕ) → AllD
 moved_left whole fraction places kept result allw allf moved within k r =
     let i = length whole - places in
     let front = take i whole in
-    let behind = drop i whole in
-    let rest = behind ++ fraction in
-    let parts : whole ++ fraction ≡ front ++ rest = ap (λ l. l ++ fraction) (sym (take-append-drop i whole)) ∙ append_assoc front behind fraction in
+    let following = drop i whole in
+    let rest = following ++ fraction in
+    let parts : whole ++ fraction ≡ front ++ rest = ap (λ l. l ++ fraction) (sym (take-append-drop i whole)) ∙ append_assoc front following fraction in
     let joined : digits_value 10 (whole ++ fraction) ≡ digits_value_after 10 (digits_value 10 front) rest = ap (digits_value 10) parts ∙ after-append 0 front rest in
-    let long : length fraction + places ≡ length rest = omega (arith, length-append behind fraction, length-drop i whole) in
+    let long : length fraction + places ≡ length rest = omega (arith, length-append following fraction, length-drop i whole) in
     let near : rounded (digits_value 10 (whole ++ fraction)) (10 ^ (length fraction + places)) ≡ digits_value 10 front + carry rest =
     ap (λ n. rounded (digits_value 10 (whole ++ fraction)) (10 ^ n)) long ∙ ap (λ m. rounded m (10 ^ length rest)) joined
-    ∙ rounded_carry (digits_value 10 front) rest (all_digits-append behind fraction (all_digits-drop i whole allw) allf) in
-    omega (arith, r, k, near, carry-append behind fraction (omega (arith, length-drop i whole)))
+    ∙ rounded_carry (digits_value 10 front) rest (all_digits-append following fraction (all_digits-drop i whole allw) allf) in
+    omega (arith, r, k, near, carry-append following fraction (omega (arith, length-drop i whole)))
 
 -- to the left of all digits nothing is left
 pub moved_far_left : (whole fraction : List ℕ) (places : ℕ) → AllDigits 10 whole → AllDigits 10 fraction → length whole < places → rounded (digits_value 10 (whole ++ fraction)) (10 ^ (length fraction + places)) ≡ 0

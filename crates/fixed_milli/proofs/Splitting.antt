@@ -68,14 +68,14 @@ unsigned_digits (d ∷ ds) all = let code = digit_from_value d all.0 in (λ e. a
 -- the splits of a number's parts, each of which is unique
 pub record Parts (bytes : List ℕ) (negative : Bool) (whole fraction ending : List ℕ) : Type 0 where
   pub unsigned : List ℕ
-  pub behind : List ℕ
+  pub following : List ℕ
   pub sign : SplitsSign bytes negative unsigned
-  pub digits : SplitsDigits unsigned whole behind
-  pub rest : SplitsFraction behind fraction ending
+  pub digits : SplitsDigits unsigned whole following
+  pub rest : SplitsFraction following fraction ending
 
 -- one split after the other gives the parts
-pub parts_of : (bytes : List ℕ) (negative : Bool) (unsigned whole behind fraction ending : List ℕ) → SplitsSign bytes negative unsigned → SplitsDigits unsigned whole behind → SplitsFraction behind fraction ending → Parts bytes negative whole fraction ending
-parts_of bytes negative unsigned whole behind fraction ending sign digits rest = record { unsigned = unsigned; behind = behind; sign = sign; digits = digits; rest = rest }
+pub parts_of : (bytes : List ℕ) (negative : Bool) (unsigned whole following fraction ending : List ℕ) → SplitsSign bytes negative unsigned → SplitsDigits unsigned whole following → SplitsFraction following fraction ending → Parts bytes negative whole fraction ending
+parts_of bytes negative unsigned whole following fraction ending sign digits rest = record { unsigned = unsigned; following = following; sign = sign; digits = digits; rest = rest }
 
 -- a mark is no digit and no point
 mark_begins : (mark rest : List ℕ) → (mark ≡ 101 ∷ []) ⊎ (mark ≡ 69 ∷ []) → EndsDigits (mark ++ rest) × BeginsPointless (mark ++ rest)
@@ -96,18 +96,18 @@ unsigned_front (d ∷ ds) rest all free = unsigned_digits (d ∷ []) (all.0, tt)
 pub number_splits : (n : Number) (bytes : List ℕ) (s : Spells n bytes) → Parts bytes n.negative n.whole n.fraction s.ending
 number_splits n bytes s =
     let begins = exponent_begins s.ending n.shrinks n.exponent s.is_exponent in
-    let behind = s.point ++ (n.fraction ++ s.ending) in
+    let following = s.point ++ (n.fraction ++ s.ending) in
     let last : SplitsDigits (n.fraction ++ s.ending) n.fraction s.ending = record { spelled = refl; all_digits = s.fraction_digits; ended = begins.0 } in
-    let rest : EndsDigits behind × (length n.whole ≡ 0 → BeginsUnsigned behind) × SplitsFraction behind n.fraction s.ending =
-    elim s.is_point as (λ _. EndsDigits behind × (length n.whole ≡ 0 → BeginsUnsigned behind) × SplitsFraction behind n.fraction s.ending) [
+    let rest : EndsDigits following × (length n.whole ≡ 0 → BeginsUnsigned following) × SplitsFraction following n.fraction s.ending =
+    elim s.is_point as (λ _. EndsDigits following × (length n.whole ≡ 0 → BeginsUnsigned following) × SplitsFraction following n.fraction s.ending) [
       | inl e ↦ rw e (omega arith, λ _. (λ h. omega (arith, h), λ h. omega (arith, h)), inl (n.fraction ++ s.ending, refl, last))
-      | inr e ↦ (let alone : behind ≡ s.ending = ap (λ p. p ++ (n.fraction ++ s.ending)) e.0 ∙ ap (λ f. f ++ s.ending) e.1 in
+      | inr e ↦ (let alone : following ≡ s.ending = ap (λ p. p ++ (n.fraction ++ s.ending)) e.0 ∙ ap (λ f. f ++ s.ending) e.1 in
           rw alone (begins.0, λ h. absurd (omega (arith, s.some_digit, ap length e.1, h)), inr (refl, e.1, begins.1)))
     ] in
     record {
-      unsigned = n.whole ++ behind;
-      behind = behind;
-      sign = rw s.spelled (sign_splits s.sign (n.whole ++ behind) n.negative s.is_sign (unsigned_front n.whole behind s.whole_digits rest.1));
+      unsigned = n.whole ++ following;
+      following = following;
+      sign = rw s.spelled (sign_splits s.sign (n.whole ++ following) n.negative s.is_sign (unsigned_front n.whole following s.whole_digits rest.1));
       digits = record { spelled = refl; all_digits = s.whole_digits; ended = rest.0 };
       rest = rest.2;
     }
@@ -123,8 +123,8 @@ pub record SameParts (m n : Bool) (a b c d x y : List ℕ) : Type 0 where
 pub parts_same : (bytes : List ℕ) (m n : Bool) (a b c d x y : List ℕ) → Parts bytes m a c x → Parts bytes n b d y → SameParts m n a b c d x y
 parts_same bytes m n a b c d x y p q =
     let sign = sign_same bytes m n p.unsigned q.unsigned p.sign q.sign in
-    let digits = digits_same p.unsigned a p.behind b q.behind p.digits (subst (λ u. SplitsDigits u b q.behind) (sym sign.1) q.digits) in
-    let rest = fraction_same p.behind c x d y p.rest (subst (λ u. SplitsFraction u d y) (sym digits.1) q.rest) in
+    let digits = digits_same p.unsigned a p.following b q.following p.digits (subst (λ u. SplitsDigits u b q.following) (sym sign.1) q.digits) in
+    let rest = fraction_same p.following c x d y p.rest (subst (λ u. SplitsFraction u d y) (sym digits.1) q.rest) in
     record { negative = sign.0; whole = digits.0; fraction = rest.0; ending = rest.1 }
 
 -- after the mark of an exponent come a sign and digits
@@ -176,7 +176,7 @@ no_exponent bytes negative whole fraction ending parts none n s =
 
 -- what was split off is a point and digits
 fraction_of : (bytes fraction rest : List ℕ) → SplitsFraction bytes fraction rest → (point : List ℕ) × IsPoint point fraction × AllDigits 10 fraction × (bytes ≡ point ++ (fraction ++ rest))
-fraction_of bytes fraction rest (inl (behind, e, digits)) = (46 ∷ [], inl refl, digits.all_digits, e ∙ ap (λ l. 46 ∷ l) digits.spelled)
+fraction_of bytes fraction rest (inl (following, e, digits)) = (46 ∷ [], inl refl, digits.all_digits, e ∙ ap (λ l. 46 ∷ l) digits.spelled)
 fraction_of bytes fraction rest (inr (e, none, _)) = ([], inr (refl, none), subst (AllDigits 10) (sym none) tt, e ∙ ap (λ f. f ++ rest) (sym none))
 
 -- parts with a digit and an exponent spell their number
@@ -184,7 +184,7 @@ pub parts_spell : (bytes : List ℕ) (negative : Bool) (whole fraction ending : 
     Spells (record { negative = negative; whole = whole; fraction = fraction; shrinks = shrinks; exponent = exponent }) bytes
 parts_spell bytes negative whole fraction ending shrinks exponent parts some is_exponent =
     let sign = sign_of bytes parts.unsigned negative parts.sign in
-    let point = fraction_of parts.behind fraction ending parts.rest in
+    let point = fraction_of parts.following fraction ending parts.rest in
     record {
       sign = sign.0;
       point = point.0;

@@ -33,5 +33,5 @@ pub record SplitsDigits (bytes digits rest : List ℕ) : Type 0 where
 -- the digits are all those after the point, if one comes first, and the rest follows them
 abbrev pub SplitsFraction : List ℕ → List ℕ → List ℕ → Type 0
 SplitsFraction bytes fraction rest =
-    ((behind : List ℕ) × (bytes ≡ point ∷ behind) × SplitsDigits behind fraction rest)
+    ((following : List ℕ) × (bytes ≡ point ∷ following) × SplitsDigits following fraction rest)
     ⊎ ((bytes ≡ rest) × (fraction ≡ []) × BeginsPointless bytes)

@@ -18,18 +18,18 @@ front_digits [] = []
 front_digits (b ∷ bs) = if nat_lt (digit_value b) 10 then b ∷ front_digits bs else []
 
 -- what follows the leading digits
-abbrev pub behind_digits : List ℕ → List ℕ
-behind_digits [] = []
-behind_digits (b ∷ bs) = if nat_lt (digit_value b) 10 then behind_digits bs else b ∷ bs
+abbrev pub following_digits : List ℕ → List ℕ
+following_digits [] = []
+following_digits (b ∷ bs) = if nat_lt (digit_value b) 10 then following_digits bs else b ∷ bs
 
 -- the digits after a leading point, if there is one, and what follows them
 abbrev pub spelled_fraction : List ℕ → List ℕ × List ℕ
 spelled_fraction [] = ([], [])
-spelled_fraction (b ∷ bs) = if b == point then (front_digits bs, behind_digits bs) else ([], b ∷ bs)
+spelled_fraction (b ∷ bs) = if b == point then (front_digits bs, following_digits bs) else ([], b ∷ bs)
 
 -- the sign with the digits after it, if there are some and nothing else
 abbrev pub signed_digits : Bool × List ℕ → Option (Bool × List ℕ)
-signed_digits s = if (length (front_digits s.1) == 0) || nat_lt 0 (length (behind_digits s.1)) then None else Some (s.0, front_digits s.1)
+signed_digits s = if (length (front_digits s.1) == 0) || nat_lt 0 (length (following_digits s.1)) then None else Some (s.0, front_digits s.1)
 
 -- whether an exponent is negative, and its digits, if the bytes are an exponent or empty
 abbrev pub spelled_exponent : List ℕ → Option (Bool × List ℕ)
@@ -47,7 +47,7 @@ number_with negative whole fraction (Some e) =
 abbrev pub spelled_number : List ℕ → Option Number
 spelled_number bytes =
     let s = signed bytes in
-    let f = spelled_fraction (behind_digits s.1) in
+    let f = spelled_fraction (following_digits s.1) in
     number_with s.0 (front_digits s.1) f.0 (spelled_exponent f.1)
 
 -- the thousandths of a number, or the fault of one that is too great or missing

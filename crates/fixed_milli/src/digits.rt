@@ -47,13 +47,13 @@ pub(crate) fn with_zeros(mut value: u64, zeros: usize) -> u64
     value
 }
 
-/// The number rounded by the digits `behind`, which follow it, halves up; or `LIMIT` if that is
+/// The number rounded by the digits `following`, halves up; or `LIMIT` if that is
 /// less.
-pub(crate) fn rounded(value: u64, behind: &[u8]) -> u64
+pub(crate) fn rounded(value: u64, following: &[u8]) -> u64
     requires { value ≤ LIMIT }
-    ensures { result ≡ min (value + carry behind.now) LIMIT }
+    ensures { result ≡ min (value + carry following.now) LIMIT }
 {
-    match behind {
+    match following {
         [b'5'..=u8::MAX, ..] => (value + 1).min(LIMIT),
         _ => value,
     }

@@ -68,9 +68,9 @@ impl<'a> Numeral<'a> {
     {
         let places = places as usize;
         let taken = self.fraction.len().min(places);
-        let (kept, behind) = self.fraction.split_at(taken);
+        let (kept, following) = self.fraction.split_at(taken);
         let value = with_digits(with_digits(0, self.whole, LIMIT), kept, LIMIT);
-        rounded(with_zeros(value, places - taken), behind)
+        rounded(with_zeros(value, places - taken), following)
     }
 
     /// The digits as a number with the point moved to the left, rounded, or `LIMIT` if that is
@@ -85,7 +85,7 @@ impl<'a> Numeral<'a> {
         if places > self.whole.len() {
             return 0;
         }
-        let (kept, behind) = self.whole.split_at(self.whole.len() - places);
-        rounded(with_digits(0, kept, LIMIT), behind)
+        let (kept, following) = self.whole.split_at(self.whole.len() - places);
+        rounded(with_digits(0, kept, LIMIT), following)
     }
 }

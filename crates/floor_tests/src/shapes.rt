@@ -37,7 +37,7 @@ fn leads_from_point_to_point(rt: HostRuntime) {
 }
 
 #[test]
-fn tells_points_on_the_sheet(rt: HostRuntime) {
+fn finds_points_on_the_sheet(rt: HostRuntime) {
     let cases = [
         (SHEET_START, SHEET_END, true),
         (SHEET_END, SHEET_START, true),

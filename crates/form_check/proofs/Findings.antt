@@ -119,6 +119,6 @@ fault_moves faults.Memory a b moves is = tt
 -- the fault of an edge's line is the first one from there on
 pub fault_on : {T : Type 0} (tree : Pairs) (es : List Edge) (k : ℕ) (e : Edge) (f : DiagramFault) (r : Result T DiagramFault) → IsAt es k e → first_line_fault tree es ≡ first_line_fault tree (drop k es)
     → IsLineFault (line_fault tree e) f → IsErrAnd r (λ g. g ≡ f) → IfErr r (IsLineFault (first_line_fault tree es))
-fault_on tree es k e f (Ok x) at later is handed = tt
-fault_on tree es k e f (Err g) at later is handed =
-    subst (IsLineFault (first_line_fault tree es)) (sym handed) (fault_moves f (line_fault tree e) (first_line_fault tree es) (λ h here. later ∙ fault_here tree es k e h at here) is)
+fault_on tree es k e f (Ok x) at later is passed = tt
+fault_on tree es k e f (Err g) at later is passed =
+    subst (IsLineFault (first_line_fault tree es)) (sym passed) (fault_moves f (line_fault tree e) (first_line_fault tree es) (λ h here. later ∙ fault_here tree es k e h at here) is)

@@ -14,7 +14,7 @@ use Rattle.diagram_read.specs.declared.fault.DiagramFault.TheVariants.{BadNumber
 use Rattle.diagram_read.specs.Values.{value_at, lists_at, number_in, is_no_number, in_range}
 use Rattle.diagram_read.specs.Faults.{need, refuse, each}
 use Rattle.diagram_read.specs.Lines.{on_sheet, point_in, with_point, line_with, line_in, list_with, line_of}
-use Rattle.diagram_read.proofs.Steps.{bound, ok_told, there}
+use Rattle.diagram_read.proofs.Steps.{bound, ok_holds, there}
 use Rattle.form_check.specs.Sizes.{pair_count, HasFewPairs}
 use Rattle.form_check.proofs.Counts.{parted, line_few, lists_few}
 
@@ -53,7 +53,7 @@ one_fits n count points l fit =
     bound _ (point_in n l) _ (λ p is.
     let more = length-append points (p ∷ []) in
     record {
-      within = All-push PointIsOnSheet points p fit.within (ok_told (point_in n l) p PointIsOnSheet is (point_fits n l));
+      within = All-push PointIsOnSheet points p fit.within (ok_holds (point_in n l) p PointIsOnSheet is (point_fits n l));
       counted = (let was = fit.counted in omega (arith, more, was));
     })
 
@@ -61,16 +61,16 @@ all_fit : (n count total : ℕ) (points : List Point) (ls : List Pairs) → coun
 all_fit n count total points [] sum fit = subst (λ c. AreFit c points) (let e : count ≡ total = omega (arith, sum) in e) fit
 all_fit n count total points (l ∷ ls) sum fit =
     bound _ (with_point n points l) _ (λ next is.
-    all_fit n (suc count) total next ls (omega (arith, sum)) (ok_told (with_point n points l) next (AreFit (suc count)) is (one_fits n count points l fit)))
+    all_fit n (suc count) total next ls (omega (arith, sum)) (ok_holds (with_point n points l) next (AreFit (suc count)) is (one_fits n count points l fit)))
 
 line_fits_with : (n : ℕ) (o : Option Pairs) (points : List Point) → ((l : Pairs) → o ≡ Some l → pair_count l ≤ 40000000) → line_with n o ≡ Ok (Some points) → IsPolyline points
 line_fits_with n None points few is = absurd cc
-line_fits_with n (Some l) points few is = ok_told (line_with n (Some l)) (Some points) (λ o. (ps : List Point) → o ≡ Some ps → IsPolyline ps) is fits points refl
+line_fits_with n (Some l) points few is = ok_holds (line_with n (Some l)) (Some points) (λ o. (ps : List Point) → o ≡ Some ps → IsPolyline ps) is fits points refl
   where
     fits : IfOk (line_with n (Some l)) (λ o. (ps : List Point) → o ≡ Some ps → IsPolyline ps)
     fits =
         bound _ (each (with_point n) [] (lists_at (codes "point") l)) _ (λ qs e ps same.
-        let fit = ok_told (each (with_point n) [] (lists_at (codes "point") l)) qs (AreFit (length (lists_at (codes "point") l))) e
+        let fit = ok_holds (each (with_point n) [] (lists_at (codes "point") l)) qs (AreFit (length (lists_at (codes "point") l))) e
         (all_fit n 0 (length (lists_at (codes "point") l)) [] (lists_at (codes "point") l) (omega arith) (record { within = All-nil PointIsOnSheet; counted = refl })) in
         let one = lists_few (codes "point") l in
         let two = few l refl in

@@ -17,13 +17,13 @@ use Rattle.report_text.specs.Replies.{open_line, reply_lines, end_line}
 use Rattle.report_text.specs.Routed.{routed_lines}
 
 -- how a connector with this route, if it has one, is routed
-abbrev pub told_route : Option Route → Routed
-told_route None = NoRoute
-told_route (Some route) = Cost route.cost
+abbrev pub reported_route : Option Route → Routed
+reported_route None = NoRoute
+reported_route (Some route) = Cost route.cost
 
 -- how an edge is routed, by the answers
 abbrev pub routed_by : List Answer → Edge → Routed
-routed_by answers e = if is_loop e then Loop else told_route (option_and_then (λ a. a.route) (answer_of answers e.number))
+routed_by answers e = if is_loop e then Loop else reported_route (option_and_then (λ a. a.route) (answer_of answers e.number))
 
 -- how each edge of the scene is routed, in order
 abbrev pub edges_routed : Scene → List Answer → List EdgeRouted

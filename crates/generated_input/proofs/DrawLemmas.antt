@@ -11,12 +11,12 @@ unfolding state_after
 state_after-more seed count = rw add-one refl
 
 -- draws after draws are later draws
-pub state_after-behind : (seed before count : ℕ) → state_after (state_after seed before) count ≡ state_after seed (before + count)
+pub state_after-sum : (seed before count : ℕ) → state_after (state_after seed before) count ≡ state_after seed (before + count)
 unfolding state_after
-state_after-behind seed before zero = let e : before ≡ before + 0 = omega arith in ap (state_after seed) e
-state_after-behind seed before (suc count) =
+state_after-sum seed before zero = let e : before ≡ before + 0 = omega arith in ap (state_after seed) e
+state_after-sum seed before (suc count) =
     let e : suc (before + count) ≡ before + suc count = omega arith in
-    ap next_state (state_after-behind seed before count) ∙ ap (state_after seed) e
+    ap next_state (state_after-sum seed before count) ∙ ap (state_after seed) e
 
 -- the state after one more draw
 pub next_is : (seed place next s t : ℕ) → next ≡ place + 1 → s ≡ state_after seed place → t ≡ next_state s → t ≡ state_after seed next

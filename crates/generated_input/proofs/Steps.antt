@@ -14,12 +14,12 @@ use Rattle.scene_model.specs.Scene.{Scene, empty_scene}
 use Rattle.scene_model.specs.Edits.{IsDone, IsEdited, changed, refusal}
 use Rattle.generated_input.specs.Draws.{draw, drawn, first, next_state, state_after}
 use Rattle.generated_input.specs.Made.{made_coordinate, made_edge, made_move, made_node, made_size, made_transaction, made_undo, other_place}
-use Rattle.generated_input.proofs.DrawLemmas.{draw_is, first-more, next_is, state_after-behind}
+use Rattle.generated_input.proofs.DrawLemmas.{draw_is, first-more, next_is, state_after-sum}
 
 done_memory : (why : Option SceneFault) (after old new : Scene) (answer : Result Unit SceneFault) → why ≡ None → IsDone why after old new answer → IfErr answer (λ fault. fault ≡ Memory)
 done_memory why after old new (Ok done) none h = tt
 done_memory why after old new (Err Memory) none h = refl
-done_memory why after old new (Err fault) none h = let told = h.0 in cc
+done_memory why after old new (Err fault) none h = let held = h.0 in cc
 
 done_after : (why : Option SceneFault) (after old new : Scene) (answer : Result Unit SceneFault) → IsOk answer → IsDone why after old new answer → new ≡ after
 done_after why after old new (Ok done) ok h = h.1
@@ -107,23 +107,23 @@ pub third_state : (s t u v : ℕ) → t ≡ next_state s → u ≡ next_state t 
 unfolding state_after
 third_state s t u v t-is u-is v-is = v-is ∙ ap next_state (u-is ∙ ap next_state t-is)
 
-draw_behind : (start before place later most s : ℕ) → s ≡ state_after start before → later ≡ before + place → draw s place most ≡ draw start later most
-draw_behind start before place later most s s-is later-is =
+draw_after : (start before place later most s : ℕ) → s ≡ state_after start before → later ≡ before + place → draw s place most ≡ draw start later most
+draw_after start before place later most s s-is later-is =
     let e : before + (place + 1) ≡ later + 1 = omega arith in
-    ap (λ t. drawn (state_after t (place + 1)) most) s-is ∙ ap (λ t. drawn t most) (state_after-behind start before (place + 1) ∙ ap (state_after start) e)
+    ap (λ t. drawn (state_after t (place + 1)) most) s-is ∙ ap (λ t. drawn t most) (state_after-sum start before (place + 1) ∙ ap (state_after start) e)
 
 -- the move that is drawn after earlier ones
 pub move_at : (start place s : ℕ) → s ≡ state_after start (3 * place) → made_move s 0 ≡ made_move start place
 move_at start place s s-is =
-    let a = draw_behind start (3 * place) 0 (3 * place) 36 s s-is (omega arith) in
-    let b = draw_behind start (3 * place) 1 (3 * place + 1) 1200 s s-is refl in
-    let c = draw_behind start (3 * place) 2 (3 * place + 2) 1200 s s-is refl in
+    let a = draw_after start (3 * place) 0 (3 * place) 36 s s-is (omega arith) in
+    let b = draw_after start (3 * place) 1 (3 * place + 1) 1200 s s-is refl in
+    let c = draw_after start (3 * place) 2 (3 * place + 2) 1200 s s-is refl in
     rw (a, b, c) refl
 
 pub three_draws : (start place s after : ℕ) → s ≡ state_after start (3 * place) → after ≡ state_after s 3 → after ≡ state_after start (3 * (place + 1))
 three_draws start place s after s-is after-is =
     let e : 3 * place + 3 ≡ 3 * (place + 1) = omega arith in
-    after-is ∙ ap (λ t. state_after t 3) s-is ∙ state_after-behind start (3 * place) 3 ∙ ap (state_after start) e
+    after-is ∙ ap (λ t. state_after t 3) s-is ∙ state_after-sum start (3 * place) 3 ∙ ap (state_after start) e
 
 -- whether an undo follows the transaction
 pub undo_one : (place : ℕ) → place % 3 ≡ 2 → made_undo place ≡ command.Undo ∷ []

@@ -12,8 +12,8 @@ use Rattle.gml_text.specs.declared.tree.Value.{Value, the_lemmas}
 use Rattle.gml_text.specs.declared.tree.Value as list-value
 use Rattle.gml_text.specs.declared.tree.Pair.{Pair, roll-Pair}
 use Rattle.gml_text.proofs.Views.{entry_key}
-use Rattle.scene_model.proofs.Directions.{told}
-use Rattle.scene_model.proofs.Directions.Told.{yes, no}
+use Rattle.scene_model.proofs.Directions.{tested}
+use Rattle.scene_model.proofs.Directions.Tested.{yes, no}
 use Rattle.diagram_read.specs.Values.{list_at}
 use Rattle.gml_scene.proofs.Places.{refuted}
 use Rattle.gml_scene.specs.Changes.{one, put, without, put_only, is_list, change_inside, list_place, change_list}
@@ -72,7 +72,7 @@ others key ps = filter (λ p. not (bytes_eq p.key key)) ps
 
 pub without_others : (key : List ℕ) (ps : List Pair) → pairs (others key ps) ≡ without key (pairs ps)
 without_others key [] = refl
-without_others key (p ∷ ps) = elim (told (bytes_eq p.key key)) as (λ _. pairs (others key (p ∷ ps)) ≡ without key (pairs (p ∷ ps))) [
+without_others key (p ∷ ps) = elim (tested (bytes_eq p.key key)) as (λ _. pairs (others key (p ∷ ps)) ≡ without key (pairs (p ∷ ps))) [
   | yes same ↦ (let seen = ap (λ k. bytes_eq k key) (entry_key p) ∙ same in rw (same, seen) (without_others key ps))
   | no other ↦ (let seen = ap (λ k. bytes_eq k key) (entry_key p) ∙ other in rw (other, seen) (ap (pair (entry p).0 (entry p).1) (without_others key ps)))
 ]
@@ -107,21 +107,21 @@ put_only_missing (p ∷ ps) key value none =
     rw (differ (entry p).0 key (λ e. none 0 (ap Some e))) (ap (pair (entry p).0 (entry p).1) (put_only_missing ps key value (λ k. none (suc k))))
 
 -- a place past the first is one more than that in the rest
-abbrev IsBehind : Option ℕ → ℕ → Type 0
-IsBehind o i = (j : ℕ) × (o ≡ Some j) × (i ≡ suc j)
+abbrev IsOneMore : Option ℕ → ℕ → Type 0
+IsOneMore o i = (j : ℕ) × (o ≡ Some j) × (i ≡ suc j)
 
-behind : (o : Option ℕ) (i : ℕ) → option_map suc o ≡ Some i → IsBehind o i
-behind None i is = absurd (none-some i is)
-behind (Some j) i is = (j, refl, sym (same_Some (suc j) i is))
+one_more : (o : Option ℕ) (i : ℕ) → option_map suc o ≡ Some i → IsOneMore o i
+one_more None i is = absurd (none-some i is)
+one_more (Some j) i is = (j, refl, sym (same_Some (suc j) i is))
 
 -- the pair has the key and a list
 abbrev has_list : List ℕ → Pair → Bool
 has_list key p = bytes_eq (entry p).0 key && is_list (entry p).1
 
 -- the place is that of the first pair, or one more than that in the rest
-placed : (b : Bool) (o : Option ℕ) (i : ℕ) → (if b then Some 0 else option_map suc o) ≡ Some i → ((b ≡ true) × (i ≡ 0)) ⊎ ((b ≡ false) × IsBehind o i)
+placed : (b : Bool) (o : Option ℕ) (i : ℕ) → (if b then Some 0 else option_map suc o) ≡ Some i → ((b ≡ true) × (i ≡ 0)) ⊎ ((b ≡ false) × IsOneMore o i)
 placed true o i is = inl (refl, sym (same_Some 0 i is))
-placed false o i is = inr (refl, behind o i is)
+placed false o i is = inr (refl, one_more o i is)
 
 -- the place is one of a pair
 pub place_within : (key : List ℕ) (ps : List Pair) (i : ℕ) → list_place key (pairs ps) ≡ Some i → i < length ps
@@ -193,7 +193,7 @@ nothing (Some j) is = absurd (none-some (suc j) (sym is))
 -- where there is no such place nothing is changed
 pub no_place : (key : List ℕ) (f : Pairs → Pairs) (ps : Pairs) → list_place key ps ≡ None → change_list key f ps ≡ ps
 no_place key f no_pairs none = refl
-no_place key f (pair k v rest) none = elim (told (bytes_eq k key && is_list v)) as (λ _. change_list key f (pair k v rest) ≡ pair k v rest) [
+no_place key f (pair k v rest) none = elim (tested (bytes_eq k key && is_list v)) as (λ _. change_list key f (pair k v rest) ≡ pair k v rest) [
   | yes h ↦ absurd (none-some 0 (sym none ∙ rw h refl))
   | no h ↦ rw h (ap (pair k v) (no_place key f rest (nothing (list_place key rest) (sym (rw h refl) ∙ none))))
 ]
@@ -205,15 +205,15 @@ mapped (Some j) = refl
 -- there is a place exactly where there is a list under the key
 pub place_listed : (key : List ℕ) (ps : Pairs) → is_some (list_place key ps) ≡ is_some (list_at key ps)
 place_listed key no_pairs = refl
-place_listed key (pair k (list inner) rest) = elim (told (bytes_eq k key)) as (λ _. is_some (list_place key (pair k (list inner) rest)) ≡ is_some (list_at key (pair k (list inner) rest))) [
+place_listed key (pair k (list inner) rest) = elim (tested (bytes_eq k key)) as (λ _. is_some (list_place key (pair k (list inner) rest)) ≡ is_some (list_at key (pair k (list inner) rest))) [
   | yes h ↦ rw h refl
   | no h ↦ rw h (mapped (list_place key rest) ∙ place_listed key rest)
 ]
-place_listed key (pair k (number bytes) rest) = elim (told (bytes_eq k key)) as (λ _. is_some (list_place key (pair k (number bytes) rest)) ≡ is_some (list_at key (pair k (number bytes) rest))) [
+place_listed key (pair k (number bytes) rest) = elim (tested (bytes_eq k key)) as (λ _. is_some (list_place key (pair k (number bytes) rest)) ≡ is_some (list_at key (pair k (number bytes) rest))) [
   | yes h ↦ rw h (mapped (list_place key rest) ∙ place_listed key rest)
   | no h ↦ rw h (mapped (list_place key rest) ∙ place_listed key rest)
 ]
-place_listed key (pair k (text bytes) rest) = elim (told (bytes_eq k key)) as (λ _. is_some (list_place key (pair k (text bytes) rest)) ≡ is_some (list_at key (pair k (text bytes) rest))) [
+place_listed key (pair k (text bytes) rest) = elim (tested (bytes_eq k key)) as (λ _. is_some (list_place key (pair k (text bytes) rest)) ≡ is_some (list_at key (pair k (text bytes) rest))) [
   | yes h ↦ rw h (mapped (list_place key rest) ∙ place_listed key rest)
   | no h ↦ rw h (mapped (list_place key rest) ∙ place_listed key rest)
 ]

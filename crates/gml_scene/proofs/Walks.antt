@@ -59,16 +59,16 @@ on_ok (Ok x) leads holds = leads holds
 on_ok (Err e) leads holds = tt
 
 -- a pair after others, whose value is known
-pub one_behind : (new old front : Pairs) (key : List ℕ) (v w : Content) → new ≡ old then one key v → v ≡ w → old ≡ front → new ≡ front then one key w
-one_behind new old front key v w is value begun = is ∙ ap (λ x. old then one key x) value ∙ ap (λ ps. ps then one key w) begun
+pub one_after : (new old front : Pairs) (key : List ℕ) (v w : Content) → new ≡ old then one key v → v ≡ w → old ≡ front → new ≡ front then one key w
+one_after new old front key v w is value begun = is ∙ ap (λ x. old then one key x) value ∙ ap (λ ps. ps then one key w) begun
 
 -- pairs after others
-pub more_behind : (new old front more : Pairs) → new ≡ old then more → old ≡ front → new ≡ front then more
-more_behind new old front more is begun = is ∙ ap (λ ps. ps then more) begun
+pub more_after : (new old front more : Pairs) → new ≡ old then more → old ≡ front → new ≡ front then more
+more_after new old front more is begun = is ∙ ap (λ ps. ps then more) begun
 
 -- nothing is appended
-pub nothing_behind : (ps more : Pairs) → more ≡ no_pairs → ps ≡ ps then more
-nothing_behind ps more none = sym (ap (λ qs. ps then qs) none ∙ then-none ps)
+pub nothing_after : (ps more : Pairs) → more ≡ no_pairs → ps ≡ ps then more
+nothing_after ps more none = sym (ap (λ qs. ps then qs) none ∙ then-none ps)
 
 -- a loop over a list has written the element too
 pub written_more : {X : Type 0} (f : X → Pairs) (xs : List X) (i : ℕ) (d : X) (out done new here : Pairs) → i < length xs

@@ -8,7 +8,7 @@ use Rattle.gml_text.specs.Bytes.{is_space, begins_key, is_key_byte, is_word_byte
 use Rattle.gml_text.specs.Tree.{Content, number, text, list, Pairs, no_pairs, pair, ◌then◌}
 use Rattle.fixed_milli.specs.Number.{IsNumber}
 use Rattle.gml_text.specs.Grammar.{Lacks, IsBlank, IsWhiteSpace, IsKey, EndsWord, StandsApart, SpellsPairs, SpellsValue, IsEnding, SpellsDocument}
-use Rattle.gml_text.specs.Reading.{Where, between, behind, Mode, in_gap, in_comment, in_key, in_number, in_text, Frame, State, start, number_step, accepted}
+use Rattle.gml_text.specs.Reading.{Where, between, following, Mode, in_gap, in_comment, in_key, in_number, in_text, Frame, State, start, number_step, accepted}
 use Rattle.gml_text.specs.Token.{begun, after, is_complete}
 use Rattle.gml_text.specs.declared.token.NumberPart.{NumberPart}
 use Rattle.gml_text.proofs.ByteLemmas.{key_begin, no_word, space_no_word, after_no_word, number_begin}
@@ -85,14 +85,14 @@ key_passes (b ∷ bs) more key fs ps h =
 
 -- a key ends before what is of no word
 pub key_ends : (more key : List ℕ) (fs : List Frame) (ps : Pairs) → EndsWord more
-    → accepted more (at (in_key key) fs ps) ≡ accepted more (at (in_gap (behind key)) fs ps)
+    → accepted more (at (in_key key) fs ps) ≡ accepted more (at (in_gap (following key)) fs ps)
 key_ends [] key fs ps h = refl
 key_ends (b ∷ bs) key fs ps h =
     ap (option_and_then (accepted bs)) (cond-false (is_key_byte b) _ _ (no_word b h).key ∙ cond-false (is_word_byte b) _ _ h)
 
 -- a key is read, and white space or its value comes
 pub key_is_read : (key more : List ℕ) (fs : List Frame) (ps : Pairs) → IsKey key → EndsWord more
-    → accepted (key ++ more) (at (in_gap between) fs ps) ≡ accepted more (at (in_gap (behind key)) fs ps)
+    → accepted (key ++ more) (at (in_gap between) fs ps) ≡ accepted more (at (in_gap (following key)) fs ps)
 key_is_read [] more fs ps k h = absurd k
 key_is_read (b ∷ bs) more fs ps k h =
     let first = key_begin b k.0 in
@@ -130,7 +130,7 @@ number_passes (b ∷ bs) more key digits part fs ps e h =
     number_goes b bs more key digits part fs ps (after part b) (λ done next more_ends. number_passes bs more key done next fs ps more_ends h) e
 
 number_is_read_at : (b : ℕ) (bs more key : List ℕ) (part : NumberPart) (fs : List Frame) (ps : Pairs) → begun b ≡ Some part → ends bs part ≡ true → EndsWord more
-    → accepted (b ∷ (bs ++ more)) (at (in_gap (behind key)) fs ps)
+    → accepted (b ∷ (bs ++ more)) (at (in_gap (following key)) fs ps)
     ≡ accepted more (at (in_gap between) fs (ps then pair key (number (b ∷ bs)) no_pairs))
 number_is_read_at b bs more key part fs ps h e apart =
     let first = number_begin b part h in
@@ -141,11 +141,11 @@ number_is_read_at b bs more key part fs ps h e apart =
 
 -- a number is read
 number_is_read : (digits more key : List ℕ) (fs : List Frame) (ps : Pairs) → IsNumber digits → EndsWord more
-    → accepted (digits ++ more) (at (in_gap (behind key)) fs ps)
+    → accepted (digits ++ more) (at (in_gap (following key)) fs ps)
     ≡ accepted more (at (in_gap between) fs (ps then pair key (number digits) no_pairs))
 number_is_read digits more key fs ps n apart =
     let e = number_ends digits n in
-    subst (λ d. accepted (d ++ more) (at (in_gap (behind key)) fs ps)
+    subst (λ d. accepted (d ++ more) (at (in_gap (following key)) fs ps)
     ≡ accepted more (at (in_gap between) fs (ps then pair key (number d) no_pairs))) (sym e.3)
     (number_is_read_at e.0 e.1 more key e.2 fs ps e.4 e.5 apart)
 
@@ -181,18 +181,18 @@ mutual
   -- a value is read after its key
   pub value_is_read : (value : Content) (written space more key : List ℕ) (fs : List Frame) (ps : Pairs)
       → SpellsValue value written → StandsApart value space more
-      → accepted (written ++ more) (at (in_gap (behind key)) fs ps)
+      → accepted (written ++ more) (at (in_gap (following key)) fs ps)
       ≡ accepted more (at (in_gap between) fs (ps then pair key value no_pairs))
   value_is_read (number digits) written space more key fs ps v a =
-      subst (λ x. accepted (x ++ more) (at (in_gap (behind key)) fs ps)
+      subst (λ x. accepted (x ++ more) (at (in_gap (following key)) fs ps)
       ≡ accepted more (at (in_gap between) fs (ps then pair key (number digits) no_pairs))) (sym v.0)
       (number_is_read digits more key fs ps v.1 a.1)
   value_is_read (text inner) written space more key fs ps v a =
-      subst (λ x. accepted (x ++ more) (at (in_gap (behind key)) fs ps)
+      subst (λ x. accepted (x ++ more) (at (in_gap (following key)) fs ps)
       ≡ accepted more (at (in_gap between) fs (ps then pair key (text inner) no_pairs))) (sym v.0)
       (text_passes inner more key [] fs ps v.1)
   value_is_read (list inner) written space more key fs ps v a =
-      subst (λ x. accepted (x ++ more) (at (in_gap (behind key)) fs ps)
+      subst (λ x. accepted (x ++ more) (at (in_gap (following key)) fs ps)
       ≡ accepted more (at (in_gap between) fs (ps then pair key (list inner) no_pairs))) (sym v.1)
       (ap (λ x. accepted x (at (in_gap between) (record { key = key; before = ps } ∷ fs) no_pairs)) (append_assoc v.0 (93 ∷ []) more)
       ∙ pairs_are_read inner v.0 (93 ∷ more) (record { key = key; before = ps } ∷ fs) no_pairs v.2 refl)
@@ -208,7 +208,7 @@ mutual
       ap (λ x. accepted x (at (in_gap between) fs ps)) regrouped
       ∙ (gap_passes h.0 (key ++ (h.1 ++ (h.2 ++ (h.3 ++ more)))) between fs ps h.5
       ∙ (key_is_read key (h.1 ++ (h.2 ++ (h.3 ++ more))) fs ps h.6 (value_ends_word value h.1 h.2 h.3 (h.3 ++ more) h.7 h.8 h.9)
-      ∙ (gap_passes h.1 (h.2 ++ (h.3 ++ more)) (behind key) fs ps h.7
+      ∙ (gap_passes h.1 (h.2 ++ (h.3 ++ more)) (following key) fs ps h.7
       ∙ (value_is_read value h.2 h.1 (h.3 ++ more) key fs ps h.8 apart
       ∙ (pairs_are_read rest h.3 more fs (ps then pair key value no_pairs) h.10 e
       ∙ ap (λ x. accepted more (at (in_gap between) fs x)) (then_assoc ps (pair key value no_pairs) rest))))))

@@ -4,7 +4,7 @@ use Rattle.std.specs.Option.{option_map, option_and_then}
 use Rattle.std.proofs.lemmas.Option.{none-some, same_Some}
 use Rattle.gml_text.specs.Bytes.{is_space, begins_key, is_key_byte, is_word_byte}
 use Rattle.gml_text.specs.Tree.{Content, number, text, list, Pairs, no_pairs, pair, depth, value_depth, ◌then◌}
-use Rattle.gml_text.specs.Reading.{Where, between, behind, Mode, in_gap, in_comment, in_key, in_number, in_text, Frame, State, closed, opened, begins, in_space, key_step, number_step, text_step, mode_step, stepped, whole, finished, accepted}
+use Rattle.gml_text.specs.Reading.{Where, between, following, Mode, in_gap, in_comment, in_key, in_number, in_text, Frame, State, closed, opened, begins, in_space, key_step, number_step, text_step, mode_step, stepped, whole, finished, accepted}
 use Rattle.gml_text.specs.Standing.{closed_up, height}
 use Rattle.gml_text.specs.Token.{begun, after, is_complete}
 use Rattle.gml_text.specs.declared.token.NumberPart.{NumberPart}
@@ -85,7 +85,7 @@ keeps_number (Some part) key fs ps b = (omega arith, omega arith)
 keeps_begins : (place : Where) (fs : List Frame) (ps : Pairs) (b : ℕ) → Keeps (depth (closed_up fs ps)) (begins place fs ps b)
 keeps_begins between fs ps b =
     keeps_cond (b == 93) _ _ _ (keeps_close fs ps) (keeps_cond (begins_key b) _ _ _ (omega arith, omega arith) tt)
-keeps_begins (behind key) fs ps b =
+keeps_begins (following key) fs ps b =
     keeps_cond (b == 91) _ _ _ (keeps_open fs ps key)
     (keeps_cond (b == 34) _ _ _ (omega arith, omega arith) (keeps_number (begun b) key fs ps b))
 
@@ -96,7 +96,7 @@ keeps_space place fs ps b =
 
 keeps_key : (key : List ℕ) (fs : List Frame) (ps : Pairs) (b : ℕ) → Keeps (depth (closed_up fs ps)) (key_step key fs ps b)
 keeps_key key fs ps b =
-    keeps_cond (is_key_byte b) _ _ _ (omega arith, omega arith) (keeps_cond (is_word_byte b) _ _ _ tt (keeps_space (behind key) fs ps b))
+    keeps_cond (is_key_byte b) _ _ _ (omega arith, omega arith) (keeps_cond (is_word_byte b) _ _ _ tt (keeps_space (following key) fs ps b))
 
 keeps_number_step : (key digits : List ℕ) (part : NumberPart) (fs : List Frame) (ps : Pairs) (b : ℕ) (next : Option NumberPart)
     → Keeps (depth (closed_up fs ps)) (number_step key digits part fs ps b next)
@@ -129,9 +129,9 @@ whole_depth (f ∷ fs) ps tree h = absurd (none-some tree h)
 -- a document that ends is as deep as its state
 pub finished_depth : (mode : Mode) (fs : List Frame) (ps tree : Pairs) → finished mode fs ps ≡ Some tree → depth (closed_up fs ps) ≡ depth tree
 finished_depth (in_gap between) fs ps tree h = whole_depth fs ps tree h
-finished_depth (in_gap (behind key)) fs ps tree h = absurd (none-some tree h)
+finished_depth (in_gap (following key)) fs ps tree h = absurd (none-some tree h)
 finished_depth (in_comment between) fs ps tree h = whole_depth fs ps tree h
-finished_depth (in_comment (behind key)) fs ps tree h = absurd (none-some tree h)
+finished_depth (in_comment (following key)) fs ps tree h = absurd (none-some tree h)
 finished_depth (in_key key) fs ps tree h = absurd (none-some tree h)
 finished_depth (in_number key digits part) fs ps tree h =
     sym (height-flat fs ps key (number digits) refl)
@@ -214,7 +214,7 @@ mode_completes (in_gap between) fs ps = record {
   is_accepted = brackets_close fs ps;
   no_deeper = omega arith;
 }
-mode_completes (in_gap (behind key)) fs ps = record {
+mode_completes (in_gap (following key)) fs ps = record {
   more = 48 ∷ 32 ∷ brackets fs;
   tree = closed_up fs (ps then pair key (number (48 ∷ [])) no_pairs);
   is_accepted = brackets_close fs (ps then pair key (number (48 ∷ [])) no_pairs);
@@ -226,7 +226,7 @@ mode_completes (in_comment between) fs ps = record {
   is_accepted = brackets_close fs ps;
   no_deeper = omega arith;
 }
-mode_completes (in_comment (behind key)) fs ps = record {
+mode_completes (in_comment (following key)) fs ps = record {
   more = 10 ∷ 48 ∷ 32 ∷ brackets fs;
   tree = closed_up fs (ps then pair key (number (48 ∷ [])) no_pairs);
   is_accepted = brackets_close fs (ps then pair key (number (48 ∷ [])) no_pairs);

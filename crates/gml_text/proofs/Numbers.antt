@@ -31,8 +31,8 @@ abbrev pub Begun : List ℕ → Type 0
 Begun bytes = (b : ℕ) × (bs : List ℕ) × (part : NumberPart) × (bytes ≡ b ∷ bs) × (begun b ≡ Some part) × (ends bs part ≡ true)
 
 -- what passes the test of digits has the value of one
-digit_told : (b : ℕ) → is_ascii_digit b ≡ true → digit_value b < 10
-digit_told b h = grind (arith, nat_tests)
+digit_bound : (b : ℕ) → is_ascii_digit b ≡ true → digit_value b < 10
+digit_bound b h = grind (arith, nat_tests)
 
 digit_no_sign : (b : ℕ) → is_ascii_digit b ≡ true → (is_sign b ≡ false) × ((b == 46) ≡ false)
 digit_no_sign b h = (grind (arith, nat_tests), grind (arith, nat_tests))
@@ -153,7 +153,7 @@ exponent_digits : (bs : List ℕ) → ends bs Exponent ≡ true → AllDigits 10
 exponent_digits [] h = tt
 exponent_digits (b ∷ bs) h =
     elim (went (is_ascii_digit b) Exponent None (ends bs) h) [
-      | inl y ↦ (digit_told b y.0, exponent_digits bs y.1)
+      | inl y ↦ (digit_bound b y.0, exponent_digits bs y.1)
       | inr n ↦ absurd (false≢true n.1)
     ]
 
@@ -167,7 +167,7 @@ pub record MarkRest (bs : List ℕ) : Type 0 where
   pub spelled : bs ≡ sign ++ digits
 
 digits_at : (b : ℕ) (bs : List ℕ) → is_ascii_digit b ≡ true → ends bs Exponent ≡ true → AllDigits 10 (b ∷ bs)
-digits_at b bs d h = (digit_told b d, exponent_digits bs h)
+digits_at b bs d h = (digit_bound b d, exponent_digits bs h)
 
 mark_sign_rest : (bs : List ℕ) → ends bs MarkSign ≡ true → AllDigits 10 bs × (0 < length bs)
 mark_sign_rest [] h = absurd (false≢true h)
@@ -247,7 +247,7 @@ abbrev more_fraction : (b : ℕ) (bs : List ℕ) → is_ascii_digit b ≡ true �
 more_fraction b bs d r = record {
   digits = b ∷ r.digits;
   ending = r.ending;
-  are_digits = (digit_told b d, r.are_digits);
+  are_digits = (digit_bound b d, r.are_digits);
   is_exponent = r.is_exponent;
   spelled = ap (λ x. b ∷ x) r.spelled;
 }
@@ -281,7 +281,7 @@ more_whole b bs d r = record {
   point = r.point;
   fraction = r.fraction;
   ending = r.ending;
-  whole_digits = (digit_told b d, r.whole_digits);
+  whole_digits = (digit_bound b d, r.whole_digits);
   is_point = r.is_point;
   fraction_digits = r.fraction_digits;
   is_exponent = r.is_exponent;

@@ -65,9 +65,9 @@ regroup : (a b c d e f : List ℕ) → (a ++ (b ++ (c ++ (d ++ e)))) ++ f ≡ a 
 regroup a b c d e f = simp append_assoc
 
 -- white space may follow pairs
-gap_behind : (tree : Pairs) (bytes gap : List ℕ) → SpellsPairs tree bytes → IsWhiteSpace gap → SpellsPairs tree (bytes ++ gap)
-gap_behind no_pairs bytes gap h g = gap_append bytes gap h g
-gap_behind (pair key value rest) bytes gap h g =
+gap_following : (tree : Pairs) (bytes gap : List ℕ) → SpellsPairs tree bytes → IsWhiteSpace gap → SpellsPairs tree (bytes ++ gap)
+gap_following no_pairs bytes gap h g = gap_append bytes gap h g
+gap_following (pair key value rest) bytes gap h g =
     let ends = subst EndsWord (append-nil gap) (gap_ends_word gap [] g (inr tt)) in (
       h.0,
       h.1,
@@ -79,13 +79,13 @@ gap_behind (pair key value rest) bytes gap h g =
       h.7,
       h.8,
       stands_apart_append value h.1 h.3 gap h.9 ends,
-      gap_behind rest h.3 gap h.10 g,
+      gap_following rest h.3 gap h.10 g,
     )
 
-one_space_apart : (value : Content) (behind : List ℕ) → StandsApart value (32 ∷ []) (10 ∷ behind)
-one_space_apart (number digits) behind = (omega arith, refl)
-one_space_apart (text inner) behind = tt
-one_space_apart (list inner) behind = tt
+one_space_apart : (value : Content) (following : List ℕ) → StandsApart value (32 ∷ []) (10 ∷ following)
+one_space_apart (number digits) following = (omega arith, refl)
+one_space_apart (text inner) following = tt
+one_space_apart (list inner) following = tt
 
 line_regroup : (a b c d : List ℕ) → (a ++ (b ++ (32 ∷ (c ++ 10 ∷ [])))) ++ d ≡ a ++ (b ++ (32 ∷ (c ++ 10 ∷ d)))
 line_regroup a b c d = simp append_assoc
@@ -114,7 +114,7 @@ mutual
     10 ∷ (printed_inside (level + 1) inner ++ indent level),
     ap (λ x. 91 ∷ 10 ∷ x) (sym (append_assoc (printed_inside (level + 1) inner) (indent level) (93 ∷ []))),
     blank_in_front inner (10 ∷ []) (printed_inside (level + 1) inner ++ indent level) (space_blank 10 refl)
-        (gap_behind inner (printed_inside (level + 1) inner) (indent level) (printed_spells inner (level + 1) g) (indent_gap level)),
+        (gap_following inner (printed_inside (level + 1) inner) (indent level) (printed_spells inner (level + 1) g) (indent_gap level)),
   )
 
 -- what is printed is a spelling

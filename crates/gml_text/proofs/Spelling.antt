@@ -9,7 +9,7 @@ use Rattle.gml_text.specs.Bytes.{is_space, begins_key, is_key_byte, is_word_byte
 use Rattle.gml_text.specs.Tree.{Content, number, text, list, Pairs, no_pairs, pair, ◌then◌}
 use Rattle.fixed_milli.specs.Number.{IsNumber}
 use Rattle.gml_text.specs.Grammar.{Lacks, IsBlank, IsWhiteSpace, IsKey, EndsWord, StandsApart, SpellsPairs, SpellsValue, SpellsDocument}
-use Rattle.gml_text.specs.Reading.{Where, between, behind, Mode, in_gap, in_comment, in_key, in_number, in_text, Frame, State, start, closed, begins, in_space, key_step, number_step, text_step, mode_step, stepped, whole, finished, accepted}
+use Rattle.gml_text.specs.Reading.{Where, between, following, Mode, in_gap, in_comment, in_key, in_number, in_text, Frame, State, start, closed, begins, in_space, key_step, number_step, text_step, mode_step, stepped, whole, finished, accepted}
 use Rattle.gml_text.specs.Token.{begun, after, is_complete}
 use Rattle.gml_text.specs.declared.token.NumberPart.{NumberPart}
 use Rattle.gml_text.proofs.ByteLemmas.{begun_no_word}
@@ -24,7 +24,7 @@ Rest (f ∷ fs) ps more tree =
     × Rest fs (f.before then pair f.key (list (ps then next)) no_pairs) rest tree
 
 -- after a key and white space: a value
-pub record BehindKey (key : List ℕ) (fs : List Frame) (ps : Pairs) (more : List ℕ) (tree : Pairs) : Type 0 where
+pub record AfterKey (key : List ℕ) (fs : List Frame) (ps : Pairs) (more : List ℕ) (tree : Pairs) : Type 0 where
   pub space : List ℕ
   pub written : List ℕ
   pub rest : List ℕ
@@ -52,12 +52,12 @@ pub record KeyRest (key : List ℕ) (fs : List Frame) (ps : Pairs) (more : List 
 -- the bytes that have to follow in each mode
 abbrev pub Completes : Mode → List Frame → Pairs → List ℕ → Pairs → Type 0
 Completes (in_gap between) fs ps more tree = Rest fs ps more tree
-Completes (in_gap (behind key)) fs ps more tree = BehindKey key fs ps more tree
+Completes (in_gap (following key)) fs ps more tree = AfterKey key fs ps more tree
 Completes (in_comment between) fs ps more tree =
     ((line : List ℕ) × (rest : List ℕ) × (more ≡ line ++ 10 ∷ rest) × Lacks 10 line × Rest fs ps rest tree)
     ⊎ ((fs ≡ []) × Lacks 10 more × (tree ≡ ps))
-Completes (in_comment (behind key)) fs ps more tree =
-    (line : List ℕ) × (rest : List ℕ) × (more ≡ line ++ 10 ∷ rest) × Lacks 10 line × BehindKey key fs ps rest tree
+Completes (in_comment (following key)) fs ps more tree =
+    (line : List ℕ) × (rest : List ℕ) × (more ≡ line ++ 10 ∷ rest) × Lacks 10 line × AfterKey key fs ps rest tree
 Completes (in_key key) fs ps more tree = KeyRest key fs ps more tree
 Completes (in_number key digits part) fs ps more tree =
     (goes_on : List ℕ) × (rest : List ℕ) × (more ≡ goes_on ++ rest) × (ends goes_on part ≡ true) × EndsWord rest
@@ -178,7 +178,7 @@ begins_between fs ps b bs tree h =
     ]
 
 number_begins : (key : List ℕ) (fs : List Frame) (ps : Pairs) (b : ℕ) (bs : List ℕ) (tree : Pairs) (o : Option NumberPart) → begun b ≡ o
-    → After (option_map (λ part. at (in_number key (b ∷ []) part) fs ps) o) bs tree → BehindKey key fs ps (b ∷ bs) tree
+    → After (option_map (λ part. at (in_number key (b ∷ []) part) fs ps) o) bs tree → AfterKey key fs ps (b ∷ bs) tree
 number_begins key fs ps b bs tree None e h = absurd h
 number_begins key fs ps b bs tree (Some part) e h = record {
   space = [];
@@ -192,9 +192,9 @@ number_begins key fs ps b bs tree (Some part) e h = record {
   then_rest = h.5;
 }
 
-begins_behind : (key : List ℕ) (fs : List Frame) (ps : Pairs) (b : ℕ) (bs : List ℕ) (tree : Pairs) → After (begins (behind key) fs ps b) bs tree
-    → BehindKey key fs ps (b ∷ bs) tree
-begins_behind key fs ps b bs tree h =
+begins_following : (key : List ℕ) (fs : List Frame) (ps : Pairs) (b : ℕ) (bs : List ℕ) (tree : Pairs) → After (begins (following key) fs ps b) bs tree
+    → AfterKey key fs ps (b ∷ bs) tree
+begins_following key fs ps b bs tree h =
     elim (went (b == 91) _ _ bs tree h) [
       | inl y ↦ let r = y.1 in record {
         space = [];
@@ -229,8 +229,8 @@ stands_apart_more (text inner) space more rest some h = tt
 stands_apart_more (list inner) space more rest some h = tt
 
 -- white space may stand in front of a value
-more_space : (key : List ℕ) (fs : List Frame) (ps : Pairs) (blank more : List ℕ) (tree : Pairs) → IsBlank blank → BehindKey key fs ps more tree
-    → BehindKey key fs ps (blank ++ more) tree
+more_space : (key : List ℕ) (fs : List Frame) (ps : Pairs) (blank more : List ℕ) (tree : Pairs) → IsBlank blank → AfterKey key fs ps more tree
+    → AfterKey key fs ps (blank ++ more) tree
 more_space key fs ps blank more tree b r = record {
   space = blank ++ r.space;
   written = r.written;
@@ -282,14 +282,14 @@ space_back between fs ps b bs tree h =
         | inr o ↦ begins_between fs ps b bs tree o.1
       ]
     ]
-space_back (behind key) fs ps b bs tree h =
+space_back (following key) fs ps b bs tree h =
     elim (went (is_space b) _ _ bs tree h) [
       | inl y ↦ more_space key fs ps (b ∷ []) bs tree (space_blank b y.0) y.1
       | inr n ↦ elim (went (b == 35) _ _ bs tree n.1) [
         | inl c ↦ let r = c.1 in
-            subst (λ x. BehindKey key fs ps x tree) (begins_comment b bs r.0 r.1 c.0 r.2)
+            subst (λ x. AfterKey key fs ps x tree) (begins_comment b bs r.0 r.1 c.0 r.2)
             (more_space key fs ps (35 ∷ (r.0 ++ 10 ∷ [])) r.1 tree (comment_blank r.0 r.3) r.4)
-        | inr o ↦ begins_behind key fs ps b bs tree o.1
+        | inr o ↦ begins_following key fs ps b bs tree o.1
       ]
     ]
 
@@ -299,8 +299,8 @@ comment_back between fs ps b bs tree true e h = inl ([], bs, ap (λ x. x ∷ bs)
 comment_back between fs ps b bs tree false e (inl h) =
     inl (b ∷ h.0, h.1, ap (λ x. b ∷ x) h.2, and_from (not (b == 10)) _ (not_from_false (b == 10) e) h.3, h.4)
 comment_back between fs ps b bs tree false e (inr h) = inr (h.0, and_from (not (b == 10)) _ (not_from_false (b == 10) e) h.1, h.2)
-comment_back (behind key) fs ps b bs tree true e h = ([], bs, ap (λ x. x ∷ bs) (eqb-true b 10 e), refl, h)
-comment_back (behind key) fs ps b bs tree false e h =
+comment_back (following key) fs ps b bs tree true e h = ([], bs, ap (λ x. x ∷ bs) (eqb-true b 10 e), refl, h)
+comment_back (following key) fs ps b bs tree false e h =
     (b ∷ h.0, h.1, ap (λ x. b ∷ x) h.2, and_from (not (b == 10)) _ (not_from_false (b == 10) e) h.3, h.4)
 
 -- after a key no number begins where there is no byte of a word
@@ -320,7 +320,7 @@ value_stands_apart (text inner) b bs written rest space w e v a = tt
 value_stands_apart (list inner) b bs written rest space w e v a = tt
 
 key_stops : (key : List ℕ) (fs : List Frame) (ps : Pairs) (b : ℕ) (bs : List ℕ) (tree : Pairs) → is_word_byte b ≡ false
-    → BehindKey key fs ps (b ∷ bs) tree → KeyRest key fs ps (b ∷ bs) tree
+    → AfterKey key fs ps (b ∷ bs) tree → KeyRest key fs ps (b ∷ bs) tree
 key_stops key fs ps b bs tree w r = record {
   goes_on = [];
   space = r.space;
@@ -354,7 +354,7 @@ key_back key fs ps b bs tree h =
       }
       | inr n ↦ elim (went (is_word_byte b) _ _ bs tree n.1) [
         | inl w ↦ absurd w.1
-        | inr o ↦ key_stops key fs ps b bs tree o.0 (space_back (behind key) fs ps b bs tree o.1)
+        | inr o ↦ key_stops key fs ps b bs tree o.0 (space_back (following key) fs ps b bs tree o.1)
       ]
     ]
 
@@ -428,9 +428,9 @@ complete_or_none false o tree h = absurd (none-some tree h)
 
 at_the_end : (mode : Mode) (fs : List Frame) (ps tree : Pairs) → finished mode fs ps ≡ Some tree → Completes mode fs ps [] tree
 at_the_end (in_gap between) fs ps tree h = rest_ends fs ps tree h
-at_the_end (in_gap (behind key)) fs ps tree h = absurd (none-some tree h)
+at_the_end (in_gap (following key)) fs ps tree h = absurd (none-some tree h)
 at_the_end (in_comment between) fs ps tree h = let w = whole_is fs ps tree h in inr (w.0, refl, w.1)
-at_the_end (in_comment (behind key)) fs ps tree h = absurd (none-some tree h)
+at_the_end (in_comment (following key)) fs ps tree h = absurd (none-some tree h)
 at_the_end (in_key key) fs ps tree h = absurd (none-some tree h)
 at_the_end (in_number key digits part) fs ps tree h =
     let c = complete_or_none (is_complete part) _ tree h in (

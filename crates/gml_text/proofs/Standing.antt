@@ -8,7 +8,7 @@ use Rattle.std.proofs.lemmas.List.Edits.{between_more}
 use Rattle.gml_text.specs.Bytes.{is_space, begins_key, is_key_byte, is_word_byte}
 use Rattle.gml_text.specs.Tree.{text, number, Pairs, no_pairs, pair, ◌then◌}
 use Rattle.gml_text.specs.Parse.{most_open, IsSyntaxAt, IsTooDeepAt, IsDocument}
-use Rattle.gml_text.specs.Reading.{Where, between, behind, in_gap, in_comment, Frame, State, start, in_space, number_step, text_step, closed, whole, stepped, finished}
+use Rattle.gml_text.specs.Reading.{Where, between, following, in_gap, in_comment, Frame, State, start, in_space, number_step, text_step, closed, whole, stepped, finished}
 use Rattle.gml_text.specs.Standing.{LeadsWithinLimit, Stands, IsNoGap, gap_state, comment_state, key_state, number_state, text_state}
 use Rattle.gml_text.specs.Token.{begun, after, is_complete}
 use Rattle.gml_text.specs.declared.token.NumberPart.{NumberPart}
@@ -84,7 +84,7 @@ feed_is_space b h = ap is_space h
 
 comment_finishes : (here : Where) (fs : List Frame) (ps : Pairs) → finished (in_comment here) fs ps ≡ finished (in_gap here) fs ps
 comment_finishes between fs ps = refl
-comment_finishes (behind key) fs ps = refl
+comment_finishes (following key) fs ps = refl
 
 -- at its line feed, and at the end, a comment is as white space
 pub comment_stops : (bytes : List ℕ) (at : ℕ) (here : Where) (fs : List Frame) (ps : Pairs) → (at < length bytes → get_or bytes at 0 ≡ 10)
@@ -122,10 +122,10 @@ key_touches bytes at key fs ps h k w x =
 
 -- where none does, a key is as white space after it
 pub key_stops : (bytes : List ℕ) (at : ℕ) (key : List ℕ) (fs : List Frame) (ps : Pairs) → (at < length bytes → is_key_byte (get_or bytes at 0) ≡ false)
-    → (at < length bytes → is_word_byte (get_or bytes at 0) ≡ false) → Stands bytes at (key_state key fs ps) → Stands bytes at (gap_state (behind key) fs ps)
+    → (at < length bytes → is_word_byte (get_or bytes at 0) ≡ false) → Stands bytes at (key_state key fs ps) → Stands bytes at (gap_state (following key) fs ps)
 key_stops bytes at key fs ps k w x =
     let b = get_or bytes at 0 in
-    like bytes at (key_state key fs ps) (gap_state (behind key) fs ps) x x.few
+    like bytes at (key_state key fs ps) (gap_state (following key) fs ps) x x.few
     (λ h. cond-false (is_key_byte b) _ _ (k h) ∙ cond-false (is_word_byte b) _ _ (w h)) refl
 
 -- what begins no pair
@@ -138,9 +138,9 @@ no_pair bytes at fs ps h g c k x =
 
 -- strings
 pub text_begins : (bytes : List ℕ) (at : ℕ) (key : List ℕ) (fs : List Frame) (ps : Pairs) → at < length bytes → get_or bytes at 0 ≡ 34
-    → Stands bytes at (gap_state (behind key) fs ps) → Stands bytes (at + 1) (text_state key [] fs ps)
+    → Stands bytes at (gap_state (following key) fs ps) → Stands bytes (at + 1) (text_state key [] fs ps)
 text_begins bytes at key fs ps h e x =
-    goes bytes at (gap_state (behind key) fs ps) (text_state key [] fs ps) h x (ap (in_space (behind key) fs ps) e) x.few
+    goes bytes at (gap_state (following key) fs ps) (text_state key [] fs ps) h x (ap (in_space (following key) fs ps) e) x.few
 
 pub text_goes : (bytes : List ℕ) (from at : ℕ) (key : List ℕ) (fs : List Frame) (ps : Pairs) → from ≤ at → at < length bytes → (get_or bytes at 0 ≡ 34 → ⊥)
     → Stands bytes at (text_state key (slice_range bytes from at) fs ps) → Stands bytes (at + 1) (text_state key (slice_range bytes from (at + 1)) fs ps)
@@ -156,20 +156,20 @@ text_ends bytes at key inner fs ps h e x =
 
 -- numbers
 pub number_begins : (bytes : List ℕ) (at : ℕ) (key : List ℕ) (part : NumberPart) (fs : List Frame) (ps : Pairs) → at < length bytes → begun (get_or bytes at 0) ≡ Some part
-    → Stands bytes at (gap_state (behind key) fs ps) → Stands bytes (at + 1) (number_state key (slice_range bytes at (at + 1)) part fs ps)
+    → Stands bytes at (gap_state (following key) fs ps) → Stands bytes (at + 1) (number_state key (slice_range bytes at (at + 1)) part fs ps)
 number_begins bytes at key part fs ps h e x =
     let b = get_or bytes at 0 in
     let first = number_begin b part e in
     subst (λ digits. Stands bytes (at + 1) (number_state key digits part fs ps)) (sym (one_byte bytes at h))
-    (goes bytes at (gap_state (behind key) fs ps) (number_state key (b ∷ []) part fs ps) h x
+    (goes bytes at (gap_state (following key) fs ps) (number_state key (b ∷ []) part fs ps) h x
     (cond-false (is_space b) _ _ first.0 ∙ (cond-false (b == 35) _ _ first.1 ∙ (cond-false (b == 91) _ _ first.2 ∙ (cond-false (b == 34) _ _ first.3
     ∙ ap (option_map (λ p. number_state key (b ∷ []) p fs ps)) e)))) x.few)
 
 pub no_value : (bytes : List ℕ) (at : ℕ) (key : List ℕ) (fs : List Frame) (ps : Pairs) → at < length bytes → IsNoGap (get_or bytes at 0) → (get_or bytes at 0 ≡ 91 → ⊥)
-    → (get_or bytes at 0 ≡ 34 → ⊥) → begun (get_or bytes at 0) ≡ None → Stands bytes at (gap_state (behind key) fs ps) → IsSyntaxAt bytes at
+    → (get_or bytes at 0 ≡ 34 → ⊥) → begun (get_or bytes at 0) ≡ None → Stands bytes at (gap_state (following key) fs ps) → IsSyntaxAt bytes at
 no_value bytes at key fs ps h g o q e x =
     let b = get_or bytes at 0 in
-    refused_there bytes at (gap_state (behind key) fs ps) h x
+    refused_there bytes at (gap_state (following key) fs ps) h x
     (cond-false (is_space b) _ _ g.no_space ∙ (cond-false (b == 35) _ _ g.no_hash ∙ (cond-false (b == 91) _ _ (not_same b 91 o) ∙ (cond-false (b == 34) _ _ (not_same b 34 q)
     ∙ ap (option_map (λ p. number_state key (b ∷ []) p fs ps)) e))))
 

@@ -31,19 +31,19 @@ EndsWord (b ∷ bs) = is_word_byte b ≡ false
 
 -- a number is a word, a longest run of its bytes: white space must stand between it and its key, and no byte of a word follows it
 abbrev pub StandsApart : Content → List ℕ → List ℕ → Type 0
-StandsApart (number digits) space behind = (0 < length space) × EndsWord behind
-StandsApart (text inner) space behind = Unit {0}
-StandsApart (list inner) space behind = Unit {0}
+StandsApart (number digits) space following = (0 < length space) × EndsWord following
+StandsApart (text inner) space following = Unit {0}
+StandsApart (list inner) space following = Unit {0}
 
 abbrev mutual
   -- the bytes spell the pairs: a key, its value and white space before, between and after them
   pub SpellsPairs : Pairs → List ℕ → Type 0
   SpellsPairs no_pairs bytes = IsWhiteSpace bytes
   SpellsPairs (pair key value rest) bytes =
-      (gap : List ℕ) × (space : List ℕ) × (written : List ℕ) × (behind : List ℕ)
-      × (bytes ≡ gap ++ (key ++ (space ++ (written ++ behind))))
+      (gap : List ℕ) × (space : List ℕ) × (written : List ℕ) × (following : List ℕ)
+      × (bytes ≡ gap ++ (key ++ (space ++ (written ++ following))))
       × IsWhiteSpace gap × IsKey key × IsWhiteSpace space × SpellsValue value written
-      × StandsApart value space behind × SpellsPairs rest behind
+      × StandsApart value space following × SpellsPairs rest following
 
   -- the bytes spell the value: a number, bytes between quotes, or pairs between brackets
   pub SpellsValue : Content → List ℕ → Type 0

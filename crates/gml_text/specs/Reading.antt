@@ -9,7 +9,7 @@ use Rattle.gml_text.specs.declared.token.NumberPart.{NumberPart}
 -- where white space stands: between two pairs, or after a key
 pub data Where : Type 0 where
   between : Where
-  behind : List ℕ → Where
+  following : List ℕ → Where
 
 -- the kind of the last byte, with the key and the bytes of the value so far
 pub data Mode : Type 0 where
@@ -53,7 +53,7 @@ begins between fs ps b =
     if b == closing then closed fs ps
     else if begins_key b then Some (record { mode = in_key (b ∷ []); lists = fs; pairs = ps })
     else None
-begins (behind key) fs ps b =
+begins (following key) fs ps b =
     if b == opening then Some (opened fs ps key)
     else if b == quote then Some (record { mode = in_text key []; lists = fs; pairs = ps })
     else option_map (λ part. record { mode = in_number key (b ∷ []) part; lists = fs; pairs = ps }) (begun b)
@@ -70,7 +70,7 @@ abbrev pub key_step : List ℕ → List Frame → Pairs → ℕ → Option State
 key_step key fs ps b =
     if is_key_byte b then Some (record { mode = in_key (key ++ b ∷ []); lists = fs; pairs = ps })
     else if is_word_byte b then None
-    else in_space (behind key) fs ps b
+    else in_space (following key) fs ps b
 
 -- a byte that ends a number
 abbrev pub number_ended : List ℕ → List ℕ → NumberPart → List Frame → Pairs → ℕ → Option State
@@ -109,9 +109,9 @@ whole (f ∷ fs) ps = None
 -- the pairs of a document that may end here
 abbrev pub finished : Mode → List Frame → Pairs → Option Pairs
 finished (in_gap between) fs ps = whole fs ps
-finished (in_gap (behind key)) fs ps = None
+finished (in_gap (following key)) fs ps = None
 finished (in_comment between) fs ps = whole fs ps
-finished (in_comment (behind key)) fs ps = None
+finished (in_comment (following key)) fs ps = None
 finished (in_key key) fs ps = None
 finished (in_number key digits part) fs ps =
     if is_complete part then whole fs (ps then pair key (number digits) no_pairs) else None

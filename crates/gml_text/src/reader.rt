@@ -46,7 +46,7 @@ fn copied(alloc: Global, bytes: &[u8]) -> Result<Vec<u8>, GmlFault>
 
 impl Reader {
     ghost use Rattle.gml_text.specs.Bytes.{closing, opening, quote};
-    ghost use Rattle.gml_text.specs.Reading.{behind, start};
+    ghost use Rattle.gml_text.specs.Reading.{following, start};
     ghost use Rattle.gml_text.specs.Reader.{frames, state_of};
     ghost use Rattle.gml_text.specs.Standing.{gap_state, Goes, IsAnswer, IsNoGap, Stands};
     ghost use Rattle.gml_text.specs.Tree.{◌then◌, no_pairs, pair};
@@ -104,7 +104,7 @@ impl Reader {
     fn value(&mut self, key: Vec<u8>, bytes: &[u8], at: usize) -> Result<usize, GmlFault>
         requires within { at ≤ length bytes.now }
         requires no_gap { at < length bytes.now → IsNoGap (slice_index bytes.now at) }
-        requires stands { Stands bytes.now at (gap_state (behind key.items) (frames self.old.lists.items) (pairs self.old.pairs.items)) }
+        requires stands { Stands bytes.now at (gap_state (following key.items) (frames self.old.lists.items) (pairs self.old.pairs.items)) }
         ensures onward { IfOk result (λ next. at < next) }
         ensures goes { Goes bytes.now result (state_of self.new) }
     {
@@ -122,7 +122,7 @@ impl Reader {
     fn text(&mut self, key: Vec<u8>, bytes: &[u8], at: usize) -> Result<usize, GmlFault>
         requires within { at < length bytes.now }
         requires opens { slice_index bytes.now at ≡ quote }
-        requires stands { Stands bytes.now at (gap_state (behind key.items) (frames self.old.lists.items) (pairs self.old.pairs.items)) }
+        requires stands { Stands bytes.now at (gap_state (following key.items) (frames self.old.lists.items) (pairs self.old.pairs.items)) }
         ensures onward { IfOk result (λ next. at < next) }
         ensures goes { Goes bytes.now result (state_of self.new) }
     {
@@ -142,7 +142,7 @@ impl Reader {
         requires no_gap { IsNoGap (slice_index bytes.now at) }
         requires no_bracket { slice_index bytes.now at ≢ opening }
         requires no_quote { slice_index bytes.now at ≢ quote }
-        requires stands { Stands bytes.now at (gap_state (behind key.items) (frames self.old.lists.items) (pairs self.old.pairs.items)) }
+        requires stands { Stands bytes.now at (gap_state (following key.items) (frames self.old.lists.items) (pairs self.old.pairs.items)) }
         ensures onward { IfOk result (λ next. at < next) }
         ensures goes { Goes bytes.now result (state_of self.new) }
     {
@@ -162,7 +162,7 @@ impl Reader {
     fn open_list(&mut self, key: Vec<u8>, bytes: &[u8], at: usize) -> Result<usize, GmlFault>
         requires within { at < length bytes.now }
         requires opens { slice_index bytes.now at ≡ opening }
-        requires stands { Stands bytes.now at (gap_state (behind key.items) (frames self.old.lists.items) (pairs self.old.pairs.items)) }
+        requires stands { Stands bytes.now at (gap_state (following key.items) (frames self.old.lists.items) (pairs self.old.pairs.items)) }
         ensures onward { IfOk result (λ next. at < next) }
         ensures goes { Goes bytes.now result (state_of self.new) }
     {

@@ -18,7 +18,7 @@ use Rattle.sweep_lines.specs.Kept.{is_within, is_near}
 use Rattle.sweep_lines.proofs.Members.{among_of_any, among_of_contains, any_of_among, contains_of_among}
 use Rattle.sweep_lines.proofs.Sides.{bar_of_side, blocks_of_meets}
 use Rattle.sweep_lines.proofs.KeptAt.{held_across}
-use Rattle.sweep_lines.proofs.KeptLines.{near_tells}
+use Rattle.sweep_lines.proofs.KeptLines.{near_passes}
 use Rattle.graph_repair.specs.Hull.{IsAloneWithin}
 
 -- both corners of the solid lie in the rectangle
@@ -33,7 +33,7 @@ across_hull hull Horizontal p w = (w.top, w.bottom)
 module _ (hull : Rect) (l : Line) where
   near_at : (z : ℤ) → z ≡ l.at → (first_side l.way hull ≤ℤ z) × (z ≤ℤ last_side l.way hull) → is_near hull l ≡ true
   near_at z e h =
-      near_tells hull l.way l
+      near_passes hull l.way l
       (record { way_is = refl; from = subst (λ z. first_side l.way hull ≤ℤ z) e h.0; to = subst (λ z. z ≤ℤ last_side l.way hull) e h.1 })
 
   near_of_side : (s : Solid) → IsCovered hull s → ((bar_of l.way s.rect).begin ≡ l.at) ⊎ ((bar_of l.way s.rect).end ≡ l.at) → is_near hull l ≡ true
@@ -44,7 +44,7 @@ module _ (hull : Rect) (l : Line) where
   near_of_crossed s w begun not_ended =
       let first : first_side l.way hull ≤ℤ (bar_of l.way s.rect).begin = (across_hull hull l.way (near_corner s.rect) w.0).0 in
       let last : (bar_of l.way s.rect).end ≤ℤ last_side l.way hull = (across_hull hull l.way (far_corner s.rect) w.1).1 in
-      near_tells hull l.way l (record { way_is = refl; from = omega (arith, ints); to = omega (arith, ints) })
+      near_passes hull l.way l (record { way_is = refl; from = omega (arith, ints); to = omega (arith, ints) })
 
   module _ (a b : Floor) (differ : IsAloneWithin hull a b) (far : is_near hull l ≡ false) where
     not_near : is_near hull l ≡ true → ⊥

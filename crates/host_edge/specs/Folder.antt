@@ -6,11 +6,11 @@ use Rattle.std.specs.declared.alloc.Global.{Global}
 use Rattle.host_edge.specs.Note.{Note}
 
 -- the files that a folder exposes, each as its name and its bytes
-abbrev pub ToldFiles : Type 0
-ToldFiles = List (List ℕ × List ℕ)
+abbrev pub ExposedFiles : Type 0
+ExposedFiles = List (List ℕ × List ℕ)
 
 -- the bytes of the first file with this name
-abbrev pub file_named : ToldFiles → List ℕ → Option (List ℕ)
+abbrev pub file_named : ExposedFiles → List ℕ → Option (List ℕ)
 file_named files name = option_map (λ file. file.1) (find (λ file. bytes_eq file.0 name) files)
 
 -- one note was added, of a read of this name under this limit

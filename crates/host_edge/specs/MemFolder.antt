@@ -2,18 +2,18 @@
 use Rattle.std.specs.Prelude.{ℕ, ◌+◌, min, ◌||◌, if◌then◌else◌, List, [], length, is_none, unwrap_or, string_bytes}
 use Rattle.host_edge.specs.declared.mem_folder.NamedFile.{NamedFile}
 use Rattle.host_edge.specs.Count.{is_listed}
-use Rattle.host_edge.specs.Folder.{ToldFiles, file_named}
+use Rattle.host_edge.specs.Folder.{ExposedFiles, file_named}
 use Rattle.host_edge.specs.Note.{Note}
 
 -- a folder in memory: its files, the numbers of the calls that fail, and the notes so far
 pub record MemFolderState : Type 0 where
-  pub files : ToldFiles
+  pub files : ExposedFiles
   pub fails : List ℕ
   pub notes : List Note
 
 -- a file as a folder exposes it
-abbrev pub told_file : NamedFile → List ℕ × List ℕ
-told_file file = (string_bytes file.name, file.bytes.items)
+abbrev pub exposed_file : NamedFile → List ℕ × List ℕ
+exposed_file file = (string_bytes file.name, file.bytes.items)
 
 -- the note of the next read: it fails if the call is in the list or the file does not exist, and it takes one byte more than the limit if the file has more
 abbrev pub next_note : MemFolderState → List ℕ → ℕ → Note

@@ -1,7 +1,7 @@
 //! The contract of files that are read by name.
 
 ghost use Rattle.std.specs.Prelude.{◌≡◌, ◌<◌, List, length, Option, Some, IfOk, IfSome, IsErrOf, IsSomeAnd};
-ghost use Rattle.host_edge.specs.Folder.{ToldFiles, file_named, RecordsRead};
+ghost use Rattle.host_edge.specs.Folder.{ExposedFiles, file_named, RecordsRead};
 ghost use Rattle.host_edge.specs.Note.{Note};
 ghost use Rattle.host_edge.specs.declared.folder.FolderFault.TheVariants.{Memory};
 
@@ -36,7 +36,7 @@ impl From<AllocError> for FolderFault {
 /// of each read. The number of its faults is the number of notes that failed, their `fault_count`.
 pub trait Folder {
     /// The files, if the folder exposes their bytes. Of two files with one name the first counts.
-    ghost files: { Self → Option ToldFiles };
+    ghost files: { Self → Option ExposedFiles };
 
     /// The notes of the reads so far, in order.
     ghost notes: { Self → List Note };
@@ -51,8 +51,8 @@ pub trait Folder {
         ensures files_kept { files self.new ≡ files self.old }
 
         // If the folder exposes its bytes, the result depends on the file with this name.
-        ensures content { IfSome (files self.old) (λ told.
-            IfOk result (λ bytes. file_named told name.now ≡ Some bytes.items)) }
-        ensures longer { IfSome (files self.old) (λ told. IsErrOf result (FolderFault.TooLong limit)
-            → IsSomeAnd (file_named told name.now) (λ bytes. limit < length bytes)) };
+        ensures content { IfSome (files self.old) (λ named.
+            IfOk result (λ bytes. file_named named name.now ≡ Some bytes.items)) }
+        ensures longer { IfSome (files self.old) (λ named. IsErrOf result (FolderFault.TooLong limit)
+            → IsSomeAnd (file_named named name.now) (λ bytes. limit < length bytes)) };
 }

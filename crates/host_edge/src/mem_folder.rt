@@ -2,7 +2,7 @@
 
 ghost use Rattle.std.specs.Prelude.{◌≡◌, ◌≢◌, ◌<◌, [], ◌∷◌, ◌++◌, map, length, Some, None, IfOk, IsErrOf, IsSomeAnd, Err, option_map};
 ghost use Rattle.host_edge.specs.Folder.{file_named, RecordsRead};
-ghost use Rattle.host_edge.specs.MemFolder.{told_file, next_note};
+ghost use Rattle.host_edge.specs.MemFolder.{exposed_file, next_note};
 
 use crate::folder::{Folder, FolderFault};
 use crate::note::{StoredNote, reserve_note};
@@ -30,12 +30,12 @@ pub struct MemFolder {
 
 impl Model for MemFolder {
     ghost use Rattle.std.specs.Prelude.{map};
-    ghost use Rattle.host_edge.specs.MemFolder.{MemFolderState, told_file};
+    ghost use Rattle.host_edge.specs.MemFolder.{MemFolderState, exposed_file};
 
     ghost Value = { MemFolderState };
 
     ghost view = { λ f. record {
-      files = map told_file f.files.items;
+      files = map exposed_file f.files.items;
       fails = f.fails.items;
       notes = f.notes.items;
     } };
@@ -45,7 +45,7 @@ impl MemFolder {
     /// A folder with these files, in which the calls with the numbers in `fails` fail. Takes no
     /// memory.
     pub fn new(alloc: Global, files: Vec<NamedFile>, fails: Vec<u64>) -> MemFolder
-        ensures files { result.files ≡ map told_file files.items }
+        ensures files { result.files ≡ map exposed_file files.items }
         ensures fails { result.fails ≡ fails.items }
         ensures notes { result.notes ≡ [] }
     {
@@ -60,7 +60,7 @@ impl MemFolder {
 
 /// The first file with this name.
 fn first_named<'a>(files: &'a [NamedFile], name: &str) -> Option<&'a NamedFile>
-    ensures { file_named (map told_file files.now) name.now
+    ensures { file_named (map exposed_file files.now) name.now
         ≡ option_map (λ file. file.now.bytes.items) result }
 {
     files.iter().find(|file| file.name.as_str() == name)

@@ -1,4 +1,4 @@
--- A crossing of a line stands on it, and coordinates tell which of two stops lies further.
+-- A crossing of a line stands on it, and coordinates show which of two stops lies further.
 use Rattle.std.proofs.Common.{◌≡◌, ◌⊎◌, ℕ, ◌<◌, ℤ, pos, negsuc, ◌<ℤ◌, ◌≤ℤ◌, Option, Some, inl, inr, refl, sym, ap, subst, ◌∙◌, arith}
 use Rattle.std.specs.FinMap.{get}
 use Rattle.std.specs.Int.{int_gap}

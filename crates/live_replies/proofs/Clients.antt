@@ -15,7 +15,7 @@ use Rattle.scene_model.proofs.Editing.Entries.{Pairs, each_weaker, found_cases, 
 use Rattle.nudge_phases.proofs.SceneLines.{good_raws, line_edges}
 use Rattle.form_route.specs.Routes.{AreLines}
 use Rattle.form_route.proofs.Lines.{lines_are_routes}
-use Rattle.live_replies.specs.Changes.{Change, gone, drawn, are_same_corners, changes, drawn_of, gone_of, has_corners, is_told, line_of}
+use Rattle.live_replies.specs.Changes.{Change, gone, drawn, are_same_corners, changes, drawn_of, gone_of, has_corners, is_reported, line_of}
 use Rattle.live_replies.specs.Client.{ChangesKeepClients, applied, with_change, without}
 
 -- how a change, and how many, change what is known of one connector
@@ -111,12 +111,12 @@ not_drawn edge before [] known none = refl
 not_drawn edge before (a ∷ after) known none =
     let apart = none_cases (a.edge == edge) a (line_of after edge) none in
     let later = not_drawn edge before after known apart.1 in
-    elim (cases_Bool (is_told before a)) as (λ _. known_after_all edge known (drawn_of before a ++ flat_map (drawn_of before) after) ≡ known) [
-      | inl told ↦ rw told later
+    elim (cases_Bool (is_reported before a)) as (λ _. known_after_all edge known (drawn_of before a ++ flat_map (drawn_of before) after) ≡ known) [
+      | inl reported ↦ rw reported later
       | inr new ↦ rw new (ap (λ k. known_after_all edge k (flat_map (drawn_of before) after)) (drawn_elsewhere edge a known apart.0) ∙ later)
     ]
 
--- a line that was told stands among those before
+-- a line that was reported stands among those before
 left_true : (s t : Bool) → (s && t) ≡ true → s ≡ true
 left_true true t h = refl
 left_true false t h = absurd (false≢true h)
@@ -143,13 +143,13 @@ same_corners (p ∷ ps) (q ∷ qs) h =
 same_line : (a b : WrittenRoute) → a.edge ≡ b.edge → a.points ≡ b.points → a ≡ b
 same_line a b edge points = ap₂ (λ n ps. let l : WrittenRoute = record { edge = n; points = ps } in l) edge points
 
-told_found : (before : List WrittenRoute) (a : WrittenRoute) (known : Option WrittenRoute) → line_of before a.edge ≡ known → has_corners known a.points ≡ true → known ≡ Some a
-told_found before a None is h = absurd (false≢true h)
-told_found before a (Some b) is h =
+reported_found : (before : List WrittenRoute) (a : WrittenRoute) (known : Option WrittenRoute) → line_of before a.edge ≡ known → has_corners known a.points ≡ true → known ≡ Some a
+reported_found before a None is h = absurd (false≢true h)
+reported_found before a (Some b) is h =
     ap Some (same_line b a (eqb-true b.edge a.edge (found_passes (λ (l : WrittenRoute). l.edge == a.edge) before b is)) (same_corners b.points a.points h))
 
-told_is : (before : List WrittenRoute) (a : WrittenRoute) → is_told before a ≡ true → line_of before a.edge ≡ Some a
-told_is before a told = told_found before a (line_of before a.edge) refl told
+reported_is : (before : List WrittenRoute) (a : WrittenRoute) → is_reported before a ≡ true → line_of before a.edge ≡ Some a
+reported_is before a reported = reported_found before a (line_of before a.edge) refl reported
 
 abbrev Rises : WrittenRoute → WrittenRoute → Type 0
 Rises a b = a.edge < b.edge
@@ -165,14 +165,14 @@ line_drawn edge before [] known l rise has is = absurd (none-some l has)
 line_drawn edge before (a ∷ after) known l rise has is = elim (found_cases (a.edge == edge) a l (line_of after edge) has)
     as (λ _. known_after_all edge known (drawn_of before a ++ flat_map (drawn_of before) after) ≡ Some l) [
       | inl here ↦ (let same = eqb-true a.edge edge here.0 in let none = none_later edge a after same rise.0 in
-          elim (cases_Bool (is_told before a)) as (λ _. known_after_all edge known (drawn_of before a ++ flat_map (drawn_of before) after) ≡ Some l) [
-            | inl told ↦ rw told (not_drawn edge before after known none ∙ is ∙ ap (line_of before) (sym same) ∙ told_is before a told ∙ ap Some here.1)
+          elim (cases_Bool (is_reported before a)) as (λ _. known_after_all edge known (drawn_of before a ++ flat_map (drawn_of before) after) ≡ Some l) [
+            | inl reported ↦ rw reported (not_drawn edge before after known none ∙ is ∙ ap (line_of before) (sym same) ∙ reported_is before a reported ∙ ap Some here.1)
             | inr new ↦ rw new (ap (λ t. known_after_all edge (cond t (Some a) known) (flat_map (drawn_of before) after)) here.0
                 ∙ not_drawn edge before after (Some a) none ∙ ap Some here.1)
           ])
       | inr there ↦ (let later = line_drawn edge before after known l rise.1 there.1 is in
-          elim (cases_Bool (is_told before a)) as (λ _. known_after_all edge known (drawn_of before a ++ flat_map (drawn_of before) after) ≡ Some l) [
-            | inl told ↦ rw told later
+          elim (cases_Bool (is_reported before a)) as (λ _. known_after_all edge known (drawn_of before a ++ flat_map (drawn_of before) after) ≡ Some l) [
+            | inl reported ↦ rw reported later
             | inr new ↦ rw new (ap (λ k. known_after_all edge k (flat_map (drawn_of before) after)) (drawn_elsewhere edge a known there.0) ∙ later)
           ])
     ]

@@ -5,7 +5,7 @@ use Rattle.scene_model.specs.declared.edit.Command.{Command}
 use Rattle.scene_model.specs.declared.edit.Command.TheVariants.{Bad}
 use Rattle.scene_model.specs.declared.fault.SessionFault.{SessionFault}
 use Rattle.scene_model.specs.Scene.{Scene}
-use Rattle.scene_model.specs.World.{World, next_world, given_up, opened, or_given_up, IsDirectedCommand, EditsKeep}
+use Rattle.scene_model.specs.World.{World, next_world, rolled_back, opened, or_rolled_back, IsDirectedCommand, EditsKeep}
 use Rattle.scene_model.specs.Valid.{IsValid}
 use Rattle.scene_model.proofs.Editing.Worlds.{after_keeps}
 use Rattle.gml_scene.specs.Origins.{AreEdgesOf, AreNodesOf}
@@ -32,14 +32,14 @@ after_from tree c w directed h = record {
 }
 
 -- a world that rolls back its transaction
-pub given_up_from : (tree : Pairs) (w v : World) → v ≡ given_up w → IsFromDiagram tree w → IsFromDiagram tree v
-given_up_from tree w v is h = subst (IsFromDiagram tree) (sym is) (after_from tree Bad w tt h)
+pub rolled_back_from : (tree : Pairs) (w v : World) → v ≡ rolled_back w → IsFromDiagram tree w → IsFromDiagram tree v
+rolled_back_from tree w v is h = subst (IsFromDiagram tree) (sym is) (after_from tree Bad w tt h)
 
 -- a call
 pub called_from : (tree : Pairs) (c : Command) (answer : Result Unit SessionFault) (old new : State) → IsDirectedCommand c → IsCall c answer old new → IsFromDiagram tree old.world → IsFromDiagram tree new.world
 called_from tree c (Ok done) old new directed call h =
-    subst (IsFromDiagram tree) (ap (or_given_up old.world) call.ok) (after_from tree c old.world directed h)
-called_from tree c (Err fault) old new directed call h = given_up_from tree old.world new.world call.err h
+    subst (IsFromDiagram tree) (ap (or_rolled_back old.world) call.ok) (after_from tree c old.world directed h)
+called_from tree c (Err fault) old new directed call h = rolled_back_from tree old.world new.world call.err h
 
 -- a world that was opened
 pub opened_from : (tree : Pairs) (s : Scene) (w : World) → w ≡ opened s → scene_of tree ≡ Ok s → IsPrintable tree → IsValid s → IsFromDiagram tree w

@@ -1,4 +1,4 @@
--- A commit tells what the preview before it told.
+-- A commit reports what the preview before it reported.
 use Rattle.std.proofs.Common.{◌≡◌, List, ◌++◌, Ok, inl, inr, sym, ap, ◌∙◌, subst}
 use Rattle.walk_model.specs.declared.route.Answer.{Answer}
 use Rattle.walk_model.specs.declared.route.WrittenRoute.{WrittenRoute}
@@ -23,15 +23,15 @@ module _ (one_answers : HaveOneList) (one_nudged : HaveOneNudged) where
       let moved = subst (λ (found : List Answer). AreLines s found those) (sym (one_answers s answers others a.right b.right)) b in
       one_nudged s answers a.x_solutions a.y_solutions moved.x_solutions moved.y_solutions these those valid a.right a.nudged moved.nudged
 
-  pub commits_tell : PreviewsAreCommits
-  commits_tell old middle new previewed said valid p call (inr untold) = inr untold.1
-  commits_tell old middle new previewed said valid p call (inl told) =
+  pub commits_report : PreviewsAreCommits
+  commits_report old middle new previewed said valid p call (inr unreported) = inr unreported.1
+  commits_report old middle new previewed said valid p call (inl reported) =
       let after = p.would_give.after in
       let done = subst (λ (l : LiveState). IsCall Commit (Ok tt) l.session new.session) p.stays call in
       let world : after.world ≡ new.session.world = led_to (sym p.would_give.commit.ok ∙ done.ok) in
       let are = subst (λ (w : World). AreLines w.present after.book p.lines) world p.would_give.are_lines in
-      let lines : p.lines ≡ new.told = same_lines new.session.world.present after.book new.session.book p.lines new.told valid are told.0 in
-      inl (told.1
-      ∙ ap (λ (l : LiveState). changes_text (changes l.told new.told) ++ ok_line) p.stays
-      ∙ ap (λ (ls : List WrittenRoute). changes_text (changes old.told ls) ++ ok_line) (sym lines)
+      let lines : p.lines ≡ new.reported = same_lines new.session.world.present after.book new.session.book p.lines new.reported valid are reported.0 in
+      inl (reported.1
+      ∙ ap (λ (l : LiveState). changes_text (changes l.reported new.reported) ++ ok_line) p.stays
+      ∙ ap (λ (ls : List WrittenRoute). changes_text (changes old.reported ls) ++ ok_line) (sym lines)
       ∙ sym p.is_said)

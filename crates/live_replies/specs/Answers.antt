@@ -10,7 +10,7 @@ use Rattle.scene_model.specs.declared.edit.Command.{Command}
 use Rattle.scene_model.specs.declared.edit.Command.TheVariants.{Begin, Edit, Commit, Abort, Undo, Redo, Bad}
 use Rattle.scene_model.specs.declared.fault.SessionFault.{SessionFault}
 use Rattle.scene_model.specs.declared.fault.SessionFault.TheVariants.{Memory, NoTransaction}
-use Rattle.scene_model.specs.World.{given_up}
+use Rattle.scene_model.specs.World.{rolled_back}
 use Rattle.report_text.specs.declared.refusal.Refusal.TheVariants as refusals
 use Rattle.session_laws.specs.State.{State}
 use Rattle.session_laws.specs.Calls.{IsCall}
@@ -21,55 +21,55 @@ use Rattle.live_replies.specs.declared.request.Request.TheVariants.{Nothing, Do,
 use Rattle.live_replies.specs.Changes.{changes, changes_text}
 use Rattle.live_replies.specs.Live.{LiveState}
 use Rattle.live_replies.specs.Requests.{request_of}
-use Rattle.live_replies.specs.Texts.{drawn_texts, gml_text, next_text, no_memory_line, ok_line, refused_line, too_long_line, untold_line}
+use Rattle.live_replies.specs.Texts.{drawn_texts, gml_text, next_text, no_memory_line, ok_line, refused_line, too_long_line, unreported_line}
 
 -- these are the lines of the session's present scene
 abbrev pub AreSessionLines : State → List WrittenRoute → Type 0
 AreSessionLines s lines = AreLines s.world.present s.book lines
 
--- the changes from the lines that were told before to the lines of the session, which are told now; or no memory is left to tell them
-abbrev pub TellsChanges : List WrittenRoute → LiveState → List ℕ → Type 0
-TellsChanges before new said =
-    (AreSessionLines new.session new.told × (said ≡ changes_text (changes before new.told) ++ ok_line))
-    ⊎ ((new.told ≡ before) × (said ≡ untold_line))
+-- the changes from the lines that were reported before to the lines of the session, which are reported now; or no memory is left to report them
+abbrev pub ReportsChanges : List WrittenRoute → LiveState → List ℕ → Type 0
+ReportsChanges before new said =
+    (AreSessionLines new.session new.reported × (said ≡ changes_text (changes before new.reported) ++ ok_line))
+    ⊎ ((new.reported ≡ before) × (said ≡ unreported_line))
 
--- nothing is to be told
-abbrev pub TellsNothing : List WrittenRoute → LiveState → List ℕ → Type 0
-TellsNothing before new said = (new.told ≡ before) × (said ≡ ok_line)
+-- nothing is to be reported
+abbrev pub ReportsNothing : List WrittenRoute → LiveState → List ℕ → Type 0
+ReportsNothing before new said = (new.reported ≡ before) × (said ≡ ok_line)
 
--- the reply to a command that is done: a commit, an undo and a redo tell what they changed
-abbrev pub TellsDone : Command → List WrittenRoute → LiveState → List ℕ → Type 0
-TellsDone Begin before new said = TellsNothing before new said
-TellsDone (Edit e) before new said = TellsNothing before new said
-TellsDone Commit before new said = TellsChanges before new said
-TellsDone Abort before new said = TellsNothing before new said
-TellsDone Undo before new said = TellsChanges before new said
-TellsDone Redo before new said = TellsChanges before new said
-TellsDone Bad before new said = ⊥
+-- the reply to a command that is done: a commit, an undo and a redo report what they changed
+abbrev pub ReportsDone : Command → List WrittenRoute → LiveState → List ℕ → Type 0
+ReportsDone Begin before new said = ReportsNothing before new said
+ReportsDone (Edit e) before new said = ReportsNothing before new said
+ReportsDone Commit before new said = ReportsChanges before new said
+ReportsDone Abort before new said = ReportsNothing before new said
+ReportsDone Undo before new said = ReportsChanges before new said
+ReportsDone Redo before new said = ReportsChanges before new said
+ReportsDone Bad before new said = ⊥
 
--- the reply to a command whose call has this result; a refusal whose text finds no memory is told as no memory
-abbrev pub TellsResult : Command → Result Unit SessionFault → List WrittenRoute → LiveState → List ℕ → Type 0
-TellsResult c (Ok done) before new said = TellsDone c before new said
-TellsResult c (Err Memory) before new said = (new.told ≡ before) × (said ≡ no_memory_line)
-TellsResult c (Err fault) before new said = (new.told ≡ before) × ((said ≡ refused_line (refusals.Command fault)) ⊎ (said ≡ no_memory_line))
+-- the reply to a command whose call has this result; a refusal whose text finds no memory is reported as no memory
+abbrev pub ReportsResult : Command → Result Unit SessionFault → List WrittenRoute → LiveState → List ℕ → Type 0
+ReportsResult c (Ok done) before new said = ReportsDone c before new said
+ReportsResult c (Err Memory) before new said = (new.reported ≡ before) × (said ≡ no_memory_line)
+ReportsResult c (Err fault) before new said = (new.reported ≡ before) × ((said ≡ refused_line (refusals.Command fault)) ⊎ (said ≡ no_memory_line))
 
--- the call of a command, and what is told of its result
+-- the call of a command, and what is reported of its result
 pub record AnswersCall (c : Command) (old new : LiveState) (said : List ℕ) : Type 0 where
   pub result : Result Unit SessionFault
   pub call : IsCall c result old.session new.session
-  pub tells : TellsResult c result old.told new said
+  pub reports : ReportsResult c result old.reported new said
   pub diagram : new.diagram ≡ old.diagram
 
 -- no transaction is open, and all else is as before
-pub record GivesUp (old new : LiveState) : Type 0 where
-  pub world : new.session.world ≡ given_up old.session.world
+pub record RollsBack (old new : LiveState) : Type 0 where
+  pub world : new.session.world ≡ rolled_back old.session.world
   pub book : new.session.book ≡ old.session.book
-  pub told : new.told ≡ old.told
+  pub reported : new.reported ≡ old.reported
   pub diagram : new.diagram ≡ old.diagram
 
 -- the reply to a command
 abbrev pub AnswersCommand : Command → LiveState → LiveState → List ℕ → Type 0
-AnswersCommand Bad old new said = GivesUp old new × ((said ≡ refused_line refusals.Syntax) ⊎ (said ≡ no_memory_line))
+AnswersCommand Bad old new said = RollsBack old new × ((said ≡ refused_line refusals.Syntax) ⊎ (said ≡ no_memory_line))
 AnswersCommand c old new said = AnswersCall c old new said
 
 -- no memory is left, and nothing changes
@@ -82,22 +82,22 @@ pub record WouldGive (old : State) (lines : List WrittenRoute) : Type 0 where
   pub commit : IsCall Commit (Ok tt) old after
   pub are_lines : AreSessionLines after lines
 
--- the changes that a commit would tell; the transaction stays open
-pub record TellsPreview (old new : LiveState) (said : List ℕ) : Type 0 where
+-- the changes that a commit would report; the transaction stays open
+pub record ReportsPreview (old new : LiveState) (said : List ℕ) : Type 0 where
   pub lines : List WrittenRoute
   pub would_give : WouldGive old.session lines
-  pub is_said : said ≡ changes_text (changes old.told lines) ++ ok_line
+  pub is_said : said ≡ changes_text (changes old.reported lines) ++ ok_line
   pub stays : new ≡ old
 
 -- the reply to `preview`, by the working scene: it is refused where no transaction is open
 abbrev pub AnswersPreview : Option Scene → LiveState → LiveState → List ℕ → Type 0
 AnswersPreview None old new said = (new ≡ old) × (said ≡ refused_line (refusals.Command NoTransaction))
-AnswersPreview (Some working) old new said = TellsPreview old new said
+AnswersPreview (Some working) old new said = ReportsPreview old new said
 
--- all lines of the session, which are told now
-abbrev pub TellsLines : LiveState → LiveState → List ℕ → Type 0
-TellsLines old new said =
-    AreSessionLines old.session new.told × (new ≡ record old { told = new.told }) × (said ≡ drawn_texts new.told ++ ok_line)
+-- all lines of the session, which are reported now
+abbrev pub ReportsLines : LiveState → LiveState → List ℕ → Type 0
+ReportsLines old new said =
+    AreSessionLines old.session new.reported × (new ≡ record old { reported = new.reported }) × (said ≡ drawn_texts new.reported ++ ok_line)
 
 -- the diagram that was opened, with the present scene and its lines put in
 pub record IsDiagramOf (l : LiveState) (text : List ℕ) : Type 0 where
@@ -106,25 +106,25 @@ pub record IsDiagramOf (l : LiveState) (text : List ℕ) : Type 0 where
   pub diagram : IsDiagram (tree l.diagram) was l.session.world.present l.session.book text
 
 -- the diagram
-abbrev pub TellsDiagram : LiveState → LiveState → List ℕ → Type 0
-TellsDiagram old new said = (new ≡ old) × ((text : List ℕ) × IsDiagramOf old text × (said ≡ gml_text text ++ ok_line))
+abbrev pub ReportsDiagram : LiveState → LiveState → List ℕ → Type 0
+ReportsDiagram old new said = (new ≡ old) × ((text : List ℕ) × IsDiagramOf old text × (said ≡ gml_text text ++ ok_line))
 
 -- the number of the next connector that is added
-abbrev pub TellsNext : LiveState → LiveState → List ℕ → Type 0
-TellsNext old new said = (new ≡ old) × (said ≡ next_text old.session.world.present.next_edge ++ ok_line)
+abbrev pub ReportsNext : LiveState → LiveState → List ℕ → Type 0
+ReportsNext old new said = (new ≡ old) × (said ≡ next_text old.session.world.present.next_edge ++ ok_line)
 
 -- the reply to a request
 abbrev pub Answers : Request → LiveState → LiveState → List ℕ → Type 0
 Answers Nothing old new said = (new ≡ old) × (said ≡ ok_line)
 Answers (Do command) old new said = AnswersCommand command old new said
 Answers Preview old new said = AnswersPreview old.session.world.working old new said ⊎ AnswersNoMemory old new said
-Answers Lines old new said = TellsLines old new said ⊎ AnswersNoMemory old new said
-Answers Gml old new said = TellsDiagram old new said ⊎ AnswersNoMemory old new said
-Answers Next old new said = TellsNext old new said ⊎ AnswersNoMemory old new said
+Answers Lines old new said = ReportsLines old new said ⊎ AnswersNoMemory old new said
+Answers Gml old new said = ReportsDiagram old new said ⊎ AnswersNoMemory old new said
+Answers Next old new said = ReportsNext old new said ⊎ AnswersNoMemory old new said
 Answers Quit old new said = (new ≡ old) × (said ≡ ok_line)
 
 -- the reply to a line that was read so: one that is too long, and one that finds no memory, rolls back the transaction
 abbrev pub AnswersRead : LineRead → List ℕ → LiveState → LiveState → List ℕ → Type 0
-AnswersRead Whole line old new said = Answers (request_of line) old new said ⊎ (GivesUp old new × (said ≡ no_memory_line))
-AnswersRead TooLong line old new said = GivesUp old new × (said ≡ too_long_line)
+AnswersRead Whole line old new said = Answers (request_of line) old new said ⊎ (RollsBack old new × (said ≡ no_memory_line))
+AnswersRead TooLong line old new said = RollsBack old new × (said ≡ too_long_line)
 AnswersRead End line old new said = ⊥

@@ -28,16 +28,16 @@ has_corners None corners = false
 has_corners (Some l) corners = are_same_corners l.points corners
 
 -- the connector's line stands among these
-abbrev pub is_told : List WrittenRoute → WrittenRoute → Bool
-is_told lines l = has_corners (line_of lines l.edge) l.points
+abbrev pub is_reported : List WrittenRoute → WrittenRoute → Bool
+is_reported lines l = has_corners (line_of lines l.edge) l.points
 
--- a line that was told is gone where its connector has none among those after
+-- a line that was reported is gone where its connector has none among those after
 abbrev pub gone_of : List WrittenRoute → WrittenRoute → List Change
 gone_of after l = if is_some (line_of after l.edge) then [] else gone l.edge ∷ []
 
 -- a line is drawn where it does not stand among those before
 abbrev pub drawn_of : List WrittenRoute → WrittenRoute → List Change
-drawn_of before l = if is_told before l then [] else drawn l ∷ []
+drawn_of before l = if is_reported before l then [] else drawn l ∷ []
 
 -- the changes from the lines before to those after
 abbrev pub changes : List WrittenRoute → List WrittenRoute → List Change

@@ -1,4 +1,4 @@
--- What a client knows that applies the changes it is told.
+-- What a client knows that applies the changes that are reported to it.
 use Rattle.std.specs.Prelude.{◌≡◌, ℕ, ◌==◌, not, List, [], ◌∷◌, filter}
 use Rattle.walk_model.specs.declared.route.WrittenRoute.{WrittenRoute}
 use Rattle.scene_model.specs.Valid.{IsValid}

@@ -10,11 +10,11 @@ use Rattle.scene_model.specs.World.{World, Everywhere}
 use Rattle.gml_scene.specs.Origins.{AreEdgesOf, AreNodesOf}
 use Rattle.session_laws.specs.State.{State}
 
--- the diagram that was opened, the session, and the lines that the client was told last
+-- the diagram that was opened, the session, and the lines that were reported to the client last
 pub record LiveState : Type 0 where
   pub diagram : Doc
   pub session : State
-  pub told : List WrittenRoute
+  pub reported : List WrittenRoute
 
 -- the diagram can be printed, and each scene of the world comes from it
 pub record IsFromDiagram (tree : Pairs) (w : World) : Type 0 where

@@ -12,7 +12,7 @@ abbrev pub first_of : List (ℕ × Command) → Request
 first_of [] = Nothing
 first_of (c ∷ commands) = Do c.1
 
--- a line of a script: no words and a comment ask for nothing, and what has no form is bad
+-- a line of a script: no words and a comment ask for nothing, and what is not a valid command is bad
 abbrev pub command_request : List ℕ → Request
 command_request line = first_of (commands line)
 

@@ -12,9 +12,9 @@ use Rattle.report_text.specs.Refusals.{refusal_text}
 abbrev pub ok_line : List ℕ
 ok_line = line (codes "ok")
 
--- the last line where a command is done, and no memory was left to tell what it changed
-abbrev pub untold_line : List ℕ
-untold_line = line (codes "ok untold")
+-- the last line where a command is done, and no memory was left to report what it changed
+abbrev pub unreported_line : List ℕ
+unreported_line = line (codes "ok untold")
 
 -- the last line of a reply to what is refused, for this reason or where no memory is left, and where a line is too long
 abbrev pub refused_line : Refusal → List ℕ

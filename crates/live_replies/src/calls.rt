@@ -1,7 +1,7 @@
 //! What a session is called for: commands, and the lines after a commit of its open transaction.
 ghost use Rattle.std.specs.Prelude.{◌≡◌, ◌≢◌, ◌≤◌, IfErr, IfOk, OnErr, OnOk, Ok, Some};
 ghost use Rattle.scene_model.specs.Answers.{AreAnswers};
-ghost use Rattle.scene_model.specs.World.{IsDirectedCommand, given_up, step};
+ghost use Rattle.scene_model.specs.World.{IsDirectedCommand, rolled_back, step};
 ghost use Rattle.scene_model.specs.declared.edit.Command.TheVariants as commands;
 ghost use Rattle.session_laws.specs.Calls.{IsCall, IsFaultOf};
 ghost use Rattle.form_route.specs.Routes.{AreLines};
@@ -18,7 +18,7 @@ use std::alloc::{AllocError, Global};
 use std::thread::Threads;
 use walk_model::WrittenRoute;
 
-/// Makes the call of a command, which is none for a line that has no form.
+/// Makes the call of a command, and none for a line that is not a valid command.
 fn made<R: Threads + Sync, G: Gate>(
     rt: &R,
     session: &mut Session,
@@ -32,7 +32,7 @@ fn made<R: Threads + Sync, G: Gate>(
     requires form { command.now ≢ commands.Bad }
     ensures ok { OnOk result (step command.now session.old.world ≡ Ok session.new.world) }
     ensures fault { IfErr result (IsFaultOf command.now session.old.world) }
-    ensures err { OnErr result (session.new.world ≡ given_up session.old.world) }
+    ensures err { OnErr result (session.new.world ≡ rolled_back session.old.world) }
 {
     match command {
         Command::Begin => session.begin(),

@@ -1,7 +1,7 @@
 //! The lines that changed.
 ghost use Rattle.std.specs.Prelude.{◌≡◌, ◌++◌, OnOk, is_some, option_copied};
 ghost use Rattle.std.specs.List.{flat_map};
-ghost use Rattle.live_replies.specs.Changes.{are_same_corners, change_text, changes, changes_text, drawn_of, gone_of, is_told, line_of};
+ghost use Rattle.live_replies.specs.Changes.{are_same_corners, change_text, changes, changes_text, drawn_of, gone_of, is_reported, line_of};
 
 use crate::line::{push_drawn, push_gone};
 use plane_geom::Point;
@@ -23,11 +23,11 @@ fn are_same_corners(these: &[Point], those: &[Point]) -> bool
 }
 
 /// Whether the connector's line stands among these.
-fn is_told(lines: &[WrittenRoute], line: &WrittenRoute) -> bool
-    ensures { result ≡ is_told lines.now line.now }
+fn is_reported(lines: &[WrittenRoute], line: &WrittenRoute) -> bool
+    ensures { result ≡ is_reported lines.now line.now }
 {
     match line_of(lines, line.edge) {
-        Some(told) => are_same_corners(told.points.as_slice(), line.points.as_slice()),
+        Some(reported) => are_same_corners(reported.points.as_slice(), line.points.as_slice()),
         None => false,
     }
 }
@@ -70,7 +70,7 @@ fn push_if_drawn(
 ) -> Result<(), AllocError>
     ensures { OnOk result (out.new.items ≡ out.old.items ++ changes_text (drawn_of before.now line.now)) }
 {
-    if is_told(before, line) {
+    if is_reported(before, line) {
         return Ok(());
     }
     push_drawn(alloc, out, line)

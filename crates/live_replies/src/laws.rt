@@ -6,7 +6,7 @@ ghost use Rattle.live_replies.specs.Serves.{DiagramsStay};
 use nudge_phases::one_nudged_scene;
 use scene_model::one_list_of_answers;
 
-/// A client that knows the lines before a reply, and applies the changes that the reply tells, knows the lines of the
+/// A client that knows the lines before a reply, and applies the changes that the reply reports, knows the lines of the
 /// session.
 pub fn changes_keep_clients()
     ensures { ChangesKeepClients }
@@ -17,7 +17,8 @@ pub fn diagrams_stay()
     ensures { DiagramsStay }
 {}
 
-/// A commit that is done right after a preview tells what the preview told, or that no memory was left to tell it.
+/// A commit that is done right after a preview reports what the preview reported, or that no memory was left to report
+/// it.
 pub fn previews_are_commits()
     ensures { PreviewsAreCommits }
 {

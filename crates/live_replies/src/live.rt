@@ -1,13 +1,13 @@
-//! A session beside an editor: its diagram, its scenes, and the lines that the client was told.
+//! A session beside an editor: its diagram, its scenes, and the lines that were reported to the client.
 ghost use Rattle.std.specs.Prelude.{◌≡◌, ◌≢◌, ◌⊎◌, ◌≤◌, ◌++◌, ℕ, List, [], IfErr, IfOk, OnErr, OnOk, Ok, Some};
 ghost use Rattle.gml_text.specs.Printed.{IsPrintable};
 ghost use Rattle.gml_text.specs.View.{tree};
 ghost use Rattle.diagram_read.specs.Scene.{scene_of};
-ghost use Rattle.scene_model.specs.World.{IsDirectedCommand, given_up, opened};
+ghost use Rattle.scene_model.specs.World.{IsDirectedCommand, opened, rolled_back};
 ghost use Rattle.scene_model.specs.declared.edit.Command.TheVariants as commands;
 ghost use Rattle.session_laws.specs.Calls.{IsCall};
 ghost use Rattle.report_text.specs.declared.refusal.Refusal.TheVariants as refusals;
-ghost use Rattle.live_replies.specs.Answers.{Answers, AnswersCommand, AnswersNoMemory, AnswersRead, AreSessionLines, GivesUp, TellsChanges, TellsDiagram, TellsDone, TellsLines, TellsNext, TellsPreview, TellsResult};
+ghost use Rattle.live_replies.specs.Answers.{Answers, AnswersCommand, AnswersNoMemory, AnswersRead, AreSessionLines, ReportsChanges, ReportsDiagram, ReportsDone, ReportsLines, ReportsNext, ReportsPreview, ReportsResult, RollsBack};
 ghost use Rattle.live_replies.specs.Changes.{changes, changes_text};
 ghost use Rattle.live_replies.specs.Live.{LiveState};
 ghost use Rattle.live_replies.specs.Requests.{IsDirectedRequest, is_quit, request_of};
@@ -35,14 +35,14 @@ use walk_model::WrittenRoute;
 
 /// A session beside an editor.
 ///
-/// Contracts see it as the diagram that it was opened with, its session, and the lines that the client was told last. Each
-/// scene of the session comes from the diagram.
+/// Its model is the diagram that it was opened with, its session, and the lines that were reported to the client last.
+/// Each scene of the session comes from the diagram.
 #[derive(Drop)]
 pub struct Live {
     alloc: Global,
     doc: Doc,
     session: Session,
-    told: Vec<WrittenRoute>,
+    reported: Vec<WrittenRoute>,
 }
 
 impl Model for Live {
@@ -58,14 +58,14 @@ impl Model for Live {
     ghost view = { λ l. record {
       diagram = l.doc;
       session = l.session;
-      told = l.told.items;
+      reported = l.reported.items;
     } };
 
     ghost invariant = { λ l. IsFromDiagram (tree l.doc) l.session.world };
 }
 
 impl Live {
-    /// A session on the scene of a document. The client was told no line yet.
+    /// A session on the scene of a document. No line was reported to the client yet.
     ///
     /// Searches are made by at most `workers` side by side. The only error is out of memory.
     pub fn open<R: Threads + Sync, G: Gate>(
@@ -82,7 +82,7 @@ impl Live {
         requires printable { IsPrintable (tree doc) }
         ensures diagram { IfOk result (λ l. l.diagram ≡ doc) }
         ensures world { IfOk result (λ l. l.session.world ≡ opened scene) }
-        ensures told { IfOk result (λ l. l.told ≡ []) }
+        ensures reported { IfOk result (λ l. l.reported ≡ []) }
     {
         scene.valid();
         let session = Session::open(rt, alloc, scene, workers, gate)?;
@@ -90,7 +90,7 @@ impl Live {
             alloc,
             doc,
             session,
-            told: Vec::new(alloc),
+            reported: Vec::new(alloc),
         })
     }
 
@@ -107,15 +107,15 @@ impl Live {
         requires directed { IsDirectedCommand command.now }
         requires form { command.now ≢ commands.Bad }
         ensures call { IsCall command.now result self.old.session self.new.session }
-        ensures told { self.new.told ≡ self.old.told }
+        ensures reported { self.new.reported ≡ self.old.reported }
         ensures diagram { self.new.diagram ≡ self.old.diagram }
     {
         call(rt, &mut self.session, command, workers, gate)
     }
 
     /// Drops the transaction if one is open.
-    fn give_up(&mut self)
-        ensures { GivesUp self.old self.new }
+    fn roll_back(&mut self)
+        ensures { RollsBack self.old self.new }
     {
         self.session.give_up();
     }
@@ -129,45 +129,45 @@ impl Live {
         Ok(routes)
     }
 
-    /// The lines of the present scene, and the text that tells what changed.
+    /// The lines of the present scene, and the text that reports what changed.
     fn changes(&self) -> Result<(Vec<WrittenRoute>, Vec<u8>), AllocError>
         ensures lines { IfOk result (λ r. AreSessionLines self.now.session r.0.items) }
-        ensures text { IfOk result (λ r. r.1.items ≡ changes_text (changes self.now.told r.0.items) ++ ok_line) }
+        ensures text { IfOk result (λ r. r.1.items ≡ changes_text (changes self.now.reported r.0.items) ++ ok_line) }
     {
         let lines = self.session_lines()?;
-        let text = changes_text(self.alloc, &self.told, &lines)?;
+        let text = changes_text(self.alloc, &self.reported, &lines)?;
         Ok((lines, text))
     }
 
-    /// Tells what changed since the client was told lines last.
-    fn tell_changes(&mut self) -> Said
-        ensures tells { TellsChanges self.old.told self.new (said_bytes result) }
+    /// Reports what changed since lines were reported to the client last.
+    fn report_changes(&mut self) -> Said
+        ensures reports { ReportsChanges self.old.reported self.new (said_bytes result) }
         ensures session { self.new.session ≡ self.old.session }
         ensures diagram { self.new.diagram ≡ self.old.diagram }
     {
         match self.changes() {
             Ok((lines, text)) => {
-                self.told = lines;
+                self.reported = lines;
                 Said::Text(text)
             }
-            Err(AllocError) => Said::Untold,
+            Err(AllocError) => Said::Unreported,
         }
     }
 
-    /// Tells that a command is done: what changed, where it may change lines.
-    fn tell_done(&mut self, command: &Command) -> Said
+    /// Reports that a command is done: what changed, where it may change lines.
+    fn report_done(&mut self, command: &Command) -> Said
         requires { command.now ≢ commands.Bad }
-        ensures tells { TellsDone command.now self.old.told self.new (said_bytes result) }
+        ensures reports { ReportsDone command.now self.old.reported self.new (said_bytes result) }
         ensures session { self.new.session ≡ self.old.session }
         ensures diagram { self.new.diagram ≡ self.old.diagram }
     {
         match command {
-            Command::Commit | Command::Undo | Command::Redo => self.tell_changes(),
+            Command::Commit | Command::Undo | Command::Redo => self.report_changes(),
             _ => Said::Done,
         }
     }
 
-    /// Does a command that has a form, and tells the result.
+    /// Does a valid command, and reports the result.
     fn do_command<R: Threads + Sync, G: Gate>(
         &mut self,
         rt: &R,
@@ -182,21 +182,21 @@ impl Live {
         ensures answer { AnswersCommand command.now self.old self.new (said_bytes result) }
     {
         match self.call(rt, command, workers, gate) {
-            Ok(()) => self.tell_done(command),
+            Ok(()) => self.report_done(command),
             Err(SessionFault::Memory) => Said::NoMemory,
             Err(fault) => refused(self.alloc, &Refusal::Command(fault)),
         }
     }
 
-    /// Tells that a line has no form, which rolls back the transaction.
+    /// Reports that a line is not a valid command, which rolls back the transaction.
     fn refuse_line(&mut self) -> Said
         ensures answer { AnswersCommand commands.Bad self.old self.new (said_bytes result) }
     {
-        self.give_up();
+        self.roll_back();
         refused(self.alloc, &Refusal::Syntax)
     }
 
-    /// The text that tells what a commit of the open transaction, whose working scene is given, would change.
+    /// The text that reports what a commit of the open transaction, whose working scene is given, would change.
     fn preview<R: Threads + Sync, G: Gate>(
         &self,
         rt: &R,
@@ -207,14 +207,14 @@ impl Live {
         requires some { 1 ≤ workers }
         requires few_workers { workers ≤ 4 }
         requires working { self.now.session.world.working ≡ Some working.now }
-        ensures { IfOk result (λ text. TellsPreview self.now self.now text.items) }
+        ensures { IfOk result (λ text. ReportsPreview self.now self.now text.items) }
     {
         let lines = preview(rt, self.alloc, &self.session, working, workers, gate)?;
-        changes_text(self.alloc, &self.told, &lines)
+        changes_text(self.alloc, &self.reported, &lines)
     }
 
-    /// Tells what a commit would change, if a transaction is open.
-    fn tell_preview<R: Threads + Sync, G: Gate>(&self, rt: &R, workers: u32, gate: &G) -> Said
+    /// Reports what a commit would change, if a transaction is open.
+    fn report_preview<R: Threads + Sync, G: Gate>(&self, rt: &R, workers: u32, gate: &G) -> Said
         requires some { 1 ≤ workers }
         requires few_workers { workers ≤ 4 }
         ensures { Answers requests.Preview self.now self.now (said_bytes result) }
@@ -225,7 +225,7 @@ impl Live {
         }
     }
 
-    /// All lines of the present scene, and the text that tells them.
+    /// All lines of the present scene, and the text that reports them.
     fn all_lines(&self) -> Result<(Vec<WrittenRoute>, Vec<u8>), AllocError>
         ensures lines { IfOk result (λ r. AreSessionLines self.now.session r.0.items) }
         ensures text { IfOk result (λ r. r.1.items ≡ drawn_texts r.0.items ++ ok_line) }
@@ -235,35 +235,35 @@ impl Live {
         Ok((lines, text))
     }
 
-    /// Tells all lines of the present scene.
-    fn tell_lines(&mut self) -> Said
-        ensures { TellsLines self.old self.new (said_bytes result) ⊎ AnswersNoMemory self.old self.new (said_bytes result) }
+    /// Reports all lines of the present scene.
+    fn report_lines(&mut self) -> Said
+        ensures { ReportsLines self.old self.new (said_bytes result) ⊎ AnswersNoMemory self.old self.new (said_bytes result) }
     {
         match self.all_lines() {
             Ok((lines, text)) => {
-                self.told = lines;
+                self.reported = lines;
                 Said::Text(text)
             }
             Err(AllocError) => Said::NoMemory,
         }
     }
 
-    /// The text that tells the diagram.
+    /// The text that reports the diagram.
     fn diagram(&self) -> Result<Vec<u8>, AllocError>
-        ensures { IfOk result (λ text. TellsDiagram self.now self.now text.items) }
+        ensures { IfOk result (λ text. ReportsDiagram self.now self.now text.items) }
     {
         let diagram = printed_diagram(self.alloc, &self.doc, &self.session)?;
         gml_text(self.alloc, &diagram)
     }
 
-    /// The text that tells the number of the next connector.
+    /// The text that reports the number of the next connector.
     fn next(&self) -> Result<Vec<u8>, AllocError>
-        ensures { IfOk result (λ text. TellsNext self.now self.now text.items) }
+        ensures { IfOk result (λ text. ReportsNext self.now self.now text.items) }
     {
         next_text(self.alloc, self.session.scene().next_edge())
     }
 
-    /// Does what a request asks for, and tells the result.
+    /// Does what a request asks for, and reports the result.
     ///
     /// After a command that is refused no transaction is open. The other requests change no scene.
     fn answer<R: Threads + Sync, G: Gate>(
@@ -282,8 +282,8 @@ impl Live {
             Request::Nothing | Request::Quit => Said::Done,
             Request::Do(Command::Bad) => self.refuse_line(),
             Request::Do(command) => self.do_command(rt, &command, workers, gate),
-            Request::Preview => self.tell_preview(rt, workers, gate),
-            Request::Lines => self.tell_lines(),
+            Request::Preview => self.report_preview(rt, workers, gate),
+            Request::Lines => self.report_lines(),
             Request::Gml => Said::of(self.diagram()),
             Request::Next => Said::of(self.next()),
         }
@@ -308,7 +308,7 @@ impl Live {
         match request_of(self.alloc, line) {
             Ok(request) => (self.answer(rt, request, workers, gate), is_last),
             Err(AllocError) => {
-                self.give_up();
+                self.roll_back();
                 (Said::NoMemory, is_last)
             }
         }
@@ -318,7 +318,7 @@ impl Live {
     pub fn refuse_long_line(&mut self) -> Said
         ensures { (line : List ℕ) → AnswersRead reads.TooLong line self.old self.new (said_bytes result) }
     {
-        self.give_up();
+        self.roll_back();
         Said::TooLong
     }
 }

@@ -11,10 +11,10 @@ use std::alloc::{AllocError, Global};
 pub enum Said {
     /// Lines, of which the last one begins with `ok` or `refused`.
     Text(Vec<u8>),
-    /// Done, with nothing to tell.
+    /// Done, with nothing to report.
     Done,
-    /// Done, and no memory was left to tell what changed.
-    Untold,
+    /// Done, and no memory was left to report what changed.
+    Unreported,
     /// Not done, since no memory was left.
     NoMemory,
     /// Not read, since the line has more bytes than the limit.
@@ -39,14 +39,14 @@ impl Said {
         match self {
             Said::Text(text) => text,
             Said::Done => b"ok\n",
-            Said::Untold => b"ok untold\n",
+            Said::Unreported => b"ok untold\n",
             Said::NoMemory => b"refused NoMemory\n",
             Said::TooLong => b"refused TooLong\n",
         }
     }
 }
 
-/// The text that tells a refusal.
+/// The text that reports a refusal.
 fn refused_text(alloc: Global, why: &Refusal) -> Result<Vec<u8>, AllocError>
     ensures { IfOk result (λ text. text.items ≡ refused_line why.now) }
 {
@@ -57,7 +57,7 @@ fn refused_text(alloc: Global, why: &Refusal) -> Result<Vec<u8>, AllocError>
     Ok(text)
 }
 
-/// Tells a refusal, or that no memory was left.
+/// Reports a refusal, or that no memory was left.
 pub(crate) fn refused(alloc: Global, why: &Refusal) -> Said
     ensures { (said_bytes result ≡ refused_line why.now) ⊎ (said_bytes result ≡ no_memory_line) }
 {

@@ -14,7 +14,7 @@ use std::alloc::{AllocError, Global};
 pub enum Request {
     /// Nothing: the line has no words, or it is a comment.
     Nothing,
-    /// A command of a script. `Bad` is a line that has no form.
+    /// A command of a script. `Bad` is a line that is not a valid command.
     Do(Command),
     /// What a commit would change.
     Preview,

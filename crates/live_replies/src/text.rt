@@ -8,7 +8,7 @@ use crate::line::{push_all_drawn, push_gml, push_next, push_ok};
 use std::alloc::{AllocError, Global};
 use walk_model::WrittenRoute;
 
-/// The text that tells the changes from the lines before to those after.
+/// The text that reports the changes from the lines before to those after.
 pub(crate) fn changes_text(
     alloc: Global,
     before: &[WrittenRoute],
@@ -22,7 +22,7 @@ pub(crate) fn changes_text(
     Ok(text)
 }
 
-/// The text that tells all lines.
+/// The text that reports all lines.
 pub(crate) fn lines_text(alloc: Global, lines: &[WrittenRoute]) -> Result<Vec<u8>, AllocError>
     ensures { IfOk result (λ text. text.items ≡ drawn_texts lines.now ++ ok_line) }
 {
@@ -32,7 +32,7 @@ pub(crate) fn lines_text(alloc: Global, lines: &[WrittenRoute]) -> Result<Vec<u8
     Ok(text)
 }
 
-/// The text that tells a diagram.
+/// The text that reports a diagram.
 pub(crate) fn gml_text(alloc: Global, diagram: &[u8]) -> Result<Vec<u8>, AllocError>
     ensures { IfOk result (λ text. text.items ≡ gml_text diagram.now ++ ok_line) }
 {
@@ -42,7 +42,7 @@ pub(crate) fn gml_text(alloc: Global, diagram: &[u8]) -> Result<Vec<u8>, AllocEr
     Ok(text)
 }
 
-/// The text that tells the number of the next connector.
+/// The text that reports the number of the next connector.
 pub(crate) fn next_text(alloc: Global, number: u32) -> Result<Vec<u8>, AllocError>
     ensures { IfOk result (λ text. text.items ≡ next_text number ++ ok_line) }
 {

@@ -1,6 +1,6 @@
 //! Ends of the input, lines at the limit, and reads and writes that fail.
 
-use crate::runs::{Row, Verdict, told, told_both, whole_row, wrote};
+use crate::runs::{Row, Verdict, both_reported, reported, whole_row, wrote};
 use live_replies::{End, ServeFault};
 use std::alloc::{AllocError, Global};
 use std::test::Fail;
@@ -62,8 +62,8 @@ fn rows() -> [(Row<'static>, Result<End, ServeFault>); 7] {
 #[test]
 fn ends_as_its_input_and_output_do(rt: HostRuntime) {
     for (row, end) in rows() {
-        let told = told(&rt, rt.alloc(), &row);
-        assert_eq!(rt; told, Some(wrote(end)), "{}", row.name);
+        let reported = reported(&rt, rt.alloc(), &row);
+        assert_eq!(rt; reported, Some(wrote(end)), "{}", row.name);
     }
 }
 
@@ -79,9 +79,9 @@ fn is_as_after_the_line_whose_reply_was_not_written(rt: HostRuntime) {
         b"lines\nundo\nlines\n",
         "line 1 0.000 0.000 100.000 0.000\nok\nno line 1\nok\nok\n",
     );
-    let told = told_both(&rt, rt.alloc(), &first, &second);
+    let reported = both_reported(&rt, rt.alloc(), &first, &second);
     let wanted = (wrote(Err(ServeFault::Write)), wrote(Ok(End::Input)));
-    assert_eq!(rt; told, Some(wanted));
+    assert_eq!(rt; reported, Some(wanted));
 }
 
 /// Appends a comment of this many bytes in all, at least 1, and a line feed.
@@ -110,7 +110,7 @@ fn skips_lines_that_are_too_long(rt: HostRuntime) -> Result<(), Fail> {
     let input = long_lines(rt.alloc())?;
     let replies = "ok\nok\nok\nok\nrefused TooLong\nrefused X2 NoTransaction\nnext 1\nok\n";
     let row = whole_row("long lines", &input, replies);
-    let told: Option<Verdict> = told(&rt, rt.alloc(), &row);
-    assert_eq!(rt; told, Some(wrote(Ok(End::Input))));
+    let reported: Option<Verdict> = reported(&rt, rt.alloc(), &row);
+    assert_eq!(rt; reported, Some(wrote(Ok(End::Input))));
     Ok(())
 }

@@ -94,13 +94,13 @@ fn serve_both<R: Threads + Sync>(
 }
 
 /// The result of the row's session, if it can be opened.
-pub(crate) fn told<R: Threads + Sync>(rt: &R, alloc: Global, row: &Row) -> Option<Verdict> {
+pub(crate) fn reported<R: Threads + Sync>(rt: &R, alloc: Global, row: &Row) -> Option<Verdict> {
     let mut live = opened(rt, alloc, row.diagram)?;
     serve_row(rt, alloc, &mut live, row).ok()
 }
 
 /// The result of the first row's session, and of the second row's input to it, if it can be opened.
-pub(crate) fn told_both<R: Threads + Sync>(
+pub(crate) fn both_reported<R: Threads + Sync>(
     rt: &R,
     alloc: Global,
     first: &Row,

@@ -2,7 +2,7 @@
 //!
 //! What is expected was found by an independent program.
 
-use crate::runs::{Row, told, whole_row, wrote};
+use crate::runs::{Row, reported, whole_row, wrote};
 use live_replies::End;
 
 /// The session of the guide: a box between two others, a step back and forth, and an edit that is refused.
@@ -52,7 +52,7 @@ ok
 ";
 
 /// Previews outside a transaction and in one: without edits, of lines that are new, change, go and stay, and after a
-/// refused edit. Each commit tells what the preview before it told.
+/// refused edit. Each commit reports what the preview before it reported.
 const PREVIEWS: &str = "preview
 begin
 preview
@@ -423,7 +423,7 @@ fn rows() -> [Row<'static>; 4] {
 #[test]
 fn replies_to_each_request(rt: HostRuntime) {
     for row in rows() {
-        let told = told(&rt, rt.alloc(), &row);
-        assert_eq!(rt; told, Some(wrote(Ok(End::Quit))), "{}", row.name);
+        let reported = reported(&rt, rt.alloc(), &row);
+        assert_eq!(rt; reported, Some(wrote(Ok(End::Quit))), "{}", row.name);
     }
 }

@@ -27,7 +27,7 @@ AreStraightLegs d ls = All (λ l. l.to.heading ≡ d) ls
 abbrev pub HasNoneBetween : Arena → List Point → Dir → ℕ → ℕ → ℕ → Type 0
 HasNoneBetween a via d k b c = (z : ℕ) (r : Point) → StandsAt a z r → LiesFurther a d b z → LiesFurther a d z c → slice_get via k ≢ Some r
 
--- the legs, at least one, lead in the direction from the first place to the second, and only the last one may come to another stage
+-- the legs, at least one, lead in the direction from the first place to the second, and only the last one may reach another stage
 pub record GoesStraight (a : Arena) (via : List Point) (x : Place) (d : Dir) (legs : List Leg) (y : Place) : Type 0 where
   pub front : List Leg
   pub last : Leg
@@ -71,7 +71,7 @@ pub record IsNextStation (solids : List Solid) (a : Arena) (task : Task) (t : Tr
   pub on : HasRest solids a task t along station.to point station.back
   pub fewer : length station.back < length (l ∷ rest)
 
--- the walk's way comes to the place by straight legs, which begin at a bend or at the entry
+-- the walk's way reaches the place by straight legs, which begin at a bend or at the entry
 pub record IsRunInto (solids : List Solid) (a : Arena) (task : Task) (t : Triple) (along : GoesAlongWay solids a task t) (y : Place) (q : Point) (rest : List Leg) : Type 0 where
   pub first : Leg
   pub more : List Leg

@@ -96,7 +96,7 @@ pub fn straight_legs_in_front()
 {}
 
 /// At no place of a walk's way is the next checkpoint at its point. From each place the way goes
-/// straight on to a station. It comes to each place but the entry by straight legs, which begin at
+/// straight on to a station. It reaches each place but the entry by straight legs, which begin at
 /// a bend or at the entry.
 pub fn rests_have_stations()
     ensures none { (solids : List Solid) (a : Arena) (task : Task) (t : Triple) → IsArena a →

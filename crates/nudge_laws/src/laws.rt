@@ -58,7 +58,7 @@ pub fn legal_walks_hold_ports()
 /// The result of phase x for raw routes is accepted by phase y: the routes are ready and of
 /// different edges (`ready`, `edges`), and where the walk of a raw route is legal, its runs may
 /// stay as they are in both phases (`stay`).
-pub fn phase_x_hands_on()
+pub fn phase_y_accepts()
     ensures ready { (solids : List Solid) (raw : List PhaseRoute) (nudge : ℤ) (after : List PhaseRoute) (xs : List Solution) →
         IsPhase solids raw Vertical nudge after xs → AreRaw raw → All IsReady after }
     ensures edges { (solids : List Solid) (raw : List PhaseRoute) (nudge : ℤ) (after : List PhaseRoute) (xs : List Solution) →

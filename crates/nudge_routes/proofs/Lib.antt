@@ -4,4 +4,4 @@ pub mod Putting
 pub mod Covering
 pub mod Following
 pub mod Cornering
-pub mod HandingOn
+pub mod BetweenPhases

@@ -10,7 +10,7 @@ use Rattle.scene_model.specs.Edits.{changed, edited_by, refusal}
 use Rattle.scene_model.specs.Inverses.{redone}
 use Rattle.scene_model.specs.Answers.{AreAnswers}
 use Rattle.session_laws.specs.State.{State}
-use Rattle.session_laws.specs.Calls.{AreCalls, Told}
+use Rattle.session_laws.specs.Calls.{AreCalls, CommandResult}
 use Rattle.preview.specs.Commits.{CommitsArePreviewed, RefusalsArePreviewed, edit_done}
 use Rattle.preview.specs.Previews.{first_refused, refused_or}
 
@@ -34,18 +34,18 @@ goes w v None after h = (refl, same_ok h)
 goes w v (Some fault) after h = cc
 
 -- one that is refused was refused so
-stops : (w : World) (fault : Option SceneFault) (after : Scene) (told : SceneFault) → edit_working w (edited_by fault after) ≡ Err (refused (faults.Edit told)) → fault ≡ Some told
-stops w None after told h = cc
-stops w (Some fault) after told h = cc
+stops : (w : World) (fault : Option SceneFault) (after : Scene) (reason : SceneFault) → edit_working w (edited_by fault after) ≡ Err (refused (faults.Edit reason)) → fault ≡ Some reason
+stops w None after reason h = cc
+stops w (Some fault) after reason h = cc
 
 -- what edits that are done lead to
-record Led (es : List Edit) (tail : List Told) (w : World) (s : Scene) (new : State) : Type 0 where
+record Led (es : List Edit) (tail : List CommandResult) (w : World) (s : Scene) (new : State) : Type 0 where
   middle : State
   rest : AreCalls tail middle new
   world : middle.world ≡ working_on w (redone es s)
   unrefused : (place : ℕ) (more : List Edit) → first_refused place (es ++ more) s ≡ first_refused (place + length es) more (redone es s)
 
-module _ (tail : List Told) (w : World) (new : State) where
+module _ (tail : List CommandResult) (w : World) (new : State) where
   edits_lead : (es : List Edit) (s : Scene) (old : State) → old.world ≡ working_on w s → AreCalls (map edit_done es ++ tail) old new → Led es tail w s new
   edits_lead [] s old at calls = record {
     middle = old;

@@ -11,13 +11,13 @@ use Rattle.scene_model.proofs.ForRouting.Fresh.{one_stale_list}
 use Rattle.preview.specs.declared.answer.Previewed.TheVariants.{Committed, Refused}
 use Rattle.preview.specs.Previews.{Commits, HaveOnePreview}
 
-abbrev told : ℕ → SceneFault → Option (ℕ × SceneFault)
-told place fault = Some (place, fault)
+abbrev refusal_at : ℕ → SceneFault → Option (ℕ × SceneFault)
+refusal_at place fault = Some (place, fault)
 
-same_pair : (p q : ℕ × SceneFault) → told p.0 p.1 ≡ told q.0 q.1 → p ≡ q
+same_pair : (p q : ℕ × SceneFault) → refusal_at p.0 p.1 ≡ refusal_at q.0 q.1 → p ≡ q
 same_pair p q e = cc
 
-same_refusal : (at place : ℕ) (fault other : SceneFault) → told at fault ≡ told place other → Refused at fault ≡ Refused place other
+same_refusal : (at place : ℕ) (fault other : SceneFault) → refusal_at at fault ≡ refusal_at place other → Refused at fault ≡ Refused place other
 same_refusal at place fault other e = ap (λ (p : ℕ × SceneFault). Refused p.0 p.1) (same_pair (at, fault) (place, other) e)
 
 same_commit : (s : Scene) (answers : List Answer) (edits : List Edit) (one two : Scene) (book other : List Answer) (n m : ℕ) →

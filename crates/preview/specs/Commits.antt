@@ -8,21 +8,21 @@ use Rattle.scene_model.specs.Answers.{AreAnswers}
 use Rattle.line_arena.specs.Count.{counted_by}
 use Rattle.route_book.specs.Exchange.{CountsStale}
 use Rattle.session_laws.specs.State.{State}
-use Rattle.session_laws.specs.Calls.{AreCalls, Told}
+use Rattle.session_laws.specs.Calls.{AreCalls, CommandResult}
 use Rattle.preview.specs.declared.answer.Previewed.TheVariants.{Committed, Refused}
 use Rattle.preview.specs.Previews.{IsPreview}
 
 -- the call of an edit that is done
-abbrev pub edit_done : Edit → Told
+abbrev pub edit_done : Edit → CommandResult
 edit_done e = record { command = commands.Edit e; answer = Ok tt }
 
 -- the calls of a transaction that is committed
-abbrev pub committed : List Edit → List Told
+abbrev pub committed : List Edit → List CommandResult
 committed edits =
     record { command = commands.Begin; answer = Ok tt } ∷ (map edit_done edits ++ record { command = commands.Commit; answer = Ok tt } ∷ [])
 
 -- the calls of a transaction up to the edit that is refused
-abbrev pub stopped_at : List Edit → Edit → SceneFault → List Told
+abbrev pub stopped_at : List Edit → Edit → SceneFault → List CommandResult
 stopped_at edits e fault =
     record { command = commands.Begin; answer = Ok tt } ∷ (map edit_done edits ++ record { command = commands.Edit e; answer = Err (faults.Edit fault) } ∷ [])
 

@@ -3,5 +3,5 @@ pub mod OnePlace
 pub mod Scopes
 pub mod Weights
 pub mod Offering
-pub mod Handing
+pub mod Propagating
 pub mod Entering

@@ -73,20 +73,20 @@ abbrev pub IsNextIn : Problem → ℕ → Point → Dir → Option Next → Type
 IsNextIn p stage at d None = OnFloors p (λ floor. IsNoneNext floor p.task.now stage at d)
 IsNextIn p stage at d (Some n) = OnFloors p (λ floor. IsNext floor p.task.now stage at d n)
 
--- a walk that came to the place, which stands at the point, in the heading and at this cost was offered on to the next place
+-- a walk that reached the place, which stands at the point, in the heading and at this cost was offered on to the next place
 abbrev pub IsMoveOffered : Problem → Scope → Labels → Point → Dir → ℕ → Dir → Next → Type 0
 IsMoveOffered p s l at heading cost d n =
     StandsAt p.arena.now n.place.crossing n.at × IsOffered s l n.place (cost + (n.steps + p.task.now.penalty * turn heading d))
 
 -- the move in the direction, if there is one, was offered
-pub record IsHandedIn (p : Problem) (s : Scope) (l : Labels) (x : Place) (at : Point) (cost : ℕ) (d : Dir) : Type 0 where
+pub record IsPropagatedIn (p : Problem) (s : Scope) (l : Labels) (x : Place) (at : Point) (cost : ℕ) (d : Dir) : Type 0 where
   pub next : Option Next
   pub is_next : IsNextIn p x.stage at d next
   pub offered : IfSome next (IsMoveOffered p s l at x.heading cost d)
 
 -- all moves from the place were offered
-abbrev pub IsHandedOn : Problem → Scope → Labels → Place → ℕ → Type 0
-IsHandedOn p s l x cost = (at : Point) → StandsAt p.arena.now x.crossing at → (d : Dir) → IsHandedIn p s l x at cost d
+abbrev pub IsPropagated : Problem → Scope → Labels → Place → ℕ → Type 0
+IsPropagated p s l x cost = (at : Point) → StandsAt p.arena.now x.crossing at → (d : Dir) → IsPropagatedIn p s l x at cost d
 
 -- the place has a candidate
 abbrev pub IsQueued : Labels → Place → Type 0
@@ -98,11 +98,11 @@ pub record HasRooms (p : Problem) (l : Labels) : Type 0 where
   pub rows : (length p.task.now.via + 1) * p.arena.now.places ≤ length l.table.rows.items
 
 -- what holds of the labels between two steps of a search, but that one place may be open and not queued, and one closed and not passed on
-pub record IsSearching (p : Problem) (s : Scope) (l : Labels) (unqueued unhanded : Option Place) : Type 0 where
+pub record IsSearching (p : Problem) (s : Scope) (l : Labels) (unqueued unpropagated : Option Place) : Type 0 where
   pub small : most_of s ≤ 10 ^ 18
   pub reached : (x : Place) (v : ℕ) → cost_at l x ≡ Some v → IsReachedAt p s x v
   pub queued : (x : Place) (v : _) → Some x ≢ unqueued → label_at l x ≡ Open v → IsQueued l x
-  pub handed : (x : Place) (v : _) → Some x ≢ unhanded → label_at l x ≡ Closed v → IsHandedOn p s l x v.cost
+  pub propagated : (x : Place) (v : _) → Some x ≢ unpropagated → label_at l x ≡ Closed v → IsPropagated p s l x v.cost
   pub candidates : All (λ c. IsPlace p c.0.item) (heap_items l.queue.heap)
   pub marked : IsMarked l.table
   pub rooms : HasRooms p l

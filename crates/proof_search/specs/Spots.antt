@@ -26,7 +26,7 @@ pub record AreSpots (a : Arena) (spots : List Spot) : Type 0 where
 abbrev pub IsBeforeLine : Line → Spot → Type 0
 IsBeforeLine line s = (q : Point) → Holds line q → comes_before s.at q ≡ true
 
--- the crossings of the line came to the spots
+-- the crossings of the line became the spots
 pub record HasLineCome (a : Arena) (line : Line) (id : ℕ) (old new : List Spot) : Type 0 where
   pub kept : (s : Spot) → Contains old s → Contains new s
   pub only : (s : Spot) → Contains new s → Contains old s ⊎ (StandsAt a s.crossing s.at × Holds line s.at)

@@ -27,8 +27,8 @@ ghost use Rattle.proof_search.specs.Search.{
   HasRooms,
   IsComing,
   IsEntryOffered,
-  IsHandedIn,
-  IsHandedOn,
+  IsPropagatedIn,
+  IsPropagated,
   IsOffered,
   IsPlace,
   IsSearching,
@@ -133,7 +133,7 @@ impl Labels {
 
     /// Offers the move in the direction, if there is one, to the place where it ends.
     ///
-    /// The walk came to this place, which stands at the point, at this cost.
+    /// The walk reached this place, which stands at the point, at this cost.
     fn offer_move(
         &mut self,
         scope: Scope,
@@ -156,8 +156,8 @@ impl Labels {
             IsSearching problem.now scope self.new None but) }
         ensures spreads { OnOk result (Spreads scope self.old self.new) }
         ensures lighter { OnOk result (weight scope self.new ≤ weight scope self.old) }
-        ensures handed { OnOk result
-            (IsHandedIn problem.now scope self.new place.now at cost dir) }
+        ensures propagated { OnOk result
+            (IsPropagatedIn problem.now scope self.new place.now at cost dir) }
         ensures err { OnErr result (IsMarked self.new.table) }
     {
         let Some(next) = next_place(problem, place.crossing, at, place.stage, dir) else {
@@ -170,7 +170,7 @@ impl Labels {
     }
 
     /// Offers the moves in all directions to their ends.
-    fn hand_on(
+    fn propagate(
         &mut self,
         scope: Scope,
         problem: &Problem<'_>,
@@ -187,7 +187,7 @@ impl Labels {
             IsSearching problem.now scope self.new None but) }
         ensures spreads { OnOk result (Spreads scope self.old self.new) }
         ensures lighter { OnOk result (weight scope self.new ≤ weight scope self.old) }
-        ensures handed { OnOk result (IsHandedOn problem.now scope self.new place.now cost) }
+        ensures propagated { OnOk result (IsPropagated problem.now scope self.new place.now cost) }
         ensures err { OnErr result (IsMarked self.new.table) }
     {
         let at = problem.arena.point(place.crossing);
@@ -197,7 +197,7 @@ impl Labels {
         Ok(())
     }
 
-    /// Closes the label of the place, if it is open, and hands it on.
+    /// Closes the label of the place, if it is open, and propagates it.
     fn take(&mut self, scope: Scope, problem: &Problem<'_>, place: &Place) -> Result<(), AllocError>
         requires ready { IsReady problem.now }
         requires searching { IsSearching problem.now scope self.old (Some place.now) None }
@@ -212,7 +212,7 @@ impl Labels {
             return Ok(());
         };
         self.table.put(place, number, Label::Closed(known))?;
-        self.hand_on(scope, problem, place, known.cost)?;
+        self.propagate(scope, problem, place, known.cost)?;
         Ok(())
     }
 

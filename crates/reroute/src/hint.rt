@@ -97,7 +97,7 @@ pub(crate) fn print_hint(rt: &HostRuntime, alloc: Global, words: &[String], code
     } else {
         None
     };
-    // Where standard error is closed, the status alone tells of the fault.
+    // Where standard error is closed, the status alone reports the fault.
     let _printed = match place {
         Some((line, column)) => { eprintln!(rt; "reroute: line {line}, column {column}: {hint}") }
         None => eprintln!(rt; "reroute: {hint}"),

@@ -4,7 +4,7 @@ use Rattle.std.specs.Prelude.{◌||◌, IsSome, Any}
 use Rattle.std.specs.List.{list_any, AllZip}
 use Rattle.std.proofs.lemmas.List.Elements.{All-nil, All-cons}
 use Rattle.std.proofs.lemmas.List.{append_cancel_left}
-use Rattle.host_edge.specs.Folder.{ToldFiles}
+use Rattle.host_edge.specs.Folder.{ExposedFiles}
 use Rattle.host_edge.specs.Note.{Note}
 use Rattle.plane_geom.specs.declared.point.Point.{Point}
 use Rattle.gml_text.specs.Tree.{Pairs}
@@ -48,7 +48,7 @@ use Rattle.reroute_app.specs.Certificate.{most_certificate_bytes, AuditsCertific
 use Rattle.reroute_app.specs.Run.{IsFormOutcome}
 use Rattle.reroute_app.specs.Causes.{GainsLast, LastFailed, LastTookMore, HasReadDiagram, IsNoDiagram, HasNoLine, IsTooLarge, IsRefusedBy, FindsNoDiagram, FindsLines, HasBadLine, HasNoBadLine, FindsBadLine, FindsLegalLines, HasReadBoth, FindsReplay, FindsPreviews, FindsShared, FindsSmall, FindsAudit, FindsNoProof, FindsTrueClaims, ClaimsAreTrue, FindsRefusal, FindsNothing}
 use Rattle.reroute_app.specs.Causes.FindsNothing.{lines_are_legal, nothing_is_refused, is_made, no_proposal_is_refused, is_shared, has_certificate, is_proved}
-use Rattle.reroute_app.proofs.Courses.{note, told_once}
+use Rattle.reroute_app.proofs.Courses.{note, exposed_once}
 
 -- ---- one edge
 
@@ -175,8 +175,8 @@ gains_one : (old new : List Note) (n : Note) → new ≡ old ++ n ∷ [] → Gai
 gains_one old new n noted = record { front = []; gained = noted }
 
 -- what is added after a note is added after those before it
-gains_behind : (old middle new : List Note) (n last : Note) → middle ≡ old ++ n ∷ [] → GainsLast middle new last → GainsLast old new last
-gains_behind old middle new n last noted gains = record {
+gains_after : (old middle new : List Note) (n last : Note) → middle ≡ old ++ n ∷ [] → GainsLast middle new last → GainsLast old new last
+gains_after old middle new n last noted gains = record {
   front = n ∷ gains.front;
   gained = gains.gained ∙ ap (λ (ns : List Note). ns ++ (gains.front ++ last ∷ [])) noted ∙ append_assoc old (n ∷ []) (gains.front ++ last ∷ []);
 }
@@ -184,7 +184,7 @@ gains_behind old middle new n last noted gains = record {
 failed_last : (name : List ℕ) (limit : ℕ) (old new : List Note) → HasFailed name limit old new → LastFailed old new
 failed_last name limit old new failed = (note name limit failed.taken true, gains_one old new _ failed.noted, refl)
 
-more_last : (files : Option ToldFiles) (name : List ℕ) (limit : ℕ) (old new : List Note) → HasMore files name limit old new → LastTookMore old new
+more_last : (files : Option ExposedFiles) (name : List ℕ) (limit : ℕ) (old new : List Note) → HasMore files name limit old new → LastTookMore old new
 more_last files name limit old new more = (note name limit more.taken false, gains_one old new _ more.noted, refl, more.more)
 
 -- the last read did not fail, and took no more than its limit
@@ -194,11 +194,11 @@ record IsLastWhole (old new : List Note) : Type 0 where
   pub not_failed : last.failed ≡ false
   pub short : last.taken ≤ last.limit
 
-whole_last : (files : Option ToldFiles) (name : List ℕ) (limit : ℕ) (old new : List Note) (bytes : List ℕ) → HasRead files name limit old new bytes → IsLastWhole old new
+whole_last : (files : Option ExposedFiles) (name : List ℕ) (limit : ℕ) (old new : List Note) (bytes : List ℕ) → HasRead files name limit old new bytes → IsLastWhole old new
 whole_last files name limit old new bytes read = record { last = note name limit (length bytes) false; gains = gains_one old new _ read.noted; not_failed = refl; short = read.short }
 
-whole_behind : (old middle new : List Note) (n : Note) → middle ≡ old ++ n ∷ [] → IsLastWhole middle new → IsLastWhole old new
-whole_behind old middle new n noted whole = record { last = whole.last; gains = gains_behind old middle new n whole.last noted whole.gains; not_failed = whole.not_failed; short = whole.short }
+whole_after : (old middle new : List Note) (n : Note) → middle ≡ old ++ n ∷ [] → IsLastWhole middle new → IsLastWhole old new
+whole_after old middle new n noted whole = record { last = whole.last; gains = gains_after old middle new n whole.last noted whole.gains; not_failed = whole.not_failed; short = whole.short }
 
 whole_failed : (old new : List Note) → IsLastWhole old new → LastFailed old new → ⊥
 whole_failed old new whole last =
@@ -225,11 +225,11 @@ failed_more old new failed more =
 
 -- ---- what is found of files that were read whole
 
-same_named : (files : Option ToldFiles) (m n bs cs : List ℕ) (limit : ℕ) (a b c d : List Note) → IsSome files → m ≡ n → HasRead files m limit a b bs → HasRead files n limit c d cs → bs ≡ cs
-same_named files m n bs cs limit a b c d some same p q = told_once files n bs cs some (subst (λ (name : List ℕ). HasRead files name limit a b bs) same p).told q.told
+same_named : (files : Option ExposedFiles) (m n bs cs : List ℕ) (limit : ℕ) (a b c d : List Note) → IsSome files → m ≡ n → HasRead files m limit a b bs → HasRead files n limit c d cs → bs ≡ cs
+same_named files m n bs cs limit a b c d some same p q = exposed_once files n bs cs some (subst (λ (name : List ℕ). HasRead files name limit a b bs) same p).exposed q.exposed
 
 -- an exposed file is one diagram
-same_read : (files : Option ToldFiles) (m n : List ℕ) (a b c d : List Note) (t u : Pairs) (s v : Scene) → IsSome files → m ≡ n → HasDiagram files m a b t s → HasDiagram files n c d u v → SameDiagram t u s v
+same_read : (files : Option ExposedFiles) (m n : List ℕ) (a b c d : List Note) (t u : Pairs) (s v : Scene) → IsSome files → m ≡ n → HasDiagram files m a b t s → HasDiagram files n c d u v → SameDiagram t u s v
 same_read files m n a b c d t u s v some same p q =
     let bytes = same_named files m n p.bytes q.bytes most_bytes a b c d some same p.read q.read in
     same_diagram q.bytes t u s v (subst (λ (bs : List ℕ). IsDiagram bs t s) bytes p.diagram) q.diagram
@@ -239,17 +239,17 @@ record AreSameBoth (s v : Scene) (bs cs : List ℕ) : Type 0 where
   pub scene : s ≡ v
   pub bytes : bs ≡ cs
 
-same_both : (files : Option ToldFiles) (d e m n : List ℕ) (limit : ℕ) (old new : List Note) (t u : Pairs) (s v : Scene) (bs cs : List ℕ) → IsSome files → d ≡ e → m ≡ n
+same_both : (files : Option ExposedFiles) (d e m n : List ℕ) (limit : ℕ) (old new : List Note) (t u : Pairs) (s v : Scene) (bs cs : List ℕ) → IsSome files → d ≡ e → m ≡ n
     → HasReadBoth files d m limit old new t s bs → HasReadBoth files e n limit old new u v cs → AreSameBoth s v bs cs
 same_both files d e m n limit old new t u s v bs cs some diagrams seconds p q =
     let first = same_read files d e old p.middle old q.middle t u s v some diagrams p.first q.first in
     record { scene = first.scene; bytes = same_named files m n bs cs limit p.middle new q.middle new some seconds p.read q.read }
 
-both_whole : (files : Option ToldFiles) (diagram second : List ℕ) (limit : ℕ) (old new : List Note) (t : Pairs) (s : Scene) (bs : List ℕ) → HasReadBoth files diagram second limit old new t s bs → IsLastWhole old new
-both_whole files diagram second limit old new t s bs read = whole_behind old read.middle new _ read.first.read.noted (whole_last files second limit read.middle new bs read.read)
+both_whole : (files : Option ExposedFiles) (diagram second : List ℕ) (limit : ℕ) (old new : List Note) (t : Pairs) (s : Scene) (bs : List ℕ) → HasReadBoth files diagram second limit old new t s bs → IsLastWhole old new
+both_whole files diagram second limit old new t s bs read = whole_after old read.middle new _ read.first.read.noted (whole_last files second limit read.middle new bs read.read)
 
 -- what a subcommand reads as its diagram
-named_diagram : (form : Option Form) (files : Option ToldFiles) (old new : List Note) (bytes : List ℕ) → HasReadDiagram form files old new bytes → (name : List ℕ) × HasRead files name most_bytes old new bytes
+named_diagram : (form : Option Form) (files : Option ExposedFiles) (old new : List Note) (bytes : List ℕ) → HasReadDiagram form files old new bytes → (name : List ℕ) × HasRead files name most_bytes old new bytes
 named_diagram None files old new bytes read = absurd read
 named_diagram (Some (check diagram)) files old new bytes read = (diagram, read)
 named_diagram (Some (route diagram script workers count)) files old new bytes read = (diagram, read)
@@ -265,12 +265,12 @@ HasFiles None = ⊥
 HasFiles (Some (make seed)) = ⊥
 HasFiles other = Unit {0}
 
-read_files : (form : Option Form) (files : Option ToldFiles) (old new : List Note) (bytes : List ℕ) → HasReadDiagram form files old new bytes → HasFiles form
+read_files : (form : Option Form) (files : Option ExposedFiles) (old new : List Note) (bytes : List ℕ) → HasReadDiagram form files old new bytes → HasFiles form
 read_files None files old new bytes read = absurd read
 read_files (Some (make seed)) files old new bytes read = absurd read
 read_files other files old new bytes read = tt
 
-module _ (words : List (List ℕ)) (files : Option ToldFiles) (old new : List Note) where
+module _ (words : List (List ℕ)) (files : Option ExposedFiles) (old new : List Note) where
   -- what is found where all that was read was read whole
   data Found : Type 0 where
     no_diagram : FindsNoDiagram words files old new → Found
@@ -453,7 +453,7 @@ module _ (words : List (List ℕ)) (files : Option ToldFiles) (old new : List No
 
 -- ---- how a run ends
 
-module _ (words : List (List ℕ)) (files : Option ToldFiles) (old new : List Note) where
+module _ (words : List (List ℕ)) (files : Option ExposedFiles) (old new : List Note) where
   -- how a run with this status ends, and why
   data Ending (s : Status) : Type 0 where
     by_words : form_of words ≡ None → new ≡ old → s ≡ status.Words → Ending s
@@ -521,10 +521,10 @@ module _ (words : List (List ℕ)) (files : Option ToldFiles) (old new : List No
       end_second : (middle : List Note) → HasDiagram files diagram old middle tree scene → ReadsFile files second limit (λ bytes. Ends (P bytes)) middle new o → Ending o.status
       end_second middle read (fails failed said) =
           let last = failed_last second limit middle new failed in
-          by_fault (has_files words files old new form f has) (last.0, gains_behind old middle new _ last.0 read.read.noted last.1, last.2) (read_status _ said)
+          by_fault (has_files words files old new form f has) (last.0, gains_after old middle new _ last.0 read.read.noted last.1, last.2) (read_status _ said)
       end_second middle read (is_too_long more said) =
           let last = more_last files second limit middle new more in
-          by_length (has_files words files old new form f has) (last.0, gains_behind old middle new _ last.0 read.read.noted last.1, last.2, last.3) (read_status _ said)
+          by_length (has_files words files old new form f has) (last.0, gains_after old middle new _ last.0 read.read.noted last.1, last.2, last.3) (read_status _ said)
       end_second middle read (goes_on bytes last second_read later) =
           goes bytes (record { middle = middle; first = read; read = subst (λ (ns : List Note). HasRead files second limit middle ns bytes) (sym later.0) second_read }) later.1
 

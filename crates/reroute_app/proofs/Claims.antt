@@ -1,6 +1,6 @@
 -- Where an audit ends as done, the certificate claims what is true.
 use Rattle.std.proofs.Common.{◌≡◌, ℕ, Bool, true, false, List, Option, Some, None, Result, Ok, Err, refl, sym, ap, subst, ◌∙◌}
-use Rattle.host_edge.specs.Folder.{ToldFiles}
+use Rattle.host_edge.specs.Folder.{ExposedFiles}
 use Rattle.host_edge.specs.Note.{Note}
 use Rattle.gml_text.specs.Tree.{Pairs}
 use Rattle.gml_text.specs.Parse.{ParsesAs}
@@ -21,7 +21,7 @@ use Rattle.reroute_app.specs.Certificate.{most_certificate_bytes, AuditsCertific
 use Rattle.reroute_app.specs.Run.{IsFormOutcome, IsOutcome}
 use Rattle.reroute_app.specs.Causes.{ClaimsAreTrue, FindsTrueClaims}
 
-module _ (files : Option ToldFiles) (diagram certificate : List ℕ) (old new : List Note) (o : Outcome) (done : o.status ≡ status.Done) where
+module _ (files : Option ExposedFiles) (diagram certificate : List ℕ) (old new : List Note) (o : Outcome) (done : o.status ≡ status.Done) where
   not_done : (p : Outcome) → o ≡ p → o.status ≡ p.status
   not_done p is = ap (λ (q : Outcome). q.status) is
 
@@ -63,6 +63,6 @@ module _ (files : Option ToldFiles) (diagram certificate : List ℕ) (old new : 
   claims_found (is_too_long more is) = (let e = not_done _ is in cc)
   claims_found (goes_on bytes middle read later) = treed bytes middle later.0 read later.1 later.2
 
-pub claims_are_true : (words : List (List ℕ)) (files : Option ToldFiles) (old new : List Note) (o : Outcome) → o.status ≡ status.Done → IsOutcome words files old new o → ClaimsAreTrue words files old new
+pub claims_are_true : (words : List (List ℕ)) (files : Option ExposedFiles) (old new : List Note) (o : Outcome) → o.status ≡ status.Done → IsOutcome words files old new o → ClaimsAreTrue words files old new
 claims_are_true words files old new o done is diagram certificate form =
     claims_found files diagram certificate old new o done (subst (λ (f : Option Form). IsFormOutcome f files old new o) form is)

@@ -3,7 +3,7 @@ use Rattle.std.proofs.Common.{◌≡◌, ℕ, Bool, true, false, List, [], ◌�
 use Rattle.std.specs.Prelude.{IsSome, IfSome}
 use Rattle.std.proofs.lemmas.List.{append_cancel_left}
 use Rattle.std.proofs.lemmas.Option.{same_Some}
-use Rattle.host_edge.specs.Folder.{ToldFiles, file_named, GainsNote}
+use Rattle.host_edge.specs.Folder.{ExposedFiles, file_named, GainsNote}
 use Rattle.host_edge.specs.Note.{Note}
 use Rattle.gml_text.specs.Tree.{Pairs}
 use Rattle.gml_text.specs.declared.fault.GmlFault.{GmlFault}
@@ -62,11 +62,11 @@ course_ends_with o = course_ends (λ a. a ≡ o) (λ a b p q. p ∙ sym q)
 
 -- ---- reading
 
-pub told_once : (files : Option ToldFiles) (name : List ℕ) (bs cs : List ℕ) → IsSome files → IfSome files (λ named. file_named named name ≡ Some bs) → IfSome files (λ named. file_named named name ≡ Some cs) → bs ≡ cs
-told_once None name bs cs some p q = absurd (true≢false (sym some))
-told_once (Some named) name bs cs some p q = same_Some bs cs (sym p ∙ q)
+pub exposed_once : (files : Option ExposedFiles) (name : List ℕ) (bs cs : List ℕ) → IsSome files → IfSome files (λ named. file_named named name ≡ Some bs) → IfSome files (λ named. file_named named name ≡ Some cs) → bs ≡ cs
+exposed_once None name bs cs some p q = absurd (true≢false (sym some))
+exposed_once (Some named) name bs cs some p q = same_Some bs cs (sym p ∙ q)
 
-module _ (files : Option ToldFiles) (name : List ℕ) (limit : ℕ) (next : List ℕ → Course) (some : IsSome files) (good : (bytes : List ℕ) → IsCourse (next bytes)) where
+module _ (files : Option ExposedFiles) (name : List ℕ) (limit : ℕ) (next : List ℕ → Course) (some : IsSome files) (good : (bytes : List ℕ) → IsCourse (next bytes)) where
   file_grows : (old new : List Note) (o : Outcome) → ReadsFile files name limit next old new o → Grows old new
   file_grows old new o (fails failed is) = (note name limit failed.taken true ∷ [], failed.noted)
   file_grows old new o (is_too_long more is) = (note name limit more.taken false ∷ [], more.noted)
@@ -102,7 +102,7 @@ module _ (files : Option ToldFiles) (name : List ℕ) (limit : ℕ) (next : List
       let short = read.short in
       absurd (omega (arith, taken, more, short))
   file_once old new a b (goes_on bs middle read later) (goes_on cs other reads latest) =
-      let bytes = told_once files name bs cs some read.told reads.told in
+      let bytes = exposed_once files name bs cs some read.exposed reads.exposed in
       let same = one_first old new _ _ (first_of_more old middle new name limit (length bs) false read.noted ((good bs).grows middle new a later)) (first_of_more old other new name limit (length cs) false reads.noted ((good cs).grows other new b latest)) in
       let middles : middle ≡ other = read.noted ∙ ap (λ (n : Note). old ++ n ∷ []) same ∙ sym reads.noted in
       (good cs).one other new a b (subst (λ (m : List Note). next cs m new a) middles (subst (λ (xs : List ℕ). next xs middle new a) bytes later)) latest
@@ -128,5 +128,5 @@ course_bytes next good bytes = record {
       (course_tree next good q.0).one old new a b (subst (λ (r : Result Pairs GmlFault). TakesTree next r old new a) same p.2) q.2;
 }
 
-pub course_diagram : (files : Option ToldFiles) (name : List ℕ) (next : Pairs → Scene → Course) → IsSome files → ((tree : Pairs) (s : Scene) → scene_of tree ≡ Ok s → IsCourse (next tree s)) → IsCourse (ReadsDiagram files name next)
+pub course_diagram : (files : Option ExposedFiles) (name : List ℕ) (next : Pairs → Scene → Course) → IsSome files → ((tree : Pairs) (s : Scene) → scene_of tree ≡ Ok s → IsCourse (next tree s)) → IsCourse (ReadsDiagram files name next)
 course_diagram files name next some good = course_file files name most_bytes (TakesDiagram next) some (course_bytes next good)

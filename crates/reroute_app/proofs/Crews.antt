@@ -53,14 +53,14 @@ make_crew [] = tt
 make_crew (word ∷ []) = mapped HasCrew (seed_of word) make (λ seed. tt)
 make_crew (word ∷ other ∷ plain) = tt
 
-told_crew : (o : Option ℕ) (workers : ℕ) → o ≡ Some workers → IfSome o IsCrew → IsCrew workers
-told_crew o workers is crew = subst (λ p. IfSome p IsCrew) is crew
+crew_holds : (o : Option ℕ) (workers : ℕ) → o ≡ Some workers → IfSome o IsCrew → IsCrew workers
+crew_holds o workers is crew = subst (λ p. IfSome p IsCrew) is crew
 
 with_crew : (form : List (List ℕ) → Bool → ℕ → Option Form) (words : List (List ℕ))
     → ((plain : List (List ℕ)) (count : Bool) (workers : ℕ) → IsCrew workers → IfSome (form plain count workers) HasCrew) → IfSome (form_with form words) HasCrew
 with_crew form words each =
     followed HasCrew (said_after true nothing_said words) _ (λ said a.
-    followed HasCrew (workers_said said.workers) _ (λ workers b. each said.plain said.count workers (told_crew (workers_said said.workers) workers b (crew_said said.workers))))
+    followed HasCrew (workers_said said.workers) _ (λ workers b. each said.plain said.count workers (crew_holds (workers_said said.workers) workers b (crew_said said.workers))))
 
 words_crew : (command : List ℕ) (words : List (List ℕ)) → IfSome (form_after command words) HasCrew
 words_crew command words =
@@ -81,5 +81,5 @@ pub crew_of : (words : List (List ℕ)) (form : Form) → Some form ≡ form_of 
 crew_of words form is = subst (λ o. IfSome o HasCrew) (sym is) (form_crew words)
 
 -- what was read is the subcommand of the arguments
-pub told_form : (words : List (List ℕ)) (o : Option Read) (f form : Read) → o ≡ Some f → f ≡ form → option_map view o ≡ form_of words → Some (view form) ≡ form_of words
-told_form words o f form is same told = ap (option_map view) (sym (is ∙ ap (λ (r : Read). Some r) same)) ∙ told
+pub same_form : (words : List (List ℕ)) (o : Option Read) (f form : Read) → o ≡ Some f → f ≡ form → option_map view o ≡ form_of words → Some (view form) ≡ form_of words
+same_form words o f form is same formed = ap (option_map view) (sym (is ∙ ap (λ (r : Read). Some r) same)) ∙ formed

@@ -1,7 +1,7 @@
 -- For given arguments, exposed files and notes there is one outcome.
 use Rattle.std.proofs.Common.{◌≡◌, ℕ, Bool, List, Option, Some, None, Ok, sym, ap, ◌∙◌}
 use Rattle.std.specs.Prelude.{IsSome}
-use Rattle.host_edge.specs.Folder.{ToldFiles}
+use Rattle.host_edge.specs.Folder.{ExposedFiles}
 use Rattle.host_edge.specs.Note.{Note}
 use Rattle.gml_text.specs.Tree.{Pairs}
 use Rattle.scene_model.specs.Scene.{Scene}
@@ -70,7 +70,7 @@ module _ (checks : HaveOneCheck) (replays : ComesToOne) (seeds : SeedsComeToOne)
   course_small (Some part) next is = course_ends_with _
 
   -- the course of a subcommand, where the files are exposed
-  pub course_form : (form : Option Form) (files : Option ToldFiles) → IsSome files → IsCourse (IsFormOutcome form files)
+  pub course_form : (form : Option Form) (files : Option ExposedFiles) → IsSome files → IsCourse (IsFormOutcome form files)
   course_form None files some = course_ends_with _
   course_form (Some (check diagram)) files some =
       course_diagram files diagram (λ tree s. Ends (Checks tree s)) some
@@ -94,5 +94,5 @@ module _ (checks : HaveOneCheck) (replays : ComesToOne) (seeds : SeedsComeToOne)
       (λ tree s is. course_small (too_large s) (ReadsFile files certificate most_certificate_bytes (λ bytes. Ends (AuditsCertificate s bytes)))
       (course_file files certificate most_certificate_bytes (λ bytes. Ends (AuditsCertificate s bytes)) some (λ bytes. course_ends (AuditsCertificate s bytes) (one_audit s bytes))))
 
-  pub one_outcome : (words : List (List ℕ)) (files : Option ToldFiles) (old new : List Note) → IsSome files → HasOneOutcome words files old new
+  pub one_outcome : (words : List (List ℕ)) (files : Option ExposedFiles) (old new : List Note) → IsSome files → HasOneOutcome words files old new
   one_outcome words files old new some a b p q = (course_form (form_of words) files some).one old new a b p q

@@ -22,8 +22,8 @@ use Rattle.scene_model.specs.Scene.{Scene, empty_scene, node_with, has_class, pi
 use Rattle.scene_model.specs.Valid.{IsOnField, IsPin, IsNode, IsEdge, IsValid}
 use Rattle.scene_model.specs.Edits.{changed, half, is_off, is_outside, out_of_limits}
 use Rattle.scene_model.specs.Loads.{IsLoadablePin}
-use Rattle.scene_model.proofs.Directions.{told}
-use Rattle.scene_model.proofs.Directions.Told.{yes, no}
+use Rattle.scene_model.proofs.Directions.{tested}
+use Rattle.scene_model.proofs.Directions.Tested.{yes, no}
 use Rattle.scene_model.proofs.Editing.EdgeEdits.{edge_added, set_value, within_field}
 use Rattle.scene_model.proofs.Editing.Entries.{found_passes, pairs_to}
 use Rattle.scene_model.proofs.Editing.NodeEdits.{node_added, inside, within_field as within_with}
@@ -41,14 +41,14 @@ use Rattle.diagram_read.specs.Settings.{with_setting_read, with_setting_at, with
 use Rattle.diagram_read.specs.Values.{ListEntry, as_list, value_at, values_at, list_at, entries_from, milli_of, in_range, exact_at, is_no_number, id_of, class_of, in_classes}
 use Rattle.diagram_read.proofs.EdgesRead.{IsRoomyEdge, edge_roomy}
 use Rattle.diagram_read.proofs.NodesRead.{IsRoomy, node_roomy}
-use Rattle.diagram_read.proofs.PinsRead.{pin_loadable, some_told}
-use Rattle.diagram_read.proofs.Steps.{bound, chosen, kept, ok_told, not_refused, there}
+use Rattle.diagram_read.proofs.PinsRead.{pin_loadable, some_holds}
+use Rattle.diagram_read.proofs.Steps.{bound, chosen, kept, ok_holds, not_refused, there}
 use Rattle.form_check.proofs.Counts.{parted}
 
 -- ---- pins
 
 in_classes_low : (value : ℤ) (class : ℕ) → in_classes value ≡ Some class → class ≤ 65535
-in_classes_low value class is = elim (told (int_lt value (pos 0) || int_lt (pos 65535) value)) as (λ _. class ≤ 65535) [
+in_classes_low value class is = elim (tested (int_lt value (pos 0) || int_lt (pos 65535) value)) as (λ _. class ≤ 65535) [
   | yes h ↦ absurd (none-some class (rw h at is))
   | no h ↦
       (let within = or_none (int_lt value (pos 0)) (int_lt (pos 65535) value) h in
@@ -66,7 +66,7 @@ record IsAdded (class added : ℕ) : Type 0 where
   pub same : class ≡ added
 
 class_added : (class added : ℕ) → added_class class ≡ Some added → IsAdded class added
-class_added class added is = elim (told (class == 0)) as (λ _. IsAdded class added) [
+class_added class added is = elim (tested (class == 0)) as (λ _. IsAdded class added) [
   | yes h ↦ absurd (none-some added (rw h at is))
   | no h ↦
       (let same = same_Some class added (rw h at is) in
@@ -79,14 +79,14 @@ record IsInBox (n : Node) (p q : Pin) : Type 0 where
   pub inside : is_outside n.half_w n.half_h q ≡ false
 
 in_box : (n : Node) (p q : Pin) → within_box n p ≡ Some q → IsInBox n p q
-in_box n p q is = elim (told (is_outside n.half_w n.half_h p)) as (λ _. IsInBox n p q) [
+in_box n p q is = elim (tested (is_outside n.half_w n.half_h p)) as (λ _. IsInBox n p q) [
   | yes h ↦ absurd (none-some q (rw h at is))
   | no h ↦ (let same = same_Some p q (rw h at is) in record { same = same; inside = subst (λ (r : Pin). is_outside n.half_w n.half_h r ≡ false) same h })
 ]
 
 pin_read : (n : Node) (value : Content) (p : Pin) → pin_of n value ≡ Some p → IsPin n.half_w n.half_h p
 pin_read n value p is =
-    let loadable = some_told (pin_of n value) p IsLoadablePin is (pin_loadable n value) in
+    let loadable = some_holds (pin_of n value) p IsLoadablePin is (pin_loadable n value) in
     let pairs = parted _ (as_list value) p is in
     let class = parted _ (option_and_then class_of (value_at (codes "class") pairs.0)) p pairs.2 in
     let added = parted _ (added_class class.0) p class.2 in
@@ -97,8 +97,8 @@ pin_read n value p is =
     let boxed = in_box n (record { class = added.0; dx = dx.0; dy = dy.0; dirs = dirs.0; cost = cost.0 }) p cost.2 in
     let place = inside n.half_w n.half_h p boxed.inside in
     let own = class_added class.0 added.0 added.1 in
-    let told_class = parted class_of (value_at (codes "class") pairs.0) class.0 class.1 in
-    let low = class_low told_class.0 class.0 told_class.2 in
+    let class_parts = parted class_of (value_at (codes "class") pairs.0) class.0 class.1 in
+    let low = class_low class_parts.0 class.0 class_parts.2 in
     let is_class : added.0 ≡ p.class = ap (λ (q : Pin). q.class) boxed.same in
     let some = own.some in
     let same = own.same in
@@ -183,7 +183,7 @@ node_fresh s entry =
     let room = leb-false 256 (length s.nodes) (not_refused (TooMany part.Node) (nat_le 256 (length s.nodes)) nodes a) in
     fresh_all s id (each (with_pin place (pin_count s)) n (values_at (codes "pin") entry.1)) fresh (omega (arith, room))
     (kept (IsGood id) (with_pin place (pin_count s)) (λ m value. pin_good place (pin_count s) id m value) n (values_at (codes "pin") entry.1)
-    (ok_told (bare_node place id entry) n (IsGood id) d (bare_good place id entry)))))))
+    (ok_holds (bare_node place id entry) n (IsGood id) d (bare_good place id entry)))))))
 
 -- ---- edges
 
@@ -195,8 +195,8 @@ pub record IsNumbered (s : Scene) : Type 0 where
 node_kept : (s : Scene) (entry : ListEntry) → IsNumbered s → IfOk (with_node_in s entry) IsNumbered
 node_kept s entry is =
     bound _ (node_in s entry) _ (λ n e.
-    let fresh = ok_told (node_in s entry) n (IsFresh s) e (node_fresh s entry) in
-    let roomy = ok_told (node_in s entry) n (IsRoomy (pin_count s)) e (node_roomy s entry is.valid.few_pins) in
+    let fresh = ok_holds (node_in s entry) n (IsFresh s) e (node_fresh s entry) in
+    let roomy = ok_holds (node_in s entry) n (IsRoomy (pin_count s)) e (node_roomy s entry is.valid.few_pins) in
     record { valid = node_added s n is.valid fresh.fresh fresh.node fresh.room roomy.few; numbered = is.numbered })
 
 -- the node at an end has the class
@@ -213,7 +213,7 @@ served : (s : Scene) (n : Node) (class : ℕ) → node_with s n.id ≡ Some n �
 served s n class known has = subst (λ o. IsSomeAnd o (λ m. IsTrue (has_class m class))) (sym known) has
 
 class_owned : (n : Node) (c class : ℕ) → own_class n c ≡ Some class → IsTrue (has_class n class)
-class_owned n c class is = elim (told (has_class n c)) as (λ _. IsTrue (has_class n class)) [
+class_owned n c class is = elim (tested (has_class n c)) as (λ _. IsTrue (has_class n class)) [
   | yes h ↦ (let same = same_Some c class (rw h at is) in subst (λ (k : ℕ). has_class n k ≡ true) same h)
   | no h ↦ absurd (none-some class (rw h at is))
 ]
@@ -234,7 +234,7 @@ point_read value p is =
     on (record { x = x.0; y = y.0 }) y.2
   where
     on : (q : Point) → on_field q ≡ Some p → IsOnField p
-    on q is = elim (told (is_off q.x (pos 0) || is_off q.y (pos 0))) as (λ _. IsOnField p) [
+    on q is = elim (tested (is_off q.x (pos 0) || is_off q.y (pos 0))) as (λ _. IsOnField p) [
       | yes h ↦ absurd (none-some p (rw h at is))
       | no h ↦
           (let within = or_none (is_off q.x (pos 0)) (is_off q.y (pos 0)) h in
@@ -267,7 +267,7 @@ connector_tied s place before from to entry source target room =
     record {
       from = served s from from_class source (class_had from (value_at (codes "sourcePin") entry.1) from_class (there (BadEnd place) (class_in from (value_at (codes "sourcePin") entry.1)) from_class a));
       to = served s to to_class target (class_had to (value_at (codes "targetPin") entry.1) to_class (there (BadEnd place) (class_in to (value_at (codes "targetPin") entry.1)) to_class b));
-      via = ok_told (each (with_via place before) [] (values_at (codes "via") entry.1)) via AreVia c
+      via = ok_holds (each (with_via place before) [] (values_at (codes "via") entry.1)) via AreVia c
           (kept AreVia (with_via place before) (via_kept place before) [] (values_at (codes "via") entry.1) (record { few = omega arith; on_field = All-nil IsOnField }));
       room = room;
     }))))
@@ -295,8 +295,8 @@ edge_tied s entry =
 edge_kept : (s : Scene) (entry : ListEntry) → IsNumbered s → IfOk (with_edge_in s entry) IsNumbered
 edge_kept s entry is =
     bound _ (edge_in s entry) _ (λ e got.
-    let roomy = ok_told (edge_in s entry) e (IsRoomyEdge s) got (edge_roomy s entry is.numbered is.valid.few_via) in
-    let tied = ok_told (edge_in s entry) e (IsTied s) got (edge_tied s entry) in
+    let roomy = ok_holds (edge_in s entry) e (IsRoomyEdge s) got (edge_roomy s entry is.numbered is.valid.few_via) in
+    let tied = ok_holds (edge_in s entry) e (IsTied s) got (edge_tied s entry) in
     let edge : IsEdge s e = record {
       from = tied.from;
       to = tied.to;
@@ -325,8 +325,8 @@ settings_kept None s is = is
 settings_kept (Some router) s is =
     bound _ (with_setting_at Penalty (codes "penalty") router s) _ (λ first a.
     bound _ (with_setting_at Buffer (codes "buffer") router first) _ (λ second b.
-    let one = ok_told (with_setting_at Penalty (codes "penalty") router s) first IsNumbered a (setting_kept Penalty s (option_map milli_of (value_at (codes "penalty") router)) is) in
-    let two = ok_told (with_setting_at Buffer (codes "buffer") router first) second IsNumbered b (setting_kept Buffer first (option_map milli_of (value_at (codes "buffer") router)) one) in
+    let one = ok_holds (with_setting_at Penalty (codes "penalty") router s) first IsNumbered a (setting_kept Penalty s (option_map milli_of (value_at (codes "penalty") router)) is) in
+    let two = ok_holds (with_setting_at Buffer (codes "buffer") router first) second IsNumbered b (setting_kept Buffer first (option_map milli_of (value_at (codes "buffer") router)) one) in
     setting_kept Nudge second (option_map milli_of (value_at (codes "nudge") router)) two))
 
 empty_numbered : IsNumbered empty_scene
@@ -356,11 +356,11 @@ empty_numbered = record {
 
 pub scene_valid : (tree : Pairs) (s : Scene) → scene_of tree ≡ Ok s → IsValid s
 scene_valid tree s is =
-    let all = ok_told (scene_of tree) s IsNumbered is
+    let all = ok_holds (scene_of tree) s IsNumbered is
     (bound _ (need NoGraph (list_at (codes "graph") tree)) _ (λ graph a.
     bound _ (with_settings_in (list_at (codes "router") graph) empty_scene) _ (λ set b.
     bound _ (with_nodes_in set (entries_from 0 (codes "node") graph)) _ (λ noded c.
-    let setting = ok_told (with_settings_in (list_at (codes "router") graph) empty_scene) set IsNumbered b (settings_kept (list_at (codes "router") graph) empty_scene empty_numbered) in
-    let nodes = ok_told (with_nodes_in set (entries_from 0 (codes "node") graph)) noded IsNumbered c (kept IsNumbered with_node_in node_kept set (entries_from 0 (codes "node") graph) setting) in
+    let setting = ok_holds (with_settings_in (list_at (codes "router") graph) empty_scene) set IsNumbered b (settings_kept (list_at (codes "router") graph) empty_scene empty_numbered) in
+    let nodes = ok_holds (with_nodes_in set (entries_from 0 (codes "node") graph)) noded IsNumbered c (kept IsNumbered with_node_in node_kept set (entries_from 0 (codes "node") graph) setting) in
     kept IsNumbered with_edge_in edge_kept noded (entries_from 0 (codes "edge") graph) nodes)))) in
     all.valid

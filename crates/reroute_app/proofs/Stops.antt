@@ -3,7 +3,7 @@ use Rattle.std.proofs.Common.{◌≡◌, ◌≢◌, inl, inr, ℕ, ◌<◌, fals
 use Rattle.std.specs.Prelude.{IfOk, IfErr, IsErrAnd, slice_get}
 use Rattle.std.proofs.lemmas.Option.{none-some, same_Some}
 use Rattle.std.specs.declared.alloc.AllocError.{AllocError}
-use Rattle.host_edge.specs.Folder.{ToldFiles}
+use Rattle.host_edge.specs.Folder.{ExposedFiles}
 use Rattle.host_edge.specs.Note.{Note}
 use Rattle.gml_text.specs.Tree.{Pairs}
 use Rattle.gml_text.specs.Parse.{IsDocument, IsSyntaxAt, IsTooDeepAt, ParsesAs}
@@ -41,9 +41,9 @@ stops_as P Q weaker Memory is = tt
 -- the fault of bytes that are not valid GML is that of their reading
 pub read_with : (bytes : List ℕ) (fault : GmlFault) (r : Result Doc GmlFault) → r ≡ Err fault → fault ≢ gml.Memory
     → ((at : ℕ) → r ≡ Err (gml.Syntax at) → IsSyntaxAt bytes at) → ((at : ℕ) → r ≡ Err (gml.TooDeep at) → IsTooDeepAt bytes at) → ParsesAs bytes (Err fault)
-read_with bytes (gml.Syntax at) r is told syntax too_deep = syntax at is
-read_with bytes (gml.TooDeep at) r is told syntax too_deep = too_deep at is
-read_with bytes gml.Memory r is told syntax too_deep = absurd (told refl)
+read_with bytes (gml.Syntax at) r is known syntax too_deep = syntax at is
+read_with bytes (gml.TooDeep at) r is known syntax too_deep = too_deep at is
+read_with bytes gml.Memory r is known syntax too_deep = absurd (known refl)
 
 -- so it is the end of a diagram
 pub no_document_ends : (bytes : List ℕ) (notes : List Note) (fault : GmlFault) (o : Outcome) → ParsesAs bytes (Err fault) → o ≡ unsearched Diagram (gml_fault_line fault) → TakesDiagram never_two bytes notes notes o
@@ -59,7 +59,7 @@ no_scene_ends bytes tree notes o document is = (Ok tree, document, scene_as (sce
 
 module _ (next other : List ℕ → Course) (on : (bytes : List ℕ) (old new : List Note) (o : Outcome) → next bytes old new o → other bytes old new o) where
   -- a course that reads a file leads where another does that goes on as it does
-  pub file_as : (files : Option ToldFiles) (name : List ℕ) (limit : ℕ) (old new : List Note) (o : Outcome) → ReadsFile files name limit next old new o → ReadsFile files name limit other old new o
+  pub file_as : (files : Option ExposedFiles) (name : List ℕ) (limit : ℕ) (old new : List Note) (o : Outcome) → ReadsFile files name limit next old new o → ReadsFile files name limit other old new o
   file_as files name limit old new o (fails failed is) = fails failed is
   file_as files name limit old new o (is_too_long more is) = is_too_long more is
   file_as files name limit old new o (goes_on bytes middle read later) = goes_on bytes middle read (on bytes middle new o later)
@@ -74,20 +74,20 @@ module _ (next other : Pairs → Scene → Course) (on : (tree : Pairs) (s : Sce
   tree_as (Err fault) old new o is = is
 
   -- and so does one that reads a diagram
-  pub diagram_as : (files : Option ToldFiles) (name : List ℕ) (old new : List Note) (o : Outcome) → ReadsDiagram files name next old new o → ReadsDiagram files name other old new o
+  pub diagram_as : (files : Option ExposedFiles) (name : List ℕ) (old new : List Note) (o : Outcome) → ReadsDiagram files name next old new o → ReadsDiagram files name other old new o
   diagram_as files name =
       file_as (TakesDiagram next) (TakesDiagram other) (λ bytes old new o is. (is.0, is.1, tree_as is.0 old new o is.2)) files name most_bytes
 
 -- a file that is not read is the end, whatever would go on
-pub file_ends : (files : Option ToldFiles) (name : List ℕ) (limit : ℕ) (next : List ℕ → Course) (old new : List Note) (o : Outcome) → ReadsFile files name limit never old new o → ReadsFile files name limit next old new o
+pub file_ends : (files : Option ExposedFiles) (name : List ℕ) (limit : ℕ) (next : List ℕ → Course) (old new : List Note) (o : Outcome) → ReadsFile files name limit never old new o → ReadsFile files name limit next old new o
 file_ends files name limit next = file_as never next (λ bytes old new o is. absurd is) files name limit
 
 -- a diagram that is not read is the end, whatever would go on
-pub diagram_ends : (files : Option ToldFiles) (name : List ℕ) (next : Pairs → Scene → Course) (old new : List Note) (o : Outcome) → ReadsDiagram files name never_two old new o → ReadsDiagram files name next old new o
+pub diagram_ends : (files : Option ExposedFiles) (name : List ℕ) (next : Pairs → Scene → Course) (old new : List Note) (o : Outcome) → ReadsDiagram files name never_two old new o → ReadsDiagram files name next old new o
 diagram_ends files name next = diagram_as never_two next (λ tree s old new o is. absurd is) files name
 
 -- where diagram and script are not both read, that is the end, whatever would go on
-pub script_ends : (files : Option ToldFiles) (diagram script : List ℕ) (next : Pairs → Scene → List (ℕ × Command) → Course) (old new : List Note) (o : Outcome)
+pub script_ends : (files : Option ExposedFiles) (diagram script : List ℕ) (next : Pairs → Scene → List (ℕ × Command) → Course) (old new : List Note) (o : Outcome)
     → ReadsScript files diagram script never_three old new o → ReadsScript files diagram script next old new o
 script_ends files diagram script next =
     diagram_as (λ tree s. ReadsFile files script most_script_bytes (λ bytes. never_three tree s (commands bytes))) (λ tree s. ReadsFile files script most_script_bytes (λ bytes. next tree s (commands bytes)))
@@ -95,7 +95,7 @@ script_ends files diagram script next =
     files diagram
 
 -- a diagram that is read goes on
-pub diagram_goes_on : (files : Option ToldFiles) (name : List ℕ) (next : Pairs → Scene → Course) (old middle new : List Note) (o : Outcome) (tree : Pairs) (scene : Scene)
+pub diagram_goes_on : (files : Option ExposedFiles) (name : List ℕ) (next : Pairs → Scene → Course) (old middle new : List Note) (o : Outcome) (tree : Pairs) (scene : Scene)
     → HasDiagram files name old middle tree scene → next tree scene middle new o → ReadsDiagram files name next old new o
 diagram_goes_on files name next old middle new o tree scene has later =
     goes_on has.bytes middle has.read
@@ -111,19 +111,19 @@ pub end_comes : (P : Outcome → Type 0) (notes : List Note) (r : Result Made St
 end_comes P notes r is = comes_as P (Ends P notes notes) (λ o said. (refl, said)) r is
 
 -- the result of a diagram that is read
-pub diagram_comes : (files : Option ToldFiles) (name : List ℕ) (next : Pairs → Scene → Course) (old middle new : List Note) (tree : Pairs) (scene : Scene) (r : Result Made Stop)
+pub diagram_comes : (files : Option ExposedFiles) (name : List ℕ) (next : Pairs → Scene → Course) (old middle new : List Note) (tree : Pairs) (scene : Scene) (r : Result Made Stop)
     → HasDiagram files name old middle tree scene → Comes (next tree scene middle new) r → Comes (ReadsDiagram files name next old new) r
 diagram_comes files name next old middle new tree scene r has is =
     comes_as (next tree scene middle new) (ReadsDiagram files name next old new) (λ o later. diagram_goes_on files name next old middle new o tree scene has later) r is
 
 -- the result of a second file that is read
-pub file_comes : (files : Option ToldFiles) (name : List ℕ) (limit : ℕ) (next : List ℕ → Course) (old middle new : List Note) (bytes : List ℕ) (r : Result Made Stop)
+pub file_comes : (files : Option ExposedFiles) (name : List ℕ) (limit : ℕ) (next : List ℕ → Course) (old middle new : List Note) (bytes : List ℕ) (r : Result Made Stop)
     → HasRead files name limit old middle bytes → Comes (next bytes middle new) r → Comes (ReadsFile files name limit next old new) r
 file_comes files name limit next old middle new bytes r read is =
     comes_as (next bytes middle new) (ReadsFile files name limit next old new) (λ o later. goes_on bytes middle read later) r is
 
 -- the result of a diagram and a script that are read
-pub script_comes : (files : Option ToldFiles) (diagram script : List ℕ) (P : Pairs → Scene → List (ℕ × Command) → Outcome → Type 0) (old new : List Note) (tree : Pairs) (scene : Scene)
+pub script_comes : (files : Option ExposedFiles) (diagram script : List ℕ) (P : Pairs → Scene → List (ℕ × Command) → Outcome → Type 0) (old new : List Note) (tree : Pairs) (scene : Scene)
     (list : List (ℕ × Command)) (r : Result Made Stop) → HasBoth files diagram script old new tree scene list → Comes (P tree scene list) r
     → Comes (ReadsScript files diagram script (λ tree s commands. Ends (P tree s commands)) old new) r
 script_comes files diagram script P old new tree scene list r has is =
@@ -134,16 +134,16 @@ script_comes files diagram script P old new tree scene list r has is =
 
 -- a stop that is passed
 pub stop_on : {T : Type 0} (P : Outcome → Type 0) (s : Stop) (r : Result T Stop) → StopsAt P s → IsErrAnd r (λ e. e ≡ s) → IfErr r (StopsAt P)
-stop_on P s (Ok x) is handed = tt
-stop_on P s (Err e) is handed = subst (StopsAt P) (sym handed) is
+stop_on P s (Ok x) is passed = tt
+stop_on P s (Err e) is passed = subst (StopsAt P) (sym passed) is
 
 -- the same where what is answered is a whole outcome
 pub comes_on : (P : Outcome → Type 0) (s : Stop) (r : Result Made Stop) → StopsAt P s → IsErrAnd r (λ e. e ≡ s) → Comes P r
-comes_on P s (Ok x) is handed = absurd handed
-comes_on P s (Err e) is handed = subst (StopsAt P) (sym handed) is
+comes_on P s (Ok x) is passed = absurd passed
+comes_on P s (Err e) is passed = subst (StopsAt P) (sym passed) is
 
 -- the result of a stopped read of a script, after a diagram
-pub script_unread : (files : Option ToldFiles) (diagram script : List ℕ) (old middle new : List Note) (tree : Pairs) (scene : Scene) → HasDiagram files diagram old middle tree scene → (s : Stop)
+pub script_unread : (files : Option ExposedFiles) (diagram script : List ℕ) (old middle new : List Note) (tree : Pairs) (scene : Scene) → HasDiagram files diagram old middle tree scene → (s : Stop)
     → StopsAt (ReadsFile files script most_script_bytes never middle new) s → StopsAt (ReadsScript files diagram script never_three old new) s
 script_unread files diagram script old middle new tree scene has s is =
     stops_as (ReadsFile files script most_script_bytes never middle new) (ReadsScript files diagram script never_three old new)
@@ -158,72 +158,72 @@ large_as None next other old new o on is = on is
 large_as (Some part) next other old new o on is = is
 
 -- what goes on with a small scene goes on
-pub small_goes_on : (files : Option ToldFiles) (name : List ℕ) (next : Scene → Course) (old middle new : List Note) (o : Outcome) (tree : Pairs) (scene : Scene)
+pub small_goes_on : (files : Option ExposedFiles) (name : List ℕ) (next : Scene → Course) (old middle new : List Note) (o : Outcome) (tree : Pairs) (scene : Scene)
     → HasSmall files name old middle tree scene → next scene middle new o → ReadsSmall files name next old new o
 small_goes_on files name next old middle new o tree scene is later =
     diagram_goes_on files name (λ tree s. UnlessLarge (too_large s) (next s)) old middle new o tree scene is.has
     (subst (λ (part : Option Part). UnlessLarge part (next scene) middle new o) (sym is.small) later)
 
 -- a diagram that is not read, or too large, is the end, whatever would go on
-pub small_ends : (files : Option ToldFiles) (name : List ℕ) (next : Scene → Course) (old new : List Note) (o : Outcome) → ReadsSmall files name never old new o → ReadsSmall files name next old new o
+pub small_ends : (files : Option ExposedFiles) (name : List ℕ) (next : Scene → Course) (old new : List Note) (o : Outcome) → ReadsSmall files name never old new o → ReadsSmall files name next old new o
 small_ends files name next =
     diagram_as (λ tree s. UnlessLarge (too_large s) (never s)) (λ tree s. UnlessLarge (too_large s) (next s))
     (λ tree s old new o is. large_as (too_large s) (never s) (next s) old new o (λ gone. absurd gone) is) files name
 
 -- the result of a small scene that is read
-pub small_comes : (files : Option ToldFiles) (name : List ℕ) (next : Scene → Course) (old middle new : List Note) (tree : Pairs) (scene : Scene) (r : Result Made Stop)
+pub small_comes : (files : Option ExposedFiles) (name : List ℕ) (next : Scene → Course) (old middle new : List Note) (tree : Pairs) (scene : Scene) (r : Result Made Stop)
     → HasSmall files name old middle tree scene → Comes (next scene middle new) r → Comes (ReadsSmall files name next old new) r
 small_comes files name next old middle new tree scene r is comes =
     comes_as (next scene middle new) (ReadsSmall files name next old new) (λ o later. small_goes_on files name next old middle new o tree scene is later) r comes
 
 -- where the diagram is not read, or too large, the run stops
-pub small_stops : (files : Option ToldFiles) (name : List ℕ) (next : Scene → Course) (old new : List Note) (s : Stop) (r : Result Made Stop)
+pub small_stops : (files : Option ExposedFiles) (name : List ℕ) (next : Scene → Course) (old new : List Note) (s : Stop) (r : Result Made Stop)
     → StopsAt (ReadsSmall files name never old new) s → IsErrAnd r (λ e. e ≡ s) → Comes (ReadsSmall files name next old new) r
-small_stops files name next old new s r stopped handed =
+small_stops files name next old new s r stopped passed =
     comes_on (ReadsSmall files name next old new) s r
-    (stops_as (ReadsSmall files name never old new) (ReadsSmall files name next old new) (small_ends files name next old new) s stopped) handed
+    (stops_as (ReadsSmall files name never old new) (ReadsSmall files name next old new) (small_ends files name next old new) s stopped) passed
 
 -- and so it does where the second file is not read
-pub second_stops : (files : Option ToldFiles) (name second : List ℕ) (limit : ℕ) (next : Scene → List ℕ → Course) (old middle new : List Note) (tree : Pairs) (scene : Scene) (s : Stop) (r : Result Made Stop)
+pub second_stops : (files : Option ExposedFiles) (name second : List ℕ) (limit : ℕ) (next : Scene → List ℕ → Course) (old middle new : List Note) (tree : Pairs) (scene : Scene) (s : Stop) (r : Result Made Stop)
     → HasSmall files name old middle tree scene → StopsAt (ReadsFile files second limit never middle new) s → IsErrAnd r (λ e. e ≡ s)
     → Comes (ReadsSmall files name (λ s. ReadsFile files second limit (next s)) old new) r
-second_stops files name second limit next old middle new tree scene s r is stopped handed =
+second_stops files name second limit next old middle new tree scene s r is stopped passed =
     comes_on (ReadsSmall files name (λ s. ReadsFile files second limit (next s)) old new) s r
     (stops_as (ReadsFile files second limit never middle new) (ReadsSmall files name (λ s. ReadsFile files second limit (next s)) old new)
-    (λ o end. small_goes_on files name (λ s. ReadsFile files second limit (next s)) old middle new o tree scene is (file_ends files second limit (next scene) middle new o end)) s stopped) handed
+    (λ o end. small_goes_on files name (λ s. ReadsFile files second limit (next s)) old middle new o tree scene is (file_ends files second limit (next scene) middle new o end)) s stopped) passed
 
 -- the result of a scene that is too large
-pub large_stops : (files : Option ToldFiles) (name : List ℕ) (old new : List Note) (tree : Pairs) (scene : Scene) → HasDiagram files name old new tree scene → (s : Stop)
+pub large_stops : (files : Option ExposedFiles) (name : List ℕ) (old new : List Note) (tree : Pairs) (scene : Scene) → HasDiagram files name old new tree scene → (s : Stop)
     → StopsAt (UnlessLarge (too_large scene) (never scene) new new) s → StopsAt (ReadsSmall files name never old new) s
 large_stops files name old new tree scene has s is =
     stops_as (UnlessLarge (too_large scene) (never scene) new new) (ReadsSmall files name never old new)
     (λ o large. diagram_goes_on files name (λ tree s. UnlessLarge (too_large s) (never s)) old new new o tree scene has large) s is
 
 -- and the result of a diagram that is not read
-pub unread_stops : (files : Option ToldFiles) (name : List ℕ) (old new : List Note) (s : Stop) → StopsAt (ReadsDiagram files name never_two old new) s → StopsAt (ReadsSmall files name never old new) s
+pub unread_stops : (files : Option ExposedFiles) (name : List ℕ) (old new : List Note) (s : Stop) → StopsAt (ReadsDiagram files name never_two old new) s → StopsAt (ReadsSmall files name never old new) s
 unread_stops files name old new s is =
     stops_as (ReadsDiagram files name never_two old new) (ReadsSmall files name never old new) (diagram_ends files name (λ tree s. UnlessLarge (too_large s) (never s)) old new) s is
 
 -- where the diagram is not read, the run stops
-pub diagram_stops : (files : Option ToldFiles) (name : List ℕ) (next : Pairs → Scene → Course) (old new : List Note) (s : Stop) (r : Result Made Stop)
+pub diagram_stops : (files : Option ExposedFiles) (name : List ℕ) (next : Pairs → Scene → Course) (old new : List Note) (s : Stop) (r : Result Made Stop)
     → StopsAt (ReadsDiagram files name never_two old new) s → IsErrAnd r (λ e. e ≡ s) → Comes (ReadsDiagram files name next old new) r
-diagram_stops files name next old new s r stopped handed =
+diagram_stops files name next old new s r stopped passed =
     comes_on (ReadsDiagram files name next old new) s r
-    (stops_as (ReadsDiagram files name never_two old new) (ReadsDiagram files name next old new) (diagram_ends files name next old new) s stopped) handed
+    (stops_as (ReadsDiagram files name never_two old new) (ReadsDiagram files name next old new) (diagram_ends files name next old new) s stopped) passed
 
 -- and so it does where diagram and script are not both read
-pub script_stops : (files : Option ToldFiles) (diagram script : List ℕ) (next : Pairs → Scene → List (ℕ × Command) → Course) (old new : List Note) (s : Stop) (r : Result Made Stop)
+pub script_stops : (files : Option ExposedFiles) (diagram script : List ℕ) (next : Pairs → Scene → List (ℕ × Command) → Course) (old new : List Note) (s : Stop) (r : Result Made Stop)
     → StopsAt (ReadsScript files diagram script never_three old new) s → IsErrAnd r (λ e. e ≡ s) → Comes (ReadsScript files diagram script next old new) r
-script_stops files diagram script next old new s r stopped handed =
+script_stops files diagram script next old new s r stopped passed =
     comes_on (ReadsScript files diagram script next old new) s r
-    (stops_as (ReadsScript files diagram script never_three old new) (ReadsScript files diagram script next old new) (script_ends files diagram script next old new) s stopped) handed
+    (stops_as (ReadsScript files diagram script never_three old new) (ReadsScript files diagram script next old new) (script_ends files diagram script next old new) s stopped) passed
 
 -- the result of a stopped read of a file, where a diagram was asked for
-pub file_stops : (files : Option ToldFiles) (name : List ℕ) (old new : List Note) (s : Stop) → StopsAt (ReadsFile files name most_bytes never old new) s → StopsAt (ReadsDiagram files name never_two old new) s
+pub file_stops : (files : Option ExposedFiles) (name : List ℕ) (old new : List Note) (s : Stop) → StopsAt (ReadsFile files name most_bytes never old new) s → StopsAt (ReadsDiagram files name never_two old new) s
 file_stops files name old new s is = stops_as _ _ (file_ends files name most_bytes (TakesDiagram never_two) old new) s is
 
 -- and the result for bytes that are not a valid diagram
-pub bytes_stop : {T : Type 0} (files : Option ToldFiles) (name bytes : List ℕ) (old new : List Note) (r : Result T Stop) → HasRead files name most_bytes old new bytes
+pub bytes_stop : {T : Type 0} (files : Option ExposedFiles) (name bytes : List ℕ) (old new : List Note) (r : Result T Stop) → HasRead files name most_bytes old new bytes
     → IfErr r (StopsAt (TakesDiagram never_two bytes new new)) → IfErr r (StopsAt (ReadsDiagram files name never_two old new))
 bytes_stop files name bytes old new (Ok x) read is = tt
 bytes_stop files name bytes old new (Err s) read is = stops_as (TakesDiagram never_two bytes new new) (ReadsDiagram files name never_two old new) (λ o later. goes_on bytes new read later) s is
@@ -234,17 +234,17 @@ answer_comes P (Err (Ended m)) made comes is = subst (λ (n : Made). P (view n))
 answer_comes P (Err Memory) made comes is = absurd (none-some made is)
 
 -- the outcome of the subcommand is the outcome of the arguments that ask for it
-pub words_come : (words : List (List ℕ)) (form : Option Form) (files : Option ToldFiles) (old new : List Note) (r : Result Made Stop) (a : Result Made AllocError) → form ≡ form_of words
+pub words_come : (words : List (List ℕ)) (form : Option Form) (files : Option ExposedFiles) (old new : List Note) (r : Result Made Stop) (a : Result Made AllocError) → form ≡ form_of words
     → Comes (IsFormOutcome form files old new) r → IfOk a (λ o. answer_in r ≡ Some o) → IfOk a (λ o. IsOutcome words files old new (view o))
 words_come words form files old new r (Err e) same comes is = tt
 words_come words form files old new r (Ok made) same comes is =
     subst (λ (f : Option Form). IsFormOutcome f files old new (view made)) same (answer_comes (IsFormOutcome form files old new) r made comes is)
 
 -- where no file is named, none is read
-pub none_in_order : (words : List (List ℕ)) (files : Option ToldFiles) (old : List Note) → ReadsInOrder words files old old
+pub none_in_order : (words : List (List ℕ)) (files : Option ExposedFiles) (old : List Note) → ReadsInOrder words files old old
 none_in_order words files old = record { gained = []; grown = sym (append-nil old); in_order = tt; second = λ two. absurd (omega (arith, two)) }
 
-module _ (words : List (List ℕ)) (form : Option Form) (files : Option ToldFiles) (old new : List Note) (same : form ≡ form_of words) where
+module _ (words : List (List ℕ)) (form : Option Form) (files : Option ExposedFiles) (old new : List Note) (same : form ≡ form_of words) where
   -- notes of the files that the subcommand names are of those that the arguments name
   in_order : (gained : List Note) → new ≡ old ++ gained → AreNotesOf (files_of form) gained → (1 < length gained → ReadsFirstAsDiagram files form old gained) → ReadsInOrder words files old new
   in_order gained grown are second = record {
@@ -285,7 +285,7 @@ module _ (words : List (List ℕ)) (form : Option Form) (files : Option ToldFile
         middle = middle;
         read = has.read;
         rest = last ∷ [];
-        behind = sym (ap (λ (ns : List Note). ns ++ last ∷ []) has.read.noted ∙ append_assoc old (first ∷ []) (last ∷ []));
+        joined = sym (ap (λ (ns : List Note). ns ++ last ∷ []) has.read.noted ∙ append_assoc old (first ∷ []) (last ∷ []));
         tree = tree;
         scene = scene;
         diagram = has.diagram;

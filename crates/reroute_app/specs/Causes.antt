@@ -1,6 +1,6 @@
 -- The causes of the statuses.
 use Rattle.std.specs.Prelude.{◌≡◌, ◌⊎◌, ℕ, ◌<◌, Bool, true, false, List, [], ◌∷◌, ◌++◌, Option, Some, None, Ok, Any, All, IsSome}
-use Rattle.host_edge.specs.Folder.{ToldFiles}
+use Rattle.host_edge.specs.Folder.{ExposedFiles}
 use Rattle.host_edge.specs.Note.{Note}
 use Rattle.plane_geom.specs.declared.point.Point.{Point}
 use Rattle.gml_text.specs.Tree.{Pairs}
@@ -38,7 +38,7 @@ abbrev pub LastTookMore : List Note → List Note → Type 0
 LastTookMore old new = (last : Note) × GainsLast old new last × (last.failed ≡ false) × (last.limit < last.taken)
 
 -- the diagram that the arguments name was read, and has these bytes
-abbrev pub HasReadDiagram : Option Form → Option ToldFiles → List Note → List Note → List ℕ → Type 0
+abbrev pub HasReadDiagram : Option Form → Option ExposedFiles → List Note → List Note → List ℕ → Type 0
 HasReadDiagram None files old new bytes = ⊥
 HasReadDiagram (Some (check diagram)) files old new bytes = HasRead files diagram most_bytes old new bytes
 HasReadDiagram (Some (route diagram script workers count)) files old new bytes = HasRead files diagram most_bytes old new bytes
@@ -66,7 +66,7 @@ pub record IsTooLarge (bytes : List ℕ) : Type 0 where
   pub diagram : IsDiagram bytes tree scene
   pub large : IsSome (too_large scene)
 
--- why the subcommand refuses the bytes: a check reads the lines too, and certificates want a small scene
+-- why the subcommand refuses the bytes: a check reads the lines too, and certificates need a small scene
 abbrev pub IsRefusedBy : Option Form → List ℕ → Type 0
 IsRefusedBy None bytes = ⊥
 IsRefusedBy (Some (check diagram)) bytes = IsNoDiagram bytes ⊎ HasNoLine bytes
@@ -78,13 +78,13 @@ IsRefusedBy (Some (prove diagram)) bytes = IsNoDiagram bytes ⊎ IsTooLarge byte
 IsRefusedBy (Some (audit diagram certificate)) bytes = IsNoDiagram bytes ⊎ IsTooLarge bytes
 
 -- the diagram was read, and is refused
-pub record FindsNoDiagram (words : List (List ℕ)) (files : Option ToldFiles) (old new : List Note) : Type 0 where
+pub record FindsNoDiagram (words : List (List ℕ)) (files : Option ExposedFiles) (old new : List Note) : Type 0 where
   pub bytes : List ℕ
   pub read : HasReadDiagram (form_of words) files old new bytes
   pub refused : IsRefusedBy (form_of words) bytes
 
 -- the diagram that is to be checked was read, and all its lines were
-pub record FindsLines (words : List (List ℕ)) (files : Option ToldFiles) (old new : List Note) (tree : Pairs) (scene : Scene) : Type 0 where
+pub record FindsLines (words : List (List ℕ)) (files : Option ExposedFiles) (old new : List Note) (tree : Pairs) (scene : Scene) : Type 0 where
   pub name : List ℕ
   pub form : form_of words ≡ Some (check name)
   pub bytes : List ℕ
@@ -105,28 +105,28 @@ HasNoBadLine tree s e =
     is_loop e ≡ false → (points : List Point) → line_of tree e ≡ Ok (Some points) → IsLegalLine (solids s) (task_of s e) points
 
 -- the line of an edge of the diagram is not legal
-pub record FindsBadLine (words : List (List ℕ)) (files : Option ToldFiles) (old new : List Note) : Type 0 where
+pub record FindsBadLine (words : List (List ℕ)) (files : Option ExposedFiles) (old new : List Note) : Type 0 where
   pub tree : Pairs
   pub scene : Scene
   pub found : FindsLines words files old new tree scene
   pub bad : Any (HasBadLine tree scene) scene.edges
 
 -- all lines of the diagram are legal
-pub record FindsLegalLines (words : List (List ℕ)) (files : Option ToldFiles) (old new : List Note) : Type 0 where
+pub record FindsLegalLines (words : List (List ℕ)) (files : Option ExposedFiles) (old new : List Note) : Type 0 where
   pub tree : Pairs
   pub scene : Scene
   pub found : FindsLines words files old new tree scene
   pub legal : All (HasNoBadLine tree scene) scene.edges
 
 -- a diagram was read and then a second file, which has these bytes
-pub record HasReadBoth (files : Option ToldFiles) (diagram second : List ℕ) (limit : ℕ) (old new : List Note) (tree : Pairs) (scene : Scene)
+pub record HasReadBoth (files : Option ExposedFiles) (diagram second : List ℕ) (limit : ℕ) (old new : List Note) (tree : Pairs) (scene : Scene)
     (bytes : List ℕ) : Type 0 where
   pub middle : List Note
   pub first : HasDiagram files diagram old middle tree scene
   pub read : HasRead files second limit middle new bytes
 
 -- diagram and script were read, and `refused` says whether a command of the script, or its end, is refused
-pub record FindsReplay (words : List (List ℕ)) (files : Option ToldFiles) (old new : List Note) (refused : Bool) : Type 0 where
+pub record FindsReplay (words : List (List ℕ)) (files : Option ExposedFiles) (old new : List Note) (refused : Bool) : Type 0 where
   pub diagram : List ℕ
   pub script : List ℕ
   pub workers : ℕ
@@ -141,7 +141,7 @@ pub record FindsReplay (words : List (List ℕ)) (files : Option ToldFiles) (old
   pub refusal : has_refusal replies (world_after scene (commands bytes)) ≡ refused
 
 -- diagram and script were read, and this says whether a proposal of the script, a line of it or its end is refused
-pub record FindsPreviews (words : List (List ℕ)) (files : Option ToldFiles) (old new : List Note) (refused : Bool) : Type 0 where
+pub record FindsPreviews (words : List (List ℕ)) (files : Option ExposedFiles) (old new : List Note) (refused : Bool) : Type 0 where
   pub diagram : List ℕ
   pub script : List ℕ
   pub workers : ℕ
@@ -154,7 +154,7 @@ pub record FindsPreviews (words : List (List ℕ)) (files : Option ToldFiles) (o
   pub proposes : Proposes scene (commands bytes) text refused
 
 -- the diagram whose shared paths are asked for was read
-pub record FindsShared (words : List (List ℕ)) (files : Option ToldFiles) (old new : List Note) : Type 0 where
+pub record FindsShared (words : List (List ℕ)) (files : Option ExposedFiles) (old new : List Note) : Type 0 where
   pub diagram : List ℕ
   pub form : form_of words ≡ Some (shared diagram)
   pub tree : Pairs
@@ -162,7 +162,7 @@ pub record FindsShared (words : List (List ℕ)) (files : Option ToldFiles) (old
   pub read : HasDiagram files diagram old new tree scene
 
 -- the diagram that is to have a certificate was read, and is small enough
-pub record FindsSmall (words : List (List ℕ)) (files : Option ToldFiles) (old new : List Note) : Type 0 where
+pub record FindsSmall (words : List (List ℕ)) (files : Option ExposedFiles) (old new : List Note) : Type 0 where
   pub diagram : List ℕ
   pub form : form_of words ≡ Some (prove diagram)
   pub tree : Pairs
@@ -171,7 +171,7 @@ pub record FindsSmall (words : List (List ℕ)) (files : Option ToldFiles) (old 
   pub small : too_large scene ≡ None
 
 -- diagram and certificate were read, and this says whether the certificate proves the scene
-pub record FindsAudit (words : List (List ℕ)) (files : Option ToldFiles) (old new : List Note) (proved : Bool) : Type 0 where
+pub record FindsAudit (words : List (List ℕ)) (files : Option ExposedFiles) (old new : List Note) (proved : Bool) : Type 0 where
   pub diagram : List ℕ
   pub certificate : List ℕ
   pub form : form_of words ≡ Some (audit diagram certificate)
@@ -184,11 +184,11 @@ pub record FindsAudit (words : List (List ℕ)) (files : Option ToldFiles) (old 
   pub audits : Audits scene bytes text proved
 
 -- the file is not a certificate, or does not prove the scene
-abbrev pub FindsNoProof : List (List ℕ) → Option ToldFiles → List Note → List Note → Type 0
+abbrev pub FindsNoProof : List (List ℕ) → Option ExposedFiles → List Note → List Note → Type 0
 FindsNoProof words files old new = FindsAudit words files old new false
 
 -- diagram and certificate were read, and each claim of the certificate is true of the scene
-pub record FindsTrueClaims (files : Option ToldFiles) (diagram certificate : List ℕ) (old new : List Note) : Type 0 where
+pub record FindsTrueClaims (files : Option ExposedFiles) (diagram certificate : List ℕ) (old new : List Note) : Type 0 where
   pub tree : Pairs
   pub scene : Scene
   pub bytes : List ℕ
@@ -196,16 +196,16 @@ pub record FindsTrueClaims (files : Option ToldFiles) (diagram certificate : Lis
   pub claims : HasTrueClaims scene bytes
 
 -- where the arguments ask for an audit, the certificate claims what is true
-abbrev pub ClaimsAreTrue : List (List ℕ) → Option ToldFiles → List Note → List Note → Type 0
+abbrev pub ClaimsAreTrue : List (List ℕ) → Option ExposedFiles → List Note → List Note → Type 0
 ClaimsAreTrue words files old new =
     (diagram certificate : List ℕ) → form_of words ≡ Some (audit diagram certificate) → FindsTrueClaims files diagram certificate old new
 
 -- something is refused
-abbrev pub FindsRefusal : List (List ℕ) → Option ToldFiles → List Note → List Note → Type 0
+abbrev pub FindsRefusal : List (List ℕ) → Option ExposedFiles → List Note → List Note → Type 0
 FindsRefusal words files old new = FindsReplay words files old new true ⊎ FindsPreviews words files old new true
 
 -- there is no cause for any other status
-pub data FindsNothing (words : List (List ℕ)) (files : Option ToldFiles) (old new : List Note) : Type 0 where
+pub data FindsNothing (words : List (List ℕ)) (files : Option ExposedFiles) (old new : List Note) : Type 0 where
   lines_are_legal : FindsLegalLines words files old new → FindsNothing words files old new
   nothing_is_refused : FindsReplay words files old new false → FindsNothing words files old new
   is_made : (seed : ℕ) → form_of words ≡ Some (make seed) → FindsNothing words files old new

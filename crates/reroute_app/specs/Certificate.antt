@@ -1,6 +1,6 @@
 -- What is said of certificates.
 use Rattle.std.specs.Prelude.{◌≡◌, ℕ, Bool, true, false, List, Option, Some, None}
-use Rattle.host_edge.specs.Folder.{ToldFiles}
+use Rattle.host_edge.specs.Folder.{ExposedFiles}
 use Rattle.scene_model.specs.Scene.{Scene}
 use Rattle.diagram_read.specs.declared.fault.Part.{Part}
 use Rattle.diagram_read.specs.declared.fault.DiagramFault.TheVariants.{TooMany}
@@ -23,7 +23,7 @@ UnlessLarge None next = next
 UnlessLarge (Some part) next = EndsWith (unsearched Diagram (fault_line (TooMany part)))
 
 -- the file is read as a diagram, and the course goes on with its scene, unless that is too large to have a certificate
-abbrev pub ReadsSmall : Option ToldFiles → List ℕ → (Scene → Course) → Course
+abbrev pub ReadsSmall : Option ExposedFiles → List ℕ → (Scene → Course) → Course
 ReadsSmall files name next = ReadsDiagram files name (λ tree s. UnlessLarge (too_large s) (next s))
 
 -- the certificate of the scene

@@ -1,6 +1,6 @@
 -- The read of a diagram.
 use Rattle.std.specs.Prelude.{◌≡◌, ℕ, List, Option, Result, Ok, Err}
-use Rattle.host_edge.specs.Folder.{ToldFiles}
+use Rattle.host_edge.specs.Folder.{ExposedFiles}
 use Rattle.gml_text.specs.Tree.{Pairs}
 use Rattle.gml_text.specs.Parse.{IsDocument, ParsesAs}
 use Rattle.gml_text.specs.declared.fault.GmlFault.{GmlFault}
@@ -23,7 +23,7 @@ pub record IsDiagram (bytes : List ℕ) (tree : Pairs) (scene : Scene) : Type 0 
   pub is_scene : scene_of tree ≡ Ok scene
 
 -- the file was read, and is the diagram of this tree and this scene
-pub record HasDiagram (files : Option ToldFiles) (name : List ℕ) (old new : List Note) (tree : Pairs) (scene : Scene) : Type 0 where
+pub record HasDiagram (files : Option ExposedFiles) (name : List ℕ) (old new : List Note) (tree : Pairs) (scene : Scene) : Type 0 where
   pub bytes : List ℕ
   pub read : HasRead files name most_bytes old new bytes
   pub diagram : IsDiagram bytes tree scene
@@ -43,5 +43,5 @@ abbrev pub TakesDiagram : (Pairs → Scene → Course) → List ℕ → Course
 TakesDiagram next bytes old new o = (read : Result Pairs GmlFault) × ParsesAs bytes read × TakesTree next read old new o
 
 -- the file with the name is read as a diagram, and the course continues with its tree and its scene
-abbrev pub ReadsDiagram : Option ToldFiles → List ℕ → (Pairs → Scene → Course) → Course
+abbrev pub ReadsDiagram : Option ExposedFiles → List ℕ → (Pairs → Scene → Course) → Course
 ReadsDiagram files name next = ReadsFile files name most_bytes (TakesDiagram next)

@@ -1,16 +1,16 @@
 -- The read of a file.
 use Rattle.std.specs.Prelude.{◌≡◌, ℕ, ◌<◌, ◌≤◌, true, false, List, length, Option, Some, IfSome, IsSomeAnd}
-use Rattle.host_edge.specs.Folder.{ToldFiles, file_named, GainsNote}
+use Rattle.host_edge.specs.Folder.{ExposedFiles, file_named, GainsNote}
 use Rattle.host_edge.specs.Note.{Note}
 use Rattle.report_text.specs.Files.{read_fault_line, too_long_line}
 use Rattle.reroute_app.specs.declared.status.Status.TheVariants as status
 use Rattle.reroute_app.specs.Outcome.{Outcome, Course, unsearched}
 
 -- the file with the name was read, and has these bytes
-pub record HasRead (files : Option ToldFiles) (name : List ℕ) (limit : ℕ) (old new : List Note) (bytes : List ℕ) : Type 0 where
+pub record HasRead (files : Option ExposedFiles) (name : List ℕ) (limit : ℕ) (old new : List Note) (bytes : List ℕ) : Type 0 where
   pub noted : GainsNote old new name limit (length bytes) false
   pub short : length bytes ≤ limit
-  pub told : IfSome files (λ named. file_named named name ≡ Some bytes)
+  pub exposed : IfSome files (λ named. file_named named name ≡ Some bytes)
 
 -- the read failed
 pub record HasFailed (name : List ℕ) (limit : ℕ) (old new : List Note) : Type 0 where
@@ -18,14 +18,14 @@ pub record HasFailed (name : List ℕ) (limit : ℕ) (old new : List Note) : Typ
   pub noted : GainsNote old new name limit taken true
 
 -- the file has more bytes than the limit
-pub record HasMore (files : Option ToldFiles) (name : List ℕ) (limit : ℕ) (old new : List Note) : Type 0 where
+pub record HasMore (files : Option ExposedFiles) (name : List ℕ) (limit : ℕ) (old new : List Note) : Type 0 where
   pub taken : ℕ
   pub more : limit < taken
   pub noted : GainsNote old new name limit taken false
-  pub told : IfSome files (λ named. IsSomeAnd (file_named named name) (λ bytes. limit < length bytes))
+  pub exposed : IfSome files (λ named. IsSomeAnd (file_named named name) (λ bytes. limit < length bytes))
 
 -- a file is read: that fails, or it is too long, or the course continues with its bytes
-pub data ReadsFile (files : Option ToldFiles) (name : List ℕ) (limit : ℕ) (next : List ℕ → Course) (old new : List Note) (o : Outcome) : Type 0 where
+pub data ReadsFile (files : Option ExposedFiles) (name : List ℕ) (limit : ℕ) (next : List ℕ → Course) (old new : List Note) (o : Outcome) : Type 0 where
   fails : HasFailed name limit old new → o ≡ unsearched status.ReadFault (read_fault_line name) → ReadsFile files name limit next old new o
   is_too_long : HasMore files name limit old new → o ≡ unsearched status.TooLong (too_long_line name limit) → ReadsFile files name limit next old new o
   goes_on : (bytes : List ℕ) (middle : List Note) → HasRead files name limit old middle bytes → next bytes middle new o

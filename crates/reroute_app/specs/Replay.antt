@@ -1,6 +1,6 @@
 -- The outcome of a replay of a script on a diagram.
 use Rattle.std.specs.Prelude.{◌≡◌, ℕ, Bool, true, false, List, Option, Some}
-use Rattle.host_edge.specs.Folder.{ToldFiles}
+use Rattle.host_edge.specs.Folder.{ExposedFiles}
 use Rattle.gml_text.specs.Tree.{Pairs}
 use Rattle.scene_model.specs.declared.edit.Command.{Command}
 use Rattle.scene_model.specs.Scene.{Scene}
@@ -17,7 +17,7 @@ abbrev pub most_script_bytes : ℕ
 most_script_bytes = 4194304
 
 -- a diagram is read and then a script, and the course goes on with the tree, the scene and the commands
-abbrev pub ReadsScript : Option ToldFiles → List ℕ → List ℕ → (Pairs → Scene → List (ℕ × Command) → Course) → Course
+abbrev pub ReadsScript : Option ExposedFiles → List ℕ → List ℕ → (Pairs → Scene → List (ℕ × Command) → Course) → Course
 ReadsScript files diagram script next =
     ReadsDiagram files diagram (λ tree s. ReadsFile files script most_script_bytes (λ bytes. next tree s (commands_of bytes)))
 

@@ -1,7 +1,7 @@
 -- The outcome of the arguments and of the files that they name.
 use Rattle.std.specs.Prelude.{◌≡◌, ℕ, ◌<◌, List, [], ◌∷◌, ◌++◌, length, slice_get, Option, Some, None, IfSome}
 use Rattle.std.specs.Io.KnownBytes.{append_known}
-use Rattle.host_edge.specs.Folder.{ToldFiles}
+use Rattle.host_edge.specs.Folder.{ExposedFiles}
 use Rattle.host_edge.specs.Note.{Note}
 use Rattle.host_edge.specs.Sink.{AppendsPart}
 use Rattle.gml_text.specs.Tree.{Pairs}
@@ -23,7 +23,7 @@ use Rattle.form_certificate.specs.Sizes.{too_large}
 use Rattle.reroute_app.specs.Certificate.{most_certificate_bytes, AuditsCertificate, ReadsSmall, WritesCertificate}
 
 -- the course of a subcommand, whether the files are exposed or not
-abbrev pub IsFormOutcome : Option Form → Option ToldFiles → Course
+abbrev pub IsFormOutcome : Option Form → Option ExposedFiles → Course
 IsFormOutcome None files = EndsWith (unsearched Words words_line)
 IsFormOutcome (Some (check diagram)) files = ReadsDiagram files diagram (λ tree s. Ends (Checks tree s))
 IsFormOutcome (Some (route diagram script workers count)) files = ReadsScript files diagram script (λ tree s commands. Ends (Replays tree s commands count))
@@ -35,22 +35,22 @@ IsFormOutcome (Some (audit diagram certificate)) files =
     ReadsSmall files diagram (λ s. ReadsFile files certificate most_certificate_bytes (λ bytes. Ends (AuditsCertificate s bytes)))
 
 -- the outcome of the arguments, of the files if they are exposed, and of the reads in the notes
-abbrev pub IsOutcome : List (List ℕ) → Option ToldFiles → Course
+abbrev pub IsOutcome : List (List ℕ) → Option ExposedFiles → Course
 IsOutcome words = IsFormOutcome (form_of words)
 
 -- these have at most one outcome
-abbrev pub HasOneOutcome : List (List ℕ) → Option ToldFiles → List Note → List Note → Type 0
+abbrev pub HasOneOutcome : List (List ℕ) → Option ExposedFiles → List Note → List Note → Type 0
 HasOneOutcome words files old new = (a b : Outcome) → IsOutcome words files old new a → IsOutcome words files old new b → a ≡ b
 
 -- the status is that of the outcome, and all its output was written
-pub record Writes (words : List (List ℕ)) (files : Option ToldFiles) (old new : List Note) (before after : Option (List ℕ)) (result : Status) : Type 0 where
+pub record Writes (words : List (List ℕ)) (files : Option ExposedFiles) (old new : List Note) (before after : Option (List ℕ)) (result : Status) : Type 0 where
   pub outcome : Outcome
   pub is_outcome : IsOutcome words files old new outcome
   pub status : result ≡ outcome.status
   pub written : after ≡ append_known before outcome.text
 
 -- a prefix of the outcome's output was written
-pub record WritesPart (words : List (List ℕ)) (files : Option ToldFiles) (old new : List Note) (before after : Option (List ℕ)) : Type 0 where
+pub record WritesPart (words : List (List ℕ)) (files : Option ExposedFiles) (old new : List Note) (before after : Option (List ℕ)) : Type 0 where
   pub outcome : Outcome
   pub is_outcome : IsOutcome words files old new outcome
   pub part : AppendsPart before after outcome.text
@@ -78,28 +78,28 @@ ReadsOnWith (Some (audit diagram certificate)) s = too_large s ≡ None
 ReadsOnWith other s = Unit {0}
 
 -- the first of these notes is of the first file that the subcommand names, which is a diagram after which it reads on
-pub record ReadsFirstAsDiagram (files : Option ToldFiles) (form : Option Form) (old gained : List Note) : Type 0 where
+pub record ReadsFirstAsDiagram (files : Option ExposedFiles) (form : Option Form) (old gained : List Note) : Type 0 where
   pub first : List ℕ × ℕ
   pub is_first : slice_get (files_of form) 0 ≡ Some first
   pub bytes : List ℕ
   pub middle : List Note
   pub read : HasRead files first.0 first.1 old middle bytes
   pub rest : List Note
-  pub behind : old ++ gained ≡ middle ++ rest
+  pub joined : old ++ gained ≡ middle ++ rest
   pub tree : Pairs
   pub scene : Scene
   pub diagram : IsDiagram bytes tree scene
   pub reads_on : ReadsOnWith form scene
 
 -- the files that were read are the first of those that the arguments name, each once and with its limit; a second one only after a valid diagram
-pub record ReadsInOrder (words : List (List ℕ)) (files : Option ToldFiles) (old new : List Note) : Type 0 where
+pub record ReadsInOrder (words : List (List ℕ)) (files : Option ExposedFiles) (old new : List Note) : Type 0 where
   pub gained : List Note
   pub grown : new ≡ old ++ gained
   pub in_order : AreNotesOf (files_of (form_of words)) gained
   pub second : 1 < length gained → ReadsFirstAsDiagram files (form_of words) old gained
 
 -- the count rose by the searches of the outcome, if their number is defined
-pub record Tallies (words : List (List ℕ)) (files : Option ToldFiles) (old new : List Note) (before after : ℕ) : Type 0 where
+pub record Tallies (words : List (List ℕ)) (files : Option ExposedFiles) (old new : List Note) (before after : ℕ) : Type 0 where
   pub outcome : Outcome
   pub is_outcome : IsOutcome words files old new outcome
   pub searched : IfSome outcome.searched (λ searched. after ≡ counted_by searched before)

@@ -1,6 +1,6 @@
 -- The models of the code's own types. No public clause cites this module.
 use Rattle.std.specs.Prelude.{◌≡◌, ◌⊎◌, ℕ, Bool, List, Some, None, Option, Result, Ok, Err}
-use Rattle.host_edge.specs.Folder.{ToldFiles, GainsNote}
+use Rattle.host_edge.specs.Folder.{ExposedFiles, GainsNote}
 use Rattle.host_edge.specs.Note.{Note}
 use Rattle.gml_text.specs.Tree.{Pairs}
 use Rattle.scene_model.specs.declared.edit.Command.{Command}
@@ -50,13 +50,13 @@ abbrev pub NotesOne : List ℕ → ℕ → List Note → List Note → Type 0
 NotesOne name limit old new = (new ≡ old) ⊎ ((taken : ℕ) × (failed : Bool) × GainsNote old new name limit taken failed)
 
 -- only the diagram was read, if it was; or also a second file with its limit, after a diagram whose scene meets the condition
-pub data NotesTwo (files : Option ToldFiles) (diagram second : List ℕ) (limit : ℕ) (Fits : Scene → Type 0) (old new : List Note) : Type 0 where
+pub data NotesTwo (files : Option ExposedFiles) (diagram second : List ℕ) (limit : ℕ) (Fits : Scene → Type 0) (old new : List Note) : Type 0 where
   of_diagram : NotesOne diagram most_bytes old new → NotesTwo files diagram second limit Fits old new
   of_both : (middle : List Note) (tree : Pairs) (scene : Scene) → HasDiagram files diagram old middle tree scene → Fits scene → NotesOne second limit middle new
       → NotesTwo files diagram second limit Fits old new
 
 -- the file was read, and is the diagram of this tree and this scene, which is small enough to have a certificate
-pub record HasSmall (files : Option ToldFiles) (name : List ℕ) (old new : List Note) (tree : Pairs) (scene : Scene) : Type 0 where
+pub record HasSmall (files : Option ExposedFiles) (name : List ℕ) (old new : List Note) (tree : Pairs) (scene : Scene) : Type 0 where
   pub has : HasDiagram files name old new tree scene
   pub small : too_large scene ≡ None
 
@@ -69,13 +69,13 @@ abbrev pub AnyScene : Scene → Type 0
 AnyScene s = Unit {0}
 
 -- the script was read, and has these commands
-pub record HasCommands (files : Option ToldFiles) (name : List ℕ) (old new : List Note) (list : List (ℕ × Command)) : Type 0 where
+pub record HasCommands (files : Option ExposedFiles) (name : List ℕ) (old new : List Note) (list : List (ℕ × Command)) : Type 0 where
   pub bytes : List ℕ
   pub read : HasRead files name most_script_bytes old new bytes
   pub are_commands : list ≡ commands bytes
 
 -- diagram and script were read: this is the diagram's tree and scene, and these are the commands
-pub record HasBoth (files : Option ToldFiles) (diagram script : List ℕ) (old new : List Note) (tree : Pairs) (scene : Scene)
+pub record HasBoth (files : Option ExposedFiles) (diagram script : List ℕ) (old new : List Note) (tree : Pairs) (scene : Scene)
     (list : List (ℕ × Command)) : Type 0 where
   pub middle : List Note
   pub has_diagram : HasDiagram files diagram old middle tree scene

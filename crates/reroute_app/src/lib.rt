@@ -3,7 +3,7 @@
 
 ghost use Rattle.std.specs.Prelude.{◌≡◌, ◌≢◌, ◌≤◌, ◌↔◌, ℕ, List, Option, None, map, string_bytes, IsSome};
 ghost use Rattle.host_edge.specs.Count.{NeverFalls, Rose};
-ghost use Rattle.host_edge.specs.Folder.{ToldFiles};
+ghost use Rattle.host_edge.specs.Folder.{ExposedFiles};
 ghost use Rattle.host_edge.specs.Note.{Note};
 ghost use Rattle.command_words.specs.Words.{form_of};
 ghost use Rattle.reroute_app.specs.Causes.{ClaimsAreTrue, FindsBadLine, FindsNoDiagram, FindsNoProof, FindsNothing, FindsRefusal, LastFailed, LastTookMore};
@@ -192,7 +192,7 @@ pub fn run<R: Threads + Sync, F: Folder, O: Sink>(
 /// For given arguments, exposed files and notes there is exactly one outcome, and so one output and
 /// one status, whatever the files contain.
 pub fn one_outcome()
-    ensures { (words : List (List ℕ)) (files : Option ToldFiles) (old new : List Note) → IsSome files →
+    ensures { (words : List (List ℕ)) (files : Option ExposedFiles) (old new : List Note) → IsSome files →
         HasOneOutcome words files old new }
 {
     checks_come_to_one();

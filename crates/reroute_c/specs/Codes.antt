@@ -8,7 +8,7 @@ use Rattle.scene_model.specs.declared.edit.Command.{Command}
 use Rattle.editor_files.specs.Drawing.{DrawingState, IsDrawingCall}
 use Rattle.reroute_c.specs.declared.fault.Fault.{Fault}
 
--- nothing is refused; what is asked for has no form; a session is open; there is no session; there is no memory
+-- nothing is refused; what is asked for is not valid; a session is open; there is no session; there is no memory
 abbrev pub no_fault : Fault
 no_fault = record { code = 0; value = pos 0 }
 

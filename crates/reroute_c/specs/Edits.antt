@@ -3,7 +3,7 @@ use Rattle.std.specs.Prelude.{◌≡◌, ◌||◌, ℕ, Bool, Option, None, Some
 use Rattle.scene_model.specs.declared.pin.Dirs.{Dirs}
 use Rattle.scene_model.specs.Scene.{Scene}
 use Rattle.scene_model.specs.World.{World}
-use Rattle.editor_files.specs.Drawing.{DrawingState, GivesUp}
+use Rattle.editor_files.specs.Drawing.{DrawingState, RollsBack}
 use Rattle.reroute_c.specs.declared.edits.Directions.{Directions}
 use Rattle.reroute_c.specs.declared.fault.Fault.{Fault}
 use Rattle.reroute_c.specs.Codes.{syntax_fault}
@@ -25,6 +25,6 @@ edited_scene (Some working) present = working
 abbrev pub next_edge : World → ℕ
 next_edge w = (edited_scene w.working w.present).next_edge
 
--- what was asked for has no form, and the transaction is dropped
-abbrev pub IsGivenUp : Fault → DrawingState → DrawingState → Type 0
-IsGivenUp fault old new = (fault ≡ syntax_fault) × GivesUp old new
+-- what was asked for is not valid, and the transaction is dropped
+abbrev pub IsRolledBack : Fault → DrawingState → DrawingState → Type 0
+IsRolledBack fault old new = (fault ≡ syntax_fault) × RollsBack old new

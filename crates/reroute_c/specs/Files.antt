@@ -30,7 +30,7 @@ part_number Via = 5
 abbrev pub part_fault : ℕ → Part → ℕ → Fault
 part_fault code part place = numbered (code + part_number part) place
 
--- a fault at an offset, which is told up to the greatest number
+-- a fault at an offset, which is reported up to the greatest number
 abbrev pub offset_fault : ℕ → ℕ → Fault
 offset_fault code at = numbered code (min at (2 ^ 63 - 1))
 
@@ -40,7 +40,7 @@ text_fault (gml.Syntax at) = offset_fault 101 at
 text_fault (gml.TooDeep at) = offset_fault 102 at
 text_fault gml.Memory = memory_fault
 
--- why a document is no diagram
+-- why a document is not a valid diagram
 abbrev pub diagram_fault : DiagramFault → Fault
 diagram_fault diagrams.NoGraph = numbered 103 0
 diagram_fault (diagrams.BadId place) = numbered 104 place
@@ -61,7 +61,7 @@ open_fault (opens.Text fault) = text_fault fault
 open_fault (opens.Diagram fault) = diagram_fault fault
 open_fault opens.Memory = memory_fault
 
--- the text opens no session, and this is told
+-- the text opens no session, and this is reported
 abbrev pub IsUnopened : List ℕ → Fault → Type 0
 IsUnopened text fault = (why : OpenFault) × IsOpenFault text why × (fault ≡ open_fault why)
 
@@ -72,7 +72,7 @@ put_front n text old = take n text ++ drop n old
 abbrev pub overlaid : List ℕ → List ℕ → List ℕ
 overlaid text old = put_front (min (length text) (length old)) text old
 
--- the diagram is written as far as there is room, and its whole length is told
+-- the diagram is written as far as there is room, and its whole length is reported
 abbrev pub IsWrittenTo : DrawingState → List ℕ → List ℕ → ℕ → Type 0
 IsWrittenTo d old new count = (text : List ℕ) × IsWritten d text × (new ≡ overlaid text old) × (count ≡ length text)
 
@@ -89,18 +89,18 @@ abbrev pub stop_line : Option Stopped → ℕ
 stop_line None = 0
 stop_line (Some stopped) = stopped.line
 
--- what is told of the commands that are played
-pub record TellsPlayed (commands : List (ℕ × Command)) (fault : Fault) (line : ℕ) (old new : DrawingState) : Type 0 where
+-- what is reported of the commands that are played
+pub record ReportsPlayed (commands : List (ℕ × Command)) (fault : Fault) (line : ℕ) (old new : DrawingState) : Type 0 where
   pub stopped : Option Stopped
   pub played : IsPlayed commands stopped old new
   pub is_fault : fault ≡ stop_fault stopped
   pub is_line : line ≡ stop_line stopped
 
 -- no memory is left before the first command
-pub record TellsUnplayed (fault : Fault) (line : ℕ) (old new : DrawingState) : Type 0 where
+pub record ReportsUnplayed (fault : Fault) (line : ℕ) (old new : DrawingState) : Type 0 where
   pub same : new ≡ old
   pub is_fault : fault ≡ memory_fault
   pub is_line : line ≡ 0
 
-abbrev pub TellsScript : List (ℕ × Command) → Fault → ℕ → DrawingState → DrawingState → Type 0
-TellsScript commands fault line old new = TellsPlayed commands fault line old new ⊎ TellsUnplayed fault line old new
+abbrev pub ReportsScript : List (ℕ × Command) → Fault → ℕ → DrawingState → DrawingState → Type 0
+ReportsScript commands fault line old new = ReportsPlayed commands fault line old new ⊎ ReportsUnplayed fault line old new

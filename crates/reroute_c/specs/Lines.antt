@@ -23,8 +23,8 @@ abbrev pub no_line : Line
 no_line = record { connector = 0; corners = 0; changed = false }
 
 -- a line, and whether it is none of these
-abbrev pub told_line : DrawingState → WrittenRoute → Line
-told_line d l = record {
+abbrev pub reported_line : DrawingState → WrittenRoute → Line
+reported_line d l = record {
   connector = l.edge;
   corners = length l.points;
   changed = not (list_any (λ m. is_same_line m l) d.lines_before);
@@ -33,7 +33,7 @@ told_line d l = record {
 -- the line that was found, if one was
 abbrev pub found_line : DrawingState → Option WrittenRoute → Line
 found_line d None = no_line
-found_line d (Some l) = told_line d l
+found_line d (Some l) = reported_line d l
 
 -- the line at a place, from 0, of those that were asked for last
 abbrev pub line_at : DrawingState → ℕ → Line

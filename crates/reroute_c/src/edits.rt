@@ -3,7 +3,7 @@
 //! Each is refused as the working scene refuses it; then no transaction is open any more.
 ghost use Rattle.std.specs.Prelude.{◌≡◌, ◌≢◌, IfSome, IsNone, IsSome, false, true};
 ghost use Rattle.reroute_c.specs.Codes.{IsAnswered};
-ghost use Rattle.reroute_c.specs.Edits.{IsGivenUp, dirs_of, has_direction, next_edge};
+ghost use Rattle.reroute_c.specs.Edits.{IsRolledBack, dirs_of, has_direction, next_edge};
 ghost use Rattle.reroute_c.specs.Open.{IfOpen, IsRefusedClosed};
 ghost use Rattle.scene_model.specs.Edits.{IsDirected};
 ghost use Rattle.scene_model.specs.declared.edit.Command.TheVariants as commands;
@@ -98,7 +98,7 @@ pub extern "C" fn reroute_add_pin(
     ensures closed { IsNone handle.old.drawing → IsRefusedClosed result handle.new.drawing }
     ensures open { IsSome handle.old.drawing → IsSome handle.new.drawing }
     ensures call { has_direction directions ≡ true → IfOpen handle.old.drawing handle.new.drawing (IsAnswered (commands.Edit (edits.AddPin id class dx dy (dirs_of directions))) result) }
-    ensures undirected { has_direction directions ≡ false → IfOpen handle.old.drawing handle.new.drawing (IsGivenUp result) }
+    ensures undirected { has_direction directions ≡ false → IfOpen handle.old.drawing handle.new.drawing (IsRolledBack result) }
 {
     let Directions {
         east,
@@ -113,7 +113,7 @@ pub extern "C" fn reroute_add_pin(
         north,
     };
     if !(east || south || west || north) {
-        return give_up(handle);
+        return roll_back(handle);
     }
     edit(
         handle,
@@ -127,16 +127,16 @@ pub extern "C" fn reroute_add_pin(
     )
 }
 
-/// Drops the transaction if one is open, since what was asked for has no form.
-fn give_up(handle: &mut Handle) -> Fault
+/// Drops the transaction if one is open, since what was asked for is not valid.
+fn roll_back(handle: &mut Handle) -> Fault
     ensures closed { IsNone handle.old.drawing → IsRefusedClosed result handle.new.drawing }
     ensures open { IsSome handle.old.drawing → IsSome handle.new.drawing }
-    ensures given_up { IfOpen handle.old.drawing handle.new.drawing (IsGivenUp result) }
+    ensures rolled_back { IfOpen handle.old.drawing handle.new.drawing (IsRolledBack result) }
 {
     let Some(mut drawing) = handle.replace(None) else {
         return Fault::closed();
     };
-    drawing.give_up();
+    drawing.roll_back();
     handle.replace(Some(drawing));
     Fault::syntax()
 }

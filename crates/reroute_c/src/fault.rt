@@ -24,7 +24,7 @@ impl Fault {
         Fault { code: 0, value: 0 }
     }
 
-    /// What is asked for has no form.
+    /// What is asked for is not valid.
     pub(crate) fn syntax() -> Fault
         ensures { result ≡ syntax_fault }
     {
@@ -103,7 +103,7 @@ fn of_edit(fault: SceneFault) -> Fault
     }
 }
 
-/// A fault at an offset, which is told up to the greatest number.
+/// A fault at an offset, which is reported up to the greatest number.
 fn at_offset(code: u32, at: u64) -> Fault
     ensures { result ≡ offset_fault code at }
 {
@@ -148,7 +148,7 @@ fn of_part(code: u32, part: Part, place: u32) -> Fault
     numbered(code + part_number(part), place)
 }
 
-/// Why a document is no diagram.
+/// Why a document is not a valid diagram.
 fn of_diagram(fault: DiagramFault) -> Fault
     ensures fault { result ≡ diagram_fault fault }
     ensures refused { 1 ≤ result.code }

@@ -3,7 +3,7 @@ ghost use Rattle.std.specs.Prelude.{◌≡◌, ◌≢◌, IfSome, IsNone, IsSome
 ghost use Rattle.edit_script.specs.Script.{commands};
 ghost use Rattle.editor_files.specs.Opening.{Opens};
 ghost use Rattle.reroute_c.specs.Codes.{already_open_fault, closed_fault, memory_fault};
-ghost use Rattle.reroute_c.specs.Files.{IsUnopened, IsWrittenTo, TellsScript, overlaid};
+ghost use Rattle.reroute_c.specs.Files.{IsUnopened, IsWrittenTo, ReportsScript, overlaid};
 ghost use Rattle.reroute_c.specs.Open.{IfOpen, IsRefusedClosed};
 
 use crate::fault::{Fault, of_open, of_why};
@@ -100,7 +100,7 @@ pub extern "C" fn reroute_play(
     ensures closed { IsNone handle.old.drawing → IsRefusedClosed result handle.new.drawing }
     ensures closed_kept { IsNone handle.old.drawing → line.new ≡ line.old }
     ensures open { IsSome handle.old.drawing → IsSome handle.new.drawing }
-    ensures played { IfOpen handle.old.drawing handle.new.drawing (TellsScript (commands script.now) result line.new) }
+    ensures played { IfOpen handle.old.drawing handle.new.drawing (ReportsScript (commands script.now) result line.new) }
 {
     let Some(mut drawing) = handle.replace(None) else {
         return Fault::closed();

@@ -60,7 +60,7 @@ fn read(alloc: Global, matches: &ArgMatches) -> Result<Asked, AllocError>
 }
 
 /// Prints why the arguments are not understood, or the help or the version, and answers the exit status.
-fn told(rt: &HostRuntime, error: &Error) -> u8 {
+fn reported(rt: &HostRuntime, error: &Error) -> u8 {
     match error.print(rt) {
         Ok(()) => error.exit_code() as u8,
         Err(_) => NOT_UNDERSTOOD,
@@ -82,6 +82,6 @@ pub(crate) fn asked_for(rt: &HostRuntime, alloc: Global) -> Result<Asked, u8>
     };
     match command.try_get_matches_from(words.as_slice()) {
         Ok(matches) => read(alloc, &matches).map_err(|_| NO_MEMORY),
-        Err(error) => Err(told(rt, &error)),
+        Err(error) => Err(reported(rt, &error)),
     }
 }

@@ -42,7 +42,7 @@ fn bytes_of(rt: &HostRuntime, alloc: Global, file: Option<String>) -> Result<Vec
 /// Prints a line to standard error.
 fn print_fault(rt: &HostRuntime, line: Vec<u8>) {
     if let Ok(line) = String::from_utf8(line) {
-        // Where standard error is closed, the status alone tells of the fault.
+        // Where standard error is closed, the status alone reports the fault.
         let _printed = rt.eprint(&line);
     }
 }

@@ -55,9 +55,9 @@ pub record StopsIn (p : Problem) (known : Place → Option Ahead) (s : Standing)
   pub short : (m : Move) → IsMoveIn p known s d m → b.steps ≤ m.steps
 
 -- what is left of the tail after n steps
-abbrev pub left_behind : ℕ → Option Tail → Option Tail
-left_behind n None = None
-left_behind n (Some b) = Some (record { steps = b.steps - n; end = b.end })
+abbrev pub left_after : ℕ → Option Tail → Option Tail
+left_after n None = None
+left_after n (Some b) = Some (record { steps = b.steps - n; end = b.end })
 
 -- it continues by a move, along an earliest tail that is longer, if there is one
 pub record GoesIn (p : Problem) (known : Place → Option Ahead) (s : Standing) (d : Dir) (after : Standing) : Type 0 where
@@ -66,14 +66,14 @@ pub record GoesIn (p : Problem) (known : Place → Option Ahead) (s : Standing) 
   pub best : Option Tail
   pub tail : IsEarliest (IsTailIn p s d p.endings.items) best
   pub long : IfSome best (λ b. move.steps < b.steps)
-  pub further : after ≡ record { place = move.to; ahead = move.ahead; tail = left_behind move.steps best }
+  pub further : after ≡ record { place = move.to; ahead = move.ahead; tail = left_after move.steps best }
 
 -- the earlier continuation where a walk may end with the tail or take the move, both in one direction
 abbrev pub IsJoined : Option Tail → Option Move → Next → Type 0
 IsJoined tail step (Stop b) = (tail ≡ Some b) × IfSome step (λ m. b.steps ≤ m.steps)
 IsJoined tail step (Go further) =
     (m : Move) × (step ≡ Some m) × IfSome tail (λ b. m.steps < b.steps)
-    × (further ≡ record { place = m.to; ahead = m.ahead; tail = left_behind m.steps tail })
+    × (further ≡ record { place = m.to; ahead = m.ahead; tail = left_after m.steps tail })
 
 -- the first continuation in the direction of the walks at this position
 abbrev pub IsNextIn : Problem → (Place → Option Ahead) → Standing → Dir → Next → Type 0

@@ -14,7 +14,7 @@ use Rattle.line_lists.specs.Lists.{AreListsOf, number_of}
 use Rattle.route_search.specs.Matching.{point_with}
 use Rattle.exit_spread.specs.Known.{known}
 use Rattle.exit_spread.specs.Searching.{IsSpread}
-use Rattle.exit_spread.specs.Handing.{IsOfferable}
+use Rattle.exit_spread.specs.Propagating.{IsOfferable}
 use Rattle.exit_spread.specs.Ways.{IsWayAhead}
 use Rattle.route_search.specs.declared.follow.Follower.{Follower}
 

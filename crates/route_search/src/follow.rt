@@ -7,7 +7,7 @@ ghost use Rattle.plane_geom.specs.declared.point.Dir.{Dir};
 ghost use Rattle.route_search.specs.Following.{IsEarliest, IsJoined, IsMoveIn, IsNext, IsNextIn, IsNoLater, IsNoneIn, IsTailIn, MayEnd};
 ghost use Rattle.route_search.specs.declared.follow.Move.{Move};
 ghost use Rattle.route_search.specs.declared.follow.Tail.{Tail};
-ghost use Rattle.exit_spread.specs.Handing.{IsOfferable};
+ghost use Rattle.exit_spread.specs.Propagating.{IsOfferable};
 ghost use Rattle.route_search.specs.Known.{IsKnowing, IsPlace, known_of};
 ghost use Rattle.route_search.specs.Starting.{EntersAt, IsBetterOf, IsLeastEntry, whole_from};
 ghost use Rattle.search_labels.specs.declared.ends.Entry.{Entry};

@@ -22,7 +22,7 @@ use Rattle.undo_log.specs.declared.step.Step.{Step}
 use Rattle.undo_log.specs.Log.{Log}
 use Rattle.undo_log.specs.Lending.{gone_back, gone_forth}
 use Rattle.session_laws.specs.History.{IsStep, IsHistory, IsTurned, LeadBack, LeadOn, world_of, pushed}
-use Rattle.session_laws.proofs.Turning.{puts_behind, goes_back, goes_on, step_stays_valid}
+use Rattle.session_laws.proofs.Turning.{extends_past, goes_back, goes_on, step_stays_valid}
 use Rattle.route_book.specs.Exchange.{Exchange, turned}
 use Rattle.route_session.specs.Upheld.{IsUpheld, AreRestorable, AreFree, turned_step}
 use Rattle.route_session.proofs.Steps.{restorable, free}
@@ -151,7 +151,7 @@ committed scene book log t changes next drawn answers after valid right history 
       right_before = subst (AreAnswers scene) (sym here) right;
       right_after = there_next;
     } in
-    let went = puts_behind here_of there_of log scene next put history joined in
+    let went = extends_past here_of there_of log scene next put history joined in
     let same : pushed put log ≡ after = λ i. record { past = sym past i; future = sym future i } in (
       record {
         valid = step_stays_valid joined;

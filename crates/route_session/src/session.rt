@@ -20,7 +20,7 @@ ghost use Rattle.scene_model.specs.Edits.{IsDirected};
 ghost use Rattle.scene_model.specs.Routing.{floor_of};
 ghost use Rattle.scene_model.specs.Scene.{connectors};
 ghost use Rattle.scene_model.specs.Valid.{IsValid};
-ghost use Rattle.scene_model.specs.World.{given_up, opened, refused, step};
+ghost use Rattle.scene_model.specs.World.{opened, refused, rolled_back, step};
 ghost use Rattle.scene_model.specs.declared.edit.Command.TheVariants as commands;
 ghost use Rattle.scene_model.specs.declared.fault.SceneFault.TheVariants as scene_faults;
 ghost use Rattle.scene_model.specs.declared.fault.SessionFault.TheVariants as faults;
@@ -158,7 +158,7 @@ impl Session {
     pub fn begin(&mut self) -> Result<(), SessionFault>
         ensures ok { OnOk result (step commands.Begin self.old.world ≡ Ok self.new.world) }
         ensures fault { IfErr result (IsFaultOf commands.Begin self.old.world) }
-        ensures err { OnErr result (self.new.world ≡ given_up self.old.world) }
+        ensures err { OnErr result (self.new.world ≡ rolled_back self.old.world) }
         ensures book { self.new.book ≡ self.old.book }
         ensures searched { self.new.searched ≡ self.old.searched }
         ensures written { self.new.written ≡ self.old.written }
@@ -182,7 +182,7 @@ impl Session {
         requires { IsDirected edit.now }
         ensures ok { OnOk result (step (commands.Edit edit.now) self.old.world ≡ Ok self.new.world) }
         ensures fault { IfErr result (IsFaultOf (commands.Edit edit.now) self.old.world) }
-        ensures err { OnErr result (self.new.world ≡ given_up self.old.world) }
+        ensures err { OnErr result (self.new.world ≡ rolled_back self.old.world) }
         ensures memory { result ≢ Err (faults.Edit scene_faults.Memory) }
         ensures book { self.new.book ≡ self.old.book }
         ensures searched { self.new.searched ≡ self.old.searched }
@@ -211,7 +211,7 @@ impl Session {
         requires few { workers ≤ 4 }
         ensures ok { OnOk result (step commands.Commit self.old.world ≡ Ok self.new.world) }
         ensures fault { IfErr result (IsFaultOf commands.Commit self.old.world) }
-        ensures err { OnErr result (self.new.world ≡ given_up self.old.world) }
+        ensures err { OnErr result (self.new.world ≡ rolled_back self.old.world) }
         ensures right { AreAnswers self.new.world.present self.new.book }
         ensures book { OnErr result (self.new.book ≡ self.old.book) }
         ensures searched { OnOk result (CountsStale self.old.world.present self.old.book self.new.world.present self.old.searched self.new.searched) }
@@ -239,7 +239,7 @@ impl Session {
     pub fn commit_alone(&mut self) -> Result<(), SessionFault>
         ensures ok { OnOk result (step commands.Commit self.old.world ≡ Ok self.new.world) }
         ensures fault { IfErr result (IsFaultOf commands.Commit self.old.world) }
-        ensures err { OnErr result (self.new.world ≡ given_up self.old.world) }
+        ensures err { OnErr result (self.new.world ≡ rolled_back self.old.world) }
         ensures right { AreAnswers self.new.world.present self.new.book }
         ensures book { OnErr result (self.new.book ≡ self.old.book) }
         ensures searched { OnOk result (CountsStale self.old.world.present self.old.book self.new.world.present self.old.searched self.new.searched) }
@@ -264,7 +264,7 @@ impl Session {
     pub fn abort(&mut self) -> Result<(), SessionFault>
         ensures ok { OnOk result (step commands.Abort self.old.world ≡ Ok self.new.world) }
         ensures fault { IfErr result (λ f. step commands.Abort self.old.world ≡ Err (refused f)) }
-        ensures err { OnErr result (self.new.world ≡ given_up self.old.world) }
+        ensures err { OnErr result (self.new.world ≡ rolled_back self.old.world) }
         ensures book { self.new.book ≡ self.old.book }
         ensures searched { self.new.searched ≡ self.old.searched }
         ensures written { self.new.written ≡ self.old.written }
@@ -283,7 +283,7 @@ impl Session {
     pub fn undo(&mut self) -> Result<(), SessionFault>
         ensures ok { OnOk result (step commands.Undo self.old.world ≡ Ok self.new.world) }
         ensures fault { IfErr result (IsFaultOf commands.Undo self.old.world) }
-        ensures err { OnErr result (self.new.world ≡ given_up self.old.world) }
+        ensures err { OnErr result (self.new.world ≡ rolled_back self.old.world) }
         ensures right { AreAnswers self.new.world.present self.new.book }
         ensures book { OnErr result (self.new.book ≡ self.old.book) }
         ensures searched { self.new.searched ≡ self.old.searched }
@@ -314,7 +314,7 @@ impl Session {
     pub fn redo(&mut self) -> Result<(), SessionFault>
         ensures ok { OnOk result (step commands.Redo self.old.world ≡ Ok self.new.world) }
         ensures fault { IfErr result (IsFaultOf commands.Redo self.old.world) }
-        ensures err { OnErr result (self.new.world ≡ given_up self.old.world) }
+        ensures err { OnErr result (self.new.world ≡ rolled_back self.old.world) }
         ensures right { AreAnswers self.new.world.present self.new.book }
         ensures book { OnErr result (self.new.book ≡ self.old.book) }
         ensures searched { self.new.searched ≡ self.old.searched }
@@ -339,7 +339,7 @@ impl Session {
 
     /// Drops the transaction if one is open. Takes no memory.
     pub fn give_up(&mut self)
-        ensures world { self.new.world ≡ given_up self.old.world }
+        ensures world { self.new.world ≡ rolled_back self.old.world }
         ensures book { self.new.book ≡ self.old.book }
         ensures searched { self.new.searched ≡ self.old.searched }
         ensures written { self.new.written ≡ self.old.written }

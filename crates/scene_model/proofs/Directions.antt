@@ -27,13 +27,13 @@ abbrev onto : List ℕ → List ℕ → List ℕ
 onto [] seen = seen
 onto (l ∷ ls) seen = onto ls (l ∷ seen)
 
-pub data Told (b : Bool) : Type 0 where
-  yes : b ≡ true → Told b
-  no : b ≡ false → Told b
+pub data Tested (b : Bool) : Type 0 where
+  yes : b ≡ true → Tested b
+  no : b ≡ false → Tested b
 
-pub told : (b : Bool) → Told b
-told true = yes refl
-told false = no refl
+pub tested : (b : Bool) → Tested b
+tested true = yes refl
+tested false = no refl
 
 pub is : (a b : ℕ) → (a == b) ≡ true → a ≡ b
 is a b h = grind (arith, nat_tests)
@@ -49,13 +49,13 @@ abbrev OneMore : List ℕ → ℕ → Type 0
 OneMore seen l = with_letter (dirs_in seen) l ≡ cond (is_known l && not (has_letter l seen)) (Some (dirs_in (l ∷ seen))) None
 
 one_more : (seen : List ℕ) (l : ℕ) → OneMore seen l
-one_more seen l = elim (told (l == 69)) as (λ _. OneMore seen l) [
+one_more seen l = elim (tested (l == 69)) as (λ _. OneMore seen l) [
   | yes h ↦ subst (OneMore seen) (sym (is l 69 h)) refl
-  | no h ↦ elim (told (l == 83)) as (λ _. OneMore seen l) [
+  | no h ↦ elim (tested (l == 83)) as (λ _. OneMore seen l) [
     | yes k ↦ subst (OneMore seen) (sym (is l 83 k)) refl
-    | no k ↦ elim (told (l == 87)) as (λ _. OneMore seen l) [
+    | no k ↦ elim (tested (l == 87)) as (λ _. OneMore seen l) [
       | yes m ↦ subst (OneMore seen) (sym (is l 87 m)) refl
-      | no m ↦ elim (told (l == 78)) as (λ _. OneMore seen l) [
+      | no m ↦ elim (tested (l == 78)) as (λ _. OneMore seen l) [
         | yes n ↦ subst (OneMore seen) (sym (is l 78 n)) refl
         | no n ↦ rw (h, k, m, n, turned l 69 h, turned l 83 k, turned l 87 m, turned l 78 n) refl
       ]
@@ -66,7 +66,7 @@ one_more seen l = elim (told (l == 69)) as (λ _. OneMore seen l) [
 -- all letters
 all_more : (seen ls : List ℕ) → with_letters (dirs_in seen) ls ≡ cond (are_allowed seen ls) (Some (dirs_in (onto ls seen))) None
 all_more seen [] = refl
-all_more seen (l ∷ ls) = elim (told (is_known l && not (has_letter l seen))) as
+all_more seen (l ∷ ls) = elim (tested (is_known l && not (has_letter l seen))) as
     (λ _. with_letters (dirs_in seen) (l ∷ ls) ≡ cond (are_allowed seen (l ∷ ls)) (Some (dirs_in (onto (l ∷ ls) seen))) None)
     [ yes h ↦ rw (one_more seen l, h) (all_more (l ∷ seen) ls) | no h ↦ rw (one_more seen l, h) refl ]
 
@@ -98,11 +98,11 @@ shuffled true false true true false different = refl
 shuffled true false true false true different = refl
 shuffled true false true false false different = refl
 
-allowed_told : (seen ls : List ℕ) → are_allowed seen ls ≡ (list_all is_known ls && (are_fresh seen ls && are_different ls))
-allowed_told seen [] = refl
-allowed_told seen (l ∷ ls) =
+allowed_parts : (seen ls : List ℕ) → are_allowed seen ls ≡ (list_all is_known ls && (are_fresh seen ls && are_different ls))
+allowed_parts seen [] = refl
+allowed_parts seen (l ∷ ls) =
     ap (λ b. (is_known l && not (has_letter l seen)) && b)
-    (allowed_told (l ∷ seen) ls ∙ ap (λ f. list_all is_known ls && (f && are_different ls)) (fresh_more seen l ls))
+    (allowed_parts (l ∷ seen) ls ∙ ap (λ f. list_all is_known ls && (f && are_different ls)) (fresh_more seen l ls))
     ∙ shuffled (is_known l) (has_letter l seen) (list_all is_known ls) (has_letter l ls) (are_fresh seen ls) (are_different ls)
 
 fresh_at_first : (ls : List ℕ) → are_fresh [] ls ≡ true
@@ -135,7 +135,7 @@ same_dirs ls =
 pub letters_read : (word : List ℕ) → 0 < length word → dirs_of word ≡ with_letters (record { east = false; south = false; west = false; north = false }) word
 letters_read word some =
     let known : Bool = list_all is_known word in
-    let allowed : are_allowed [] word ≡ (known && are_different word) = allowed_told [] word ∙ ap (λ f. known && (f && are_different word)) (fresh_at_first word) in
+    let allowed : are_allowed [] word ≡ (known && are_different word) = allowed_parts [] word ∙ ap (λ f. known && (f && are_different word)) (fresh_at_first word) in
     ap (λ b. cond (b && (known && are_different word)) (Some (dirs_in word)) None) (lt-ltb 0 (length word) some)
     ∙ sym (all_more [] word ∙ ap (λ b. cond b (Some (dirs_in (onto word []))) None) allowed ∙ ap (λ d. cond (known && are_different word) (Some d) None) (same_dirs word))
 
@@ -169,13 +169,13 @@ abbrev Leads : List ℕ → ℕ → Type 0
 Leads ls l = IsTrue (((has_letter 69 (l ∷ ls) || has_letter 83 (l ∷ ls)) || has_letter 87 (l ∷ ls)) || has_letter 78 (l ∷ ls))
 
 leads : (l : ℕ) (ls : List ℕ) → is_known l ≡ true → Leads ls l
-leads l ls known = elim (told (69 == l)) as (λ _. Leads ls l) [
+leads l ls known = elim (tested (69 == l)) as (λ _. Leads ls l) [
   | yes h ↦ subst (Leads ls) (is 69 l h) refl
-  | no h ↦ elim (told (83 == l)) as (λ _. Leads ls l) [
+  | no h ↦ elim (tested (83 == l)) as (λ _. Leads ls l) [
     | yes k ↦ subst (Leads ls) (is 83 l k) (second (has_letter 69 ls) (has_letter 87 ls) (has_letter 78 ls))
-    | no k ↦ elim (told (87 == l)) as (λ _. Leads ls l) [
+    | no k ↦ elim (tested (87 == l)) as (λ _. Leads ls l) [
       | yes m ↦ subst (Leads ls) (is 87 l m) (third (has_letter 69 ls) (has_letter 83 ls) (has_letter 78 ls))
-      | no m ↦ elim (told (78 == l)) as (λ _. Leads ls l) [
+      | no m ↦ elim (tested (78 == l)) as (λ _. Leads ls l) [
         | yes n ↦ subst (Leads ls) (is 78 l n) (fourth (has_letter 69 ls) (has_letter 83 ls) (has_letter 87 ls))
         | no n ↦ (let e : false ≡ true = rw (h, k, m, n) at known in cc)
       ]
@@ -185,7 +185,7 @@ leads l ls known = elim (told (69 == l)) as (λ _. Leads ls l) [
 
 pub dirs_lead : (ls : List ℕ) (d : Dirs) → dirs_of ls ≡ Some d → HasDirection d
 dirs_lead [] d h = cc
-dirs_lead (l ∷ ls) d h = elim (told (nat_lt 0 (length (l ∷ ls)) && (list_all is_known (l ∷ ls) && are_different (l ∷ ls)))) as (λ _. HasDirection d) [
+dirs_lead (l ∷ ls) d h = elim (tested (nat_lt 0 (length (l ∷ ls)) && (list_all is_known (l ∷ ls) && are_different (l ∷ ls)))) as (λ _. HasDirection d) [
   | yes t ↦
       (let parts = and_parts (nat_lt 0 (length (l ∷ ls))) (list_all is_known (l ∷ ls) && are_different (l ∷ ls)) t in
       let known = and_parts (is_known l) (list_all is_known ls) (and_parts (list_all is_known (l ∷ ls)) (are_different (l ∷ ls)) parts.1).0 in

@@ -23,8 +23,8 @@ abbrev pub opened : Scene → World
 opened s = record { past = []; present = s; future = []; working = None }
 
 -- the world without its transaction
-abbrev pub given_up : World → World
-given_up w = record w { working = None }
+abbrev pub rolled_back : World → World
+rolled_back w = record w { working = None }
 
 -- why a command is refused
 pub data CommandRefusal : Type 0 where
@@ -55,7 +55,7 @@ taken (Edit e) (Some s) w = edit_working w (edited e s)
 taken Commit None w = Err (refused faults.NoTransaction)
 taken Commit (Some s) w = Ok (record { past = take 100 (w.present ∷ w.past); present = s; future = []; working = None })
 taken Abort None w = Err (refused faults.NoTransaction)
-taken Abort (Some s) w = Ok (given_up w)
+taken Abort (Some s) w = Ok (rolled_back w)
 taken Undo None w = one_scene_back w w.past
 taken Undo (Some s) w = Err (refused faults.AlreadyOpen)
 taken Redo None w = one_scene_on w w.future
@@ -66,13 +66,13 @@ abbrev pub step : Command → World → Result World CommandRefusal
 step c w = taken c w.working w
 
 -- after a refusal no transaction is open, and everything else is as before
-abbrev pub or_given_up : World → Result World CommandRefusal → World
-or_given_up w (Ok next) = next
-or_given_up w (Err refusal) = given_up w
+abbrev pub or_rolled_back : World → Result World CommandRefusal → World
+or_rolled_back w (Ok next) = next
+or_rolled_back w (Err refusal) = rolled_back w
 
 -- the world after a command, and after a list of them
 abbrev pub next_world : Command → World → World
-next_world c w = or_given_up w (step c w)
+next_world c w = or_rolled_back w (step c w)
 
 abbrev pub played : List Command → World → World
 played [] w = w

@@ -25,13 +25,13 @@ module _ {X : Type 0} (key : X → ℤ) where
   some_at (x ∷ xs) zero l = (x, refl)
   some_at (x ∷ xs) (suc n) l = some_at xs n (omega (arith, l))
 
-  told_by : (b : Bool) (m n : ℕ) → cond b (Some m) None ≡ Some n → (b ≡ true) × (m ≡ n)
-  told_by true m n h = (refl, same_Some m n h)
-  told_by false m n h = absurd (none-some n h)
+  some_when : (b : Bool) (m n : ℕ) → cond b (Some m) None ≡ Some n → (b ≡ true) × (m ≡ n)
+  some_when true m n h = (refl, same_Some m n h)
+  some_when false m n h = absurd (none-some n h)
 
   placed : (k : ℤ) (xs : List X) (n : ℕ) → position (has k) xs ≡ Some n → IsPlace k xs n
   placed k xs n h =
-      let t = told_by (nat_lt (position_or_len (has k) xs) (length xs)) (position_or_len (has k) xs) n h in
+      let t = some_when (nat_lt (position_or_len (has k) xs) (length xs)) (position_or_len (has k) xs) n h in
       let s = some_at xs (position_or_len (has k) xs) (ltb-true (position_or_len (has k) xs) (length xs) t.0) in
       record {
         entry = s.0;

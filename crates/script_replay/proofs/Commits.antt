@@ -12,8 +12,8 @@ use Rattle.scene_model.specs.Answers.{AreAnswers}
 use Rattle.scene_model.specs.Scene.{Scene, connectors, is_loop}
 use Rattle.scene_model.specs.Stale.{ArePicked, AreStale, IsCurrent, IsStale}
 use Rattle.scene_model.specs.Valid.{IsValid}
-use Rattle.scene_model.specs.World.{World, refused, given_up, step, taken, or_given_up}
-use Rattle.report_text.specs.declared.refusal.Refusal.TheVariants as told
+use Rattle.scene_model.specs.World.{World, refused, rolled_back, step, taken, or_rolled_back}
+use Rattle.report_text.specs.declared.refusal.Refusal.TheVariants as reported
 use Rattle.report_text.specs.declared.reply.Reply.{Reply}
 use Rattle.report_text.specs.declared.reply.Reply.TheVariants.{Searched, Refused}
 use Rattle.line_arena.specs.Count.{counted_by}
@@ -50,8 +50,8 @@ done old new searched right valid countable is ok stale =
     let all : searched ≡ length stale.0 = omega arith in
     record {
       reply = subst (λ made. IsReplyOf Commit old.world made (Searched searched)) (sym ok)
-          (record { answers = old.book; right = right; stale = stale.0; are_stale = stale.1; tells = ap Searched all });
-      world = sym (ap (or_given_up old.world) ok);
+          (record { answers = old.book; right = right; stale = stale.0; are_stale = stale.1; says = ap Searched all });
+      world = sym (ap (or_rolled_back old.world) ok);
       searched = omega arith;
       few = omega arith;
     }
@@ -61,11 +61,11 @@ no_transaction w None f h = cc
 no_transaction w (Some s) f h = cc
 
 -- a commit is refused only where no transaction is open, and then it searches nothing
-not_done : (old new : State) (f : SessionFault) → step Commit old.world ≡ Err (refused f) → new.world ≡ given_up old.world → (f ≡ NoTransaction → new.searched ≡ old.searched)
-    → IsReplied Commit old new (Refused (told.Command f))
+not_done : (old new : State) (f : SessionFault) → step Commit old.world ≡ Err (refused f) → new.world ≡ rolled_back old.world → (f ≡ NoTransaction → new.searched ≡ old.searched)
+    → IsReplied Commit old new (Refused (reported.Command f))
 not_done old new f is world searched = record {
-  reply = subst (λ made. IsReplyOf Commit old.world made (Refused (told.Command f))) (sym is) refl;
-  world = world ∙ sym (ap (or_given_up old.world) is);
+  reply = subst (λ made. IsReplyOf Commit old.world made (Refused (reported.Command f))) (sym is) refl;
+  world = world ∙ sym (ap (or_rolled_back old.world) is);
   searched = searched (no_transaction old.world old.world.working f is) ∙ (omega arith);
   few = omega arith;
 }
@@ -77,8 +77,8 @@ none_of_err P (Err e) err = tt
 pub commit_replied : (old new : State) (answer : Result Unit SessionFault) (searched : ℕ) (result : Result Reply AllocError)
     → AreAnswers old.world.present old.book → IsValid new.world.present → old.searched + 512 < 2 ^ 64 → searched ≡ new.searched - old.searched
     → OnOk answer (step Commit old.world ≡ Ok new.world) → OnOk answer (HasSearched old new)
-    → IfErr answer (IsFaultOf Commit old.world) → OnErr answer (new.world ≡ given_up old.world) → (IsErrOf answer NoTransaction → new.searched ≡ old.searched)
-    → OnOk answer (result ≡ Ok (Searched searched)) → (IsErrOf answer Memory → IsErr result) → IfErr answer (λ f. f ≢ Memory → result ≡ Ok (Refused (told.Command f)))
+    → IfErr answer (IsFaultOf Commit old.world) → OnErr answer (new.world ≡ rolled_back old.world) → (IsErrOf answer NoTransaction → new.searched ≡ old.searched)
+    → OnOk answer (result ≡ Ok (Searched searched)) → (IsErrOf answer Memory → IsErr result) → IfErr answer (λ f. f ≢ Memory → result ≡ Ok (Refused (reported.Command f)))
     → IfOk result (IsReplied Commit old new)
 commit_replied old new (Ok _) searched result right valid countable is ok stale fault err none at_done at_memory at_refused =
     subst (λ r. IfOk r (IsReplied Commit old new)) (sym at_done) (done old new searched right valid countable is ok stale)

@@ -58,7 +58,7 @@ one_search old new r q h k =
     let same : k.answers ≡ h.answers = one_list old k.answers h.answers k.right h.right in
     let stale : k.stale ≡ h.stale =
     one_stale_list old h.answers new k.stale h.stale (subst (λ a. AreStale old a new k.stale) same k.are_stale) h.are_stale in
-    h.tells ∙ sym (ap (λ s. Searched (length s)) stale) ∙ sym k.tells
+    h.says ∙ sym (ap (λ s. Searched (length s)) stale) ∙ sym k.says
 
 one_done : (c : Command) (old new : Scene) (r q : Reply) → IsReplyOfDone c old new r → IsReplyOfDone c old new q → r ≡ q
 one_done Commit old new r q h k = one_search old new r q h k

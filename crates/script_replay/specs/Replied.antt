@@ -8,15 +8,15 @@ use Rattle.session_laws.specs.State.{State}
 use Rattle.script_replay.specs.Replies.{IsReply, AreReplies, searched_by, searched_in}
 
 -- the command was executed or refused, with this reply, and searched the number that the reply gives
-pub record IsReplied (command : Command) (old new : State) (told : Reply) : Type 0 where
-  pub reply : IsReply command old.world told
+pub record IsReplied (command : Command) (old new : State) (given : Reply) : Type 0 where
+  pub reply : IsReply command old.world given
   pub world : new.world ≡ next_world command old.world
-  pub searched : new.searched ≡ old.searched + searched_by told
-  pub few : searched_by told ≤ 512
+  pub searched : new.searched ≡ old.searched + searched_by given
+  pub few : searched_by given ≤ 512
 
 -- the same for commands in a row
-pub record AreReplied (commands : List (ℕ × Command)) (old new : State) (told : List LineReply) : Type 0 where
-  pub replies : AreReplies old.world commands told
+pub record AreReplied (commands : List (ℕ × Command)) (old new : State) (given : List LineReply) : Type 0 where
+  pub replies : AreReplies old.world commands given
   pub world : new.world ≡ played (map (λ c. c.1) commands) old.world
-  pub searched : new.searched ≡ old.searched + searched_in told
-  pub few : searched_in told ≤ 512 * length commands
+  pub searched : new.searched ≡ old.searched + searched_in given
+  pub few : searched_in given ≤ 512 * length commands

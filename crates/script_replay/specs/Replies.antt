@@ -8,8 +8,8 @@ use Rattle.scene_model.specs.Scene.{Scene}
 use Rattle.scene_model.specs.Answers.{AreAnswers}
 use Rattle.scene_model.specs.Stale.{AreStale}
 use Rattle.scene_model.specs.World.{World, CommandRefusal, syntax_error, refused, opened, step, next_world, played, IsDirectedCommand}
-use Rattle.report_text.specs.declared.refusal.Refusal.{Refusal as ToldRefusal}
-use Rattle.report_text.specs.declared.refusal.Refusal.TheVariants as told
+use Rattle.report_text.specs.declared.refusal.Refusal.{Refusal as ReportedRefusal}
+use Rattle.report_text.specs.declared.refusal.Refusal.TheVariants as reported
 use Rattle.report_text.specs.declared.reply.Reply.{Reply}
 use Rattle.report_text.specs.declared.reply.Reply.TheVariants.{Kept, Searched, Refused}
 use Rattle.report_text.specs.declared.reply.LineReply.{LineReply}
@@ -20,7 +20,7 @@ pub record SearchesStale (old new : Scene) (reply : Reply) : Type 0 where
   pub right : AreAnswers old answers
   pub stale : List ℕ
   pub are_stale : AreStale old answers new stale
-  pub tells : reply ≡ Searched (length stale)
+  pub says : reply ≡ Searched (length stale)
 
 -- the reply to a command that leads from the old present scene to the new one: undo and redo search nothing
 abbrev pub IsReplyOfDone : Command → Scene → Scene → Reply → Type 0
@@ -30,14 +30,14 @@ IsReplyOfDone Redo old new reply = reply ≡ Searched 0
 IsReplyOfDone command old new reply = reply ≡ Kept
 
 -- a refusal in the form of a reply
-abbrev pub refusal_told : CommandRefusal → ToldRefusal
-refusal_told syntax_error = told.Syntax
-refusal_told (refused fault) = told.Command fault
+abbrev pub reported_refusal : CommandRefusal → ReportedRefusal
+reported_refusal syntax_error = reported.Syntax
+reported_refusal (refused fault) = reported.Command fault
 
 -- the reply to a command with this result in the world
 abbrev pub IsReplyOf : Command → World → Result World CommandRefusal → Reply → Type 0
 IsReplyOf command w (Ok next) reply = IsReplyOfDone command w.present next.present reply
-IsReplyOf command w (Err why) reply = reply ≡ Refused (refusal_told why)
+IsReplyOf command w (Err why) reply = reply ≡ Refused (reported_refusal why)
 
 -- the reply to a command in a world
 abbrev pub IsReply : Command → World → Reply → Type 0

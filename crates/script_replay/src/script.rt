@@ -1,6 +1,6 @@
 //! The replay of a script: its commands, one after another, and the reply to each.
 ghost use Rattle.std.specs.Prelude.{◌≡◌, ◌≢◌, ◌<◌, ◌≤◌, ◌+◌, ◌^◌, IfErr, IfOk, IsErr, IsErrOf, Ok, OnOk, length};
-ghost use Rattle.report_text.specs.declared.refusal.Refusal.TheVariants as told;
+ghost use Rattle.report_text.specs.declared.refusal.Refusal.TheVariants as reported;
 ghost use Rattle.report_text.specs.declared.reply.Reply.TheVariants as replies;
 ghost use Rattle.scene_model.specs.declared.edit.Command.TheVariants as commands;
 ghost use Rattle.scene_model.specs.declared.fault.SessionFault.TheVariants as faults;
@@ -155,7 +155,7 @@ fn reply_to_commit<R: Threads + Sync, G: Gate>(
 fn reply_of(answer: Result<(), SessionFault>, done: Reply) -> Result<Reply, AllocError>
     ensures done { OnOk answer (result ≡ Ok done) }
     ensures memory { IsErrOf answer faults.Memory → IsErr result }
-    ensures refused { IfErr answer (λ f. f ≢ faults.Memory → result ≡ Ok (replies.Refused (told.Command f))) }
+    ensures refused { IfErr answer (λ f. f ≢ faults.Memory → result ≡ Ok (replies.Refused (reported.Command f))) }
 {
     match answer {
         Ok(()) => Ok(done),

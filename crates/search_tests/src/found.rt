@@ -41,7 +41,7 @@ fn corners(alloc: Global, route: &Option<Route>) -> Result<Vec<Corner>, AllocErr
 }
 
 /// The route as plain values.
-fn told(alloc: Global, route: Option<Route>, searches: u64) -> Result<Found, Fail> {
+fn reported(alloc: Global, route: Option<Route>, searches: u64) -> Result<Found, Fail> {
     Ok(Found {
         cost: route.as_ref().map(|r| r.cost),
         choices: route.as_ref().map(|r| (r.start, r.end)),
@@ -59,5 +59,5 @@ pub fn found_in(alloc: Global, graph: &Graph, task: &Task) -> Result<Found, Fail
     let mut tally = Tally::new();
     let solids = graph.floor().solids.as_slice();
     let route = find_first(alloc, graph.arena(), solids, task, &mut tally)?;
-    told(alloc, route, tally.count())
+    reported(alloc, route, tally.count())
 }

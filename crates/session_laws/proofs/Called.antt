@@ -6,20 +6,20 @@ use Rattle.scene_model.specs.declared.edit.Command.{Command}
 use Rattle.scene_model.specs.declared.edit.Command.TheVariants.{Commit, Undo, Redo}
 use Rattle.scene_model.specs.Scene.{Scene}
 use Rattle.scene_model.specs.Answers.{AreAnswers}
-use Rattle.scene_model.specs.World.{World, CommandRefusal, step, taken, or_given_up, next_world, played}
+use Rattle.scene_model.specs.World.{World, CommandRefusal, step, taken, or_rolled_back, next_world, played}
 use Rattle.scene_model.proofs.ForRouting.OneList.{one_list}
 use Rattle.session_laws.specs.State.{State}
 use Rattle.session_laws.specs.Calls.{IsCall, effect, SessionsAreWorlds, CommitsAreGivenBack}
 
 -- the world after a call is that after its command
 call_steps : (c : Command) (answer : Result Unit SessionFault) (old new : State) → IsCall c answer old new → next_world (effect c answer) old.world ≡ new.world
-call_steps c (Ok done) old new h = ap (or_given_up old.world) h.ok
+call_steps c (Ok done) old new h = ap (or_rolled_back old.world) h.ok
 call_steps c (Err Memory) old new h = sym h.err
-call_steps c (Err NoTransaction) old new h = ap (or_given_up old.world) h.fault ∙ sym h.err
-call_steps c (Err AlreadyOpen) old new h = ap (or_given_up old.world) h.fault ∙ sym h.err
-call_steps c (Err NothingToUndo) old new h = ap (or_given_up old.world) h.fault ∙ sym h.err
-call_steps c (Err NothingToRedo) old new h = ap (or_given_up old.world) h.fault ∙ sym h.err
-call_steps c (Err (Edit f)) old new h = ap (or_given_up old.world) h.fault ∙ sym h.err
+call_steps c (Err NoTransaction) old new h = ap (or_rolled_back old.world) h.fault ∙ sym h.err
+call_steps c (Err AlreadyOpen) old new h = ap (or_rolled_back old.world) h.fault ∙ sym h.err
+call_steps c (Err NothingToUndo) old new h = ap (or_rolled_back old.world) h.fault ∙ sym h.err
+call_steps c (Err NothingToRedo) old new h = ap (or_rolled_back old.world) h.fault ∙ sym h.err
+call_steps c (Err (Edit f)) old new h = ap (or_rolled_back old.world) h.fault ∙ sym h.err
 
 pub are_worlds : SessionsAreWorlds
 are_worlds [] old new right h = (ap (λ s. s.world) h, subst (λ s. AreAnswers s.world.present s.book) (sym h) right)

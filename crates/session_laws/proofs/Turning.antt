@@ -13,7 +13,7 @@ use Rattle.scene_model.proofs.TakingBack.Chains.{leads_back}
 use Rattle.undo_log.specs.declared.step.Step.{Step}
 use Rattle.undo_log.specs.Log.{most_steps}
 use Rattle.undo_log.specs.Lending.{gone_back, gone_forth}
-use Rattle.session_laws.specs.History.{IsStep, befores, afters, world_of, LeadBack, LeadOn, IsHistory, IsTurned, CommitsPutBehind, UndosGoBack, RedosGoOn, ScenesAreValid}
+use Rattle.session_laws.specs.History.{IsStep, befores, afters, world_of, LeadBack, LeadOn, IsHistory, IsTurned, CommitsExtendPast, UndosGoBack, RedosGoOn, ScenesAreValid}
 
 abbrev done : World → Result World CommandRefusal
 done w = Ok w
@@ -40,8 +40,8 @@ module _ {C : Type 0} (here there : C → List Answer) where
   fewer (suc m) [] s h = tt
   fewer (suc m) (t ∷ ts) s h = (h.0, fewer m ts (taken_back t.back s) h.1)
 
-  pub puts_behind : CommitsPutBehind here there
-  puts_behind l s new t h is =
+  pub extends_past : CommitsExtendPast here there
+  extends_past l s new t h is =
       let b : taken_back t.back new ≡ s = step_leads_back is in
       let joined : IsStep (taken_back t.back new) t.forth t.back new (there t.changes) (here t.changes) =
       subst (λ x. IsStep x t.forth t.back new (there t.changes) (here t.changes)) (sym b) is in

@@ -4,7 +4,7 @@ use Rattle.scene_model.specs.declared.fault.SessionFault.{SessionFault}
 use Rattle.scene_model.specs.declared.fault.SessionFault.TheVariants.{Memory}
 use Rattle.scene_model.specs.declared.edit.Command.{Command}
 use Rattle.scene_model.specs.declared.edit.Command.TheVariants as commands
-use Rattle.scene_model.specs.World.{World, step, given_up, played, refused}
+use Rattle.scene_model.specs.World.{World, step, rolled_back, played, refused}
 use Rattle.scene_model.specs.Answers.{AreAnswers}
 use Rattle.session_laws.specs.State.{State}
 
@@ -17,16 +17,16 @@ IsFaultOf c w fault = step c w ≡ Err (refused fault)
 pub record IsCall (c : Command) (answer : Result Unit SessionFault) (old new : State) : Type 0 where
   pub ok : OnOk answer (step c old.world ≡ Ok new.world)
   pub fault : IfErr answer (IsFaultOf c old.world)
-  pub err : OnErr answer (new.world ≡ given_up old.world)
+  pub err : OnErr answer (new.world ≡ rolled_back old.world)
   pub right : AreAnswers new.world.present new.book
 
 -- a command with the result of its call
-pub record Told : Type 0 where
+pub record CommandResult : Type 0 where
   pub command : Command
   pub answer : Result Unit SessionFault
 
 -- the calls lead from the first state to the last
-abbrev pub AreCalls : List Told → State → State → Type 0
+abbrev pub AreCalls : List CommandResult → State → State → Type 0
 AreCalls [] old new = new ≡ old
 AreCalls (t ∷ ts) old new = (next : State) × IsCall t.command t.answer old next × AreCalls ts next new
 
@@ -39,7 +39,7 @@ effect c (Err fault) = c
 -- the law: after any list of calls the session's world is that of their commands, with the right answers of its present scene
 abbrev pub SessionsAreWorlds : Type 0
 SessionsAreWorlds =
-    (calls : List Told) (old new : State) → AreAnswers old.world.present old.book → AreCalls calls old new
+    (calls : List CommandResult) (old new : State) → AreAnswers old.world.present old.book → AreCalls calls old new
     → (new.world ≡ played (map (λ t. effect t.command t.answer) calls) old.world) × AreAnswers new.world.present new.book
 
 -- the law: an undo of a commit restores the scene and the book before it; a redo of that undo restores the world and the book after it

@@ -67,8 +67,8 @@ module _ {C : Type 0} (here there : C → List Answer) where
     pub there_is_here : there u.changes ≡ here t.changes
 
   -- the law: a commit adds the scene to the past, as the latest, and drops the hundred and first and all future ones
-  abbrev pub CommitsPutBehind : Type 0
-  CommitsPutBehind =
+  abbrev pub CommitsExtendPast : Type 0
+  CommitsExtendPast =
       (l : Log C) (s new : Scene) (t : Step C) → IsHistory l s → IsStep s t.forth t.back new (there t.changes) (here t.changes)
       → IsHistory (pushed t l) new × (step Commit (world_of l s (Some new)) ≡ Ok (world_of (pushed t l) new None))
 

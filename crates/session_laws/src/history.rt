@@ -4,12 +4,12 @@
 //! it.
 ghost use Rattle.std.specs.Prelude.{List};
 ghost use Rattle.walk_model.specs.declared.route.Answer.{Answer};
-ghost use Rattle.session_laws.specs.History.{CommitsPutBehind, RedosGoOn, ScenesAreValid, UndosGoBack};
+ghost use Rattle.session_laws.specs.History.{CommitsExtendPast, RedosGoOn, ScenesAreValid, UndosGoBack};
 
 /// A commit keeps a history: its scenes are those of the world after it, including the scene that
 /// is dropped.
-pub fn commits_put_behind<C: Drop>()
-    ensures { (here there : C → List Answer) → CommitsPutBehind here there }
+pub fn commits_extend_past<C: Drop>()
+    ensures { (here there : C → List Answer) → CommitsExtendPast here there }
 {}
 
 /// An undo keeps a history, if the value kept with the step is exchanged: its scenes are those of

@@ -6,4 +6,4 @@ mod calls;
 mod history;
 
 pub use calls::{commits_are_given_back, sessions_are_worlds};
-pub use history::{commits_put_behind, redos_go_on, scenes_are_valid, undos_go_back};
+pub use history::{commits_extend_past, redos_go_on, scenes_are_valid, undos_go_back};

@@ -170,7 +170,7 @@ struct Outcome {
 }
 
 /// The result of the steps in a session on the drawing.
-fn told<R: Threads + Sync>(
+fn reported<R: Threads + Sync>(
     rt: Option<&R>,
     alloc: Global,
     drawing: Drawing,
@@ -359,9 +359,9 @@ fn answers_calls(rt: HostRuntime) {
             lines: row.lines,
             searches: row.searches,
         };
-        let threaded = told(Some(&rt), rt.alloc(), row.drawing, row.steps);
+        let threaded = reported(Some(&rt), rt.alloc(), row.drawing, row.steps);
         assert_eq!(rt; threaded, Ok(wanted), "{}", row.name);
-        let alone = told::<HostRuntime>(None, rt.alloc(), row.drawing, row.steps);
+        let alone = reported::<HostRuntime>(None, rt.alloc(), row.drawing, row.steps);
         assert_eq!(rt; alone, Ok(wanted), "{}", row.name);
     }
 }

@@ -391,7 +391,7 @@ fn compared(session: &Session, row: &Row) -> Result<Outcome, AllocError> {
 }
 
 /// The result of the row in a session, by two workers, or without threads.
-fn told<R: Threads + Sync>(
+fn reported<R: Threads + Sync>(
     rt: Option<&R>,
     alloc: Global,
     row: &Row,
@@ -401,10 +401,10 @@ fn told<R: Threads + Sync>(
     let Ok(session) = open(rt, alloc, scene) else {
         return Err(SceneFault::Memory);
     };
-    let told = compared(&session, row);
+    let reported = compared(&session, row);
     let _tally = session.into_tally();
     drawn?;
-    told.map_err(|_| SceneFault::Memory)
+    reported.map_err(|_| SceneFault::Memory)
 }
 
 #[test]
@@ -415,9 +415,9 @@ fn nudges_worked_scenes(rt: HostRuntime) {
             y_gaps: true,
             lines: true,
         };
-        let threaded = told(Some(&rt), rt.alloc(), row);
+        let threaded = reported(Some(&rt), rt.alloc(), row);
         assert_eq!(rt; threaded, Ok(wanted), "{}", row.name);
-        let alone = told::<HostRuntime>(None, rt.alloc(), row);
+        let alone = reported::<HostRuntime>(None, rt.alloc(), row);
         assert_eq!(rt; alone, Ok(wanted), "{}", row.name);
     }
 }

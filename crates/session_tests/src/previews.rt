@@ -154,7 +154,7 @@ fn answer<R: Threads + Sync>(
 }
 
 /// The result of the question in a session on the drawing.
-fn told<R: Threads + Sync>(
+fn reported<R: Threads + Sync>(
     rt: &R,
     alloc: Global,
     drawing: Drawing,
@@ -256,9 +256,9 @@ fn answers_proposals(rt: HostRuntime) {
         wrong: 0,
     });
     for row in ROWS {
-        let told = told(&rt, rt.alloc(), row.drawing, &Question::Answers(row));
-        assert_eq!(rt; told, right, "{}", row.name);
+        let reported = reported(&rt, rt.alloc(), row.drawing, &Question::Answers(row));
+        assert_eq!(rt; reported, right, "{}", row.name);
     }
-    let told = told(&rt, rt.alloc(), Drawing::Small, &Question::Gates);
-    assert_eq!(rt; told, right, "two pieces");
+    let reported = reported(&rt, rt.alloc(), Drawing::Small, &Question::Gates);
+    assert_eq!(rt; reported, right, "two pieces");
 }

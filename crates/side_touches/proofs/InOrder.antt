@@ -55,7 +55,7 @@ before at z e h = grind (arith, ints)
 from : (at z : ℤ) → int_lt z at ≡ false → at ≤ℤ z
 from at z e = grind (arith, ints)
 
--- what stands behind the sides before the coordinate, and before those beyond it, are the sides there
+-- what stands after the sides before the coordinate, and before those beyond it, are the sides there
 pub at_one : (at : ℤ) (xs : List Side) (i j : ℕ) → i ≤ length xs → j ≤ length (take i xs) → IsPartitionPoint (λ (s : Side). not (int_lt at s.at) ≡ true) (λ (s : Side). not (int_lt at s.at) ≡ false) xs i →
     IsPartitionPoint (λ (s : Side). int_lt s.at at ≡ true) (λ (s : Side). int_lt s.at at ≡ false) (take i xs) j → (x : Side) → Contains (drop j (take i xs)) x ↔ (Contains xs x × (x.at ≡ at))
 at_one at xs i j li lj first second x =

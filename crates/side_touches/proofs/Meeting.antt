@@ -1,4 +1,4 @@
--- Where one who goes along a whole line comes to extents.
+-- Where one who goes along a whole line reaches extents.
 use Rattle.std.proofs.Common.{ℕ, ℤ, pos, negsuc, ◌+◌, ◌<◌, ◌≡◌, ◌↔◌, ◌⊎◌, ◌-ℤ◌, ◌≤ℤ◌, Bool, true, false, cond, List, [], Option, Some, None, IfSome, IsSomeAnd, length, get_or, take, inl, inr, arith}
 use Rattle.std.specs.Int.{int_max, int_min}
 use Rattle.std.specs.Prelude.{int_lt}

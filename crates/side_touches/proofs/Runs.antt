@@ -117,7 +117,7 @@ touched_by solids l side heading xs p q touching_them n run =
           (shares side m r across (record { at = here.at ∙ sym run.part.at; from = on_run.0; to = on_run.1 })),
     )
 
--- the point of the line at which one comes to it who goes in the direction, on the whole line of the other point
+-- the point of the line at which one reaches it who goes in the direction, on the whole line of the other point
 begin_point : Dir → Line → Point → Point
 begin_point East l q = record { x = l.lo; y = q.y }
 begin_point South l q = record { x = q.x; y = l.lo }
@@ -153,7 +153,7 @@ run_from South l q z run from to = (record { part = record { way = run.part.way;
 run_from West l q z run from to = (record { part = record { way = run.part.way; at = run.part.at; from = run.part.from; to = omega (arith, ints) }; ordered = omega (arith, ints) }, omega (arith, ints))
 run_from North l q z run from to = (record { part = record { way = run.part.way; at = run.part.at; from = run.part.from; to = omega (arith, ints) }; ordered = omega (arith, ints) }, omega (arith, ints))
 
--- one who comes to an extent from the last place comes to one from the line's begin, so that place is on the line
+-- one who reaches an extent from the last place reaches one from the line's begin, so that place is on the line
 last_on_line : (solids : List Solid) (l : Line) (side heading : Dir) (xs : List Extent) (answer : Option ℤ) (q : Point) → AreTouching solids l side xs → IsRunOn l heading q q → IsLastPlace heading (reach heading q) xs answer →
     IfSome answer (λ from. (p : Point) × IsRunOn l heading p q × (reach heading p ≡ from))
 last_on_line solids l side heading xs None q are run last = tt
@@ -186,12 +186,12 @@ touched_upto solids l side heading at xs answer are n last = record {
 
 pub touched_at_all : (solids : List Solid) (l : Line) (side heading : Dir) (at : ℤ) (xs : List Extent) (answer : Bool) → (way_of side ≢ l.way → AreTouching solids l side xs) → way_of side ≢ way_of heading →
     IsTrue answer ↔ Any (λ x. begin_in heading x ≤ℤ at) xs → MayTouch solids l side heading at answer
-touched_at_all solids l side heading at xs answer are n tells = record {
+touched_at_all solids l side heading at xs answer are n means = record {
   if_touched = λ p q run e t.
       let a = (touched_by solids l side heading xs p q are n run).0 t in
-      tells.1 (any_of (λ x. begin_in heading x ≤ℤ at) xs a.1 (member_of (IsMet heading (reach heading p) (reach heading q)) xs a) (subst (λ z. begin_in heading a.1 ≤ℤ z) e a.4.begins));
+      means.1 (any_of (λ x. begin_in heading x ≤ℤ at) xs a.1 (member_of (IsMet heading (reach heading p) (reach heading q)) xs a) (subst (λ z. begin_in heading a.1 ≤ℤ z) e a.4.begins));
   only_if = λ t q run e.
-      let a = tells.0 t in
+      let a = means.0 t in
       let x = a.1 in
       let p = begin_point heading l q in
       let whole = longest_run heading l q run in

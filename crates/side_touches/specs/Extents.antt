@@ -1,4 +1,4 @@
--- Extents along whole lines, and where one who goes along the line comes to them.
+-- Extents along whole lines, and where one who goes along the line reaches them.
 use Rattle.std.specs.Prelude.{ℤ, pos, ◌-ℤ◌, ◌≤ℤ◌, ◌↔◌, List, Any, Option, IfSome, IsSomeAnd}
 use Rattle.std.specs.Int.{int_max, int_min}
 use Rattle.plane_geom.specs.declared.point.Dir.{Dir}
@@ -20,12 +20,12 @@ end_in South x = x.hi
 end_in West x = pos 0 -ℤ x.lo
 end_in North x = pos 0 -ℤ x.lo
 
--- one who goes in the direction, from the one place up to the other, comes to a point of the extent
+-- one who goes in the direction, from the one place up to the other, reaches a point of the extent
 pub record IsMet (d : Dir) (from at : ℤ) (x : Extent) : Type 0 where
   pub begins : begin_in d x ≤ℤ at
   pub ends : from ≤ℤ end_in d x
 
--- one who goes on in the direction up to the place `at` comes to one of the extents exactly if he sets out at the answer or behind it
+-- one who goes on in the direction up to the place `at` reaches one of the extents exactly if he sets out at the answer or behind it
 pub record IsLastPlace (d : Dir) (at : ℤ) (xs : List Extent) (answer : Option ℤ) : Type 0 where
   pub met : (from : ℤ) → from ≤ℤ at → Any (IsMet d from at) xs ↔ IsSomeAnd answer (λ last. from ≤ℤ last)
   pub within : IfSome answer (λ last. last ≤ℤ at)

@@ -23,7 +23,7 @@ impl Extent {
     ghost use Rattle.side_touches.specs.Extents.{begin_in, end_in, joined};
     ghost use Rattle.side_touches.specs.Sides.{is_met_by};
 
-    /// Whether one who goes in the heading comes to the extent up to `at`.
+    /// Whether one who goes in the heading reaches the extent up to `at`.
     pub fn begins_by(self, heading: Dir, at: i64) -> bool
         requires { IsCoordinate at }
         ensures { IsTrue result ↔ (begin_in heading self ≤ℤ at) }
@@ -74,7 +74,7 @@ pub fn hull(extents: &[Extent]) -> Extent
     hull
 }
 
-/// The last place, up to `at`, from which one who goes on in the heading up to `at` comes to one
+/// The last place, up to `at`, from which one who goes on in the heading up to `at` reaches one
 /// of the extents.
 pub fn last_place(extents: &[Extent], heading: Dir, at: i64) -> Option<i64>
     requires { IsCoordinate at }

@@ -100,11 +100,11 @@ not_lt a b e = grind (arith, ints)
 pub lt_not : (a b : ℤ) → b ≤ℤ a → not (int_lt a b) ≡ true
 lt_not a b h = grind (arith, ints)
 
-lt_told : (a b : ℤ) → int_lt a b ≡ true → a <ℤ b
-lt_told a b e = grind (arith, ints)
+lt_holds : (a b : ℤ) → int_lt a b ≡ true → a <ℤ b
+lt_holds a b e = grind (arith, ints)
 
-lt_tells : (a b : ℤ) → a <ℤ b → int_lt a b ≡ true
-lt_tells a b h = grind (arith, ints)
+lt_passes : (a b : ℤ) → a <ℤ b → int_lt a b ≡ true
+lt_passes a b h = grind (arith, ints)
 
 -- the consequences if a mark keeps a piece
 record Keeps (p : Piece) (m : Mark) : Type 0 where
@@ -112,22 +112,22 @@ record Keeps (p : Piece) (m : Mark) : Type 0 where
   to : p.lo ≤ℤ m.hi
   why : (p.lo <ℤ p.hi) ⊎ (is_anchor m.kind ≡ true)
 
-keeps_told : (p : Piece) (m : Mark) → keeps p m ≡ true → Keeps p m
-keeps_told p m e =
+keeps_holds : (p : Piece) (m : Mark) → keeps p m ≡ true → Keeps p m
+keeps_holds p m e =
     let a = not (int_lt p.hi m.lo) in
     let b = not (int_lt m.hi p.lo) in
     let c = int_lt p.lo p.hi || is_anchor m.kind in
     record {
       from = not_lt p.hi m.lo (and_left a b (and_left (a && b) c e));
       to = not_lt m.hi p.lo (and_right a b (and_left (a && b) c e));
-      why = elim (or_either (int_lt p.lo p.hi) (is_anchor m.kind) (and_right (a && b) c e)) [ inl h ↦ inl (lt_told p.lo p.hi h) | inr h ↦ inr h ];
+      why = elim (or_either (int_lt p.lo p.hi) (is_anchor m.kind) (and_right (a && b) c e)) [ inl h ↦ inl (lt_holds p.lo p.hi h) | inr h ↦ inr h ];
     }
 
-keeps_tells : (p : Piece) (m : Mark) → Keeps p m → keeps p m ≡ true
-keeps_tells p m k =
+keeps_passes : (p : Piece) (m : Mark) → Keeps p m → keeps p m ≡ true
+keeps_passes p m k =
     and_both (not (int_lt p.hi m.lo) && not (int_lt m.hi p.lo)) (int_lt p.lo p.hi || is_anchor m.kind)
     (and_both (not (int_lt p.hi m.lo)) (not (int_lt m.hi p.lo)) (lt_not p.hi m.lo k.from) (lt_not m.hi p.lo k.to))
-    (elim k.why [ inl h ↦ or_first (int_lt p.lo p.hi) (is_anchor m.kind) (lt_tells p.lo p.hi h) | inr h ↦ or_second (int_lt p.lo p.hi) (is_anchor m.kind) h ])
+    (elim k.why [ inl h ↦ or_first (int_lt p.lo p.hi) (is_anchor m.kind) (lt_passes p.lo p.hi h) | inr h ↦ or_second (int_lt p.lo p.hi) (is_anchor m.kind) h ])
 
 held_by : (way : Way) (at : ℤ) (p : Piece) (q : Point) → across way q ≡ at → p.lo ≤ℤ along way q → along way q ≤ℤ p.hi → Holds (line_of way at p) q
 held_by Vertical at p q e l h = record { along = q.y; from = l; to = h; here = λ i. record { x = e i; y = q.y } }
@@ -181,11 +181,11 @@ module _ (floor : Floor) (way : Way) (at : ℤ) (here : List Mark) (are : AreAt 
   pub reason_of_keeps : (p : Piece) → list_any (keeps p) here ≡ true → Reason floor (line_of way at p)
   reason_of_keeps p e =
       let a = Any-from_list_any (keeps p) here e in
-      reason_of_mark p a.1 (contains_of_among here a.1 (among_of_any (λ m. keeps p m ≡ true) here a)) (keeps_told p a.1 a.4)
+      reason_of_mark p a.1 (contains_of_among here a.1 (among_of_any (λ m. keeps p m ≡ true) here a)) (keeps_holds p a.1 a.4)
 
   keeps_by : (p : Piece) (m : Mark) → Contains (marks_of way (bars_of way floor.solids) floor.anchors) m → m.at ≡ at → Keeps p m → list_any (keeps p) here ≡ true
   keeps_by p m c a k =
-      list_any-from_Any (keeps p) here (any_of_among (λ m. keeps p m ≡ true) here m (among_of_contains here m (are.all m c a)) (keeps_tells p m k))
+      list_any-from_Any (keeps p) here (any_of_among (λ m. keeps p m ≡ true) here m (among_of_contains here m (are.all m c a)) (keeps_passes p m k))
 
   keeps_of_side : (p : Piece) → p.lo <ℤ p.hi → (s : Solid) → Among s floor.solids → SharesSide (line_of way at p) s.rect → list_any (keeps p) here ≡ true
   keeps_of_side p o s i (lo, hi, side, to, from) =

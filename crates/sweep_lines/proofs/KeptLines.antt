@@ -127,21 +127,21 @@ asked_alike floor Is Becomes ls f g a = record {
 }
 
 -- whether a number is between others
-pub between_told : (first last z : ℤ) → is_within first last z ≡ true → (first ≤ℤ z) × (z ≤ℤ last)
-between_told first last z e =
+pub between_holds : (first last z : ℤ) → is_within first last z ≡ true → (first ≤ℤ z) × (z ≤ℤ last)
+between_holds first last z e =
     let a = not (int_lt z first) in
     let b = not (int_lt last z) in
     (not_lt z first (and_left a b e), not_lt last z (and_right a b e))
 
-pub between_tells : (first last z : ℤ) → first ≤ℤ z → z ≤ℤ last → is_within first last z ≡ true
-between_tells first last z h k = and_both (not (int_lt z first)) (not (int_lt last z)) (lt_not z first h) (lt_not last z k)
+pub between_passes : (first last z : ℤ) → first ≤ℤ z → z ≤ℤ last → is_within first last z ≡ true
+between_passes first last z h k = and_both (not (int_lt z first)) (not (int_lt last z)) (lt_not z first h) (lt_not last z k)
 
-pub near_told : (near : Rect) (l : Line) → is_near near l ≡ true → RunsWithin l.way (first_side l.way near) (last_side l.way near) l
-near_told near l e = let h = between_told (first_side l.way near) (last_side l.way near) l.at e in record { way_is = refl; from = h.0; to = h.1 }
+pub near_holds : (near : Rect) (l : Line) → is_near near l ≡ true → RunsWithin l.way (first_side l.way near) (last_side l.way near) l
+near_holds near l e = let h = between_holds (first_side l.way near) (last_side l.way near) l.at e in record { way_is = refl; from = h.0; to = h.1 }
 
-pub near_tells : (near : Rect) (way : Way) (l : Line) → RunsWithin way (first_side way near) (last_side way near) l → is_near near l ≡ true
-near_tells near way l b =
-    subst (λ w. is_within (first_side w near) (last_side w near) l.at ≡ true) (sym b.way_is) (between_tells (first_side way near) (last_side way near) l.at b.from b.to)
+pub near_passes : (near : Rect) (way : Way) (l : Line) → RunsWithin way (first_side way near) (last_side way near) l → is_near near l ≡ true
+near_passes near way l b =
+    subst (λ w. is_within (first_side w near) (last_side w near) l.at ≡ true) (sym b.way_is) (between_passes (first_side way near) (last_side way near) l.at b.from b.to)
 
 -- what `lines_at` has at its end
 pub on_one_line : (floor : Floor) (way : Way) (at : ℤ) (ls : List Line) → AreKept floor (RunsWithin way at at) ls → AreKept floor (λ l. (l.way ≡ way) × (l.at ≡ at)) ls
@@ -150,9 +150,9 @@ on_one_line floor way at ls = asked_alike floor (RunsWithin way at at) (λ l. (l
     (λ l h. let e = h.1 in record { way_is = h.0; from = omega (arith, ints); to = omega (arith, ints) })
 
 -- vertical lines, then horizontal ones
-way_told : (w : Way) → (w ≡ Vertical) ⊎ (w ≡ Horizontal)
-way_told Vertical = inl refl
-way_told Horizontal = inr refl
+either_way : (w : Way) → (w ≡ Vertical) ⊎ (w ≡ Horizontal)
+either_way Vertical = inl refl
+either_way Horizontal = inr refl
 
 upright_first : (v w : Way) (rest : Bool) → v ≡ Vertical → w ≡ Horizontal → way_before v w rest ≡ true
 upright_first Vertical Vertical rest e f = absurd (cc)
@@ -164,11 +164,11 @@ pub both_ways : (floor : Floor) (near : Rect) (ls ms : List Line) → AreKept fl
 both_ways floor near ls ms a b =
     record {
       kept = All-append (λ l. IsKept floor l × (is_near near l ≡ true)) ls ms
-          (All-weaker (λ l. IsKept floor l × RunsWithin Vertical near.left near.right l) (λ l. IsKept floor l × (is_near near l ≡ true)) (λ l h. (h.0, near_tells near Vertical l h.1)) ls a.kept)
-          (All-weaker (λ l. IsKept floor l × RunsWithin Horizontal near.top near.bottom l) (λ l. IsKept floor l × (is_near near l ≡ true)) (λ l h. (h.0, near_tells near Horizontal l h.1)) ms b.kept);
+          (All-weaker (λ l. IsKept floor l × RunsWithin Vertical near.left near.right l) (λ l. IsKept floor l × (is_near near l ≡ true)) (λ l h. (h.0, near_passes near Vertical l h.1)) ls a.kept)
+          (All-weaker (λ l. IsKept floor l × RunsWithin Horizontal near.top near.bottom l) (λ l. IsKept floor l × (is_near near l ≡ true)) (λ l h. (h.0, near_passes near Horizontal l h.1)) ms b.kept);
       all = λ l k w.
-          let between = near_told near l w in
-          elim (way_told l.way) [
+          let between = near_holds near l w in
+          elim (either_way l.way) [
             | inl e ↦ Contains-append_left ls ms l (a.all l k (subst (λ v. RunsWithin v (first_side v near) (last_side v near) l) e between))
             | inr e ↦ Contains-append_right ls ms l (b.all l k (subst (λ v. RunsWithin v (first_side v near) (last_side v near) l) e between))
           ];
@@ -191,6 +191,6 @@ between_ends Horizontal l e on = record { way_is = e; from = on.low; to = on.hig
 pub on_whole_sheet : (floor : Floor) (ls : List Line) → AreKept floor (λ l. is_near sheet l ≡ true) ls → AreAllKept floor ls
 on_whole_sheet floor ls a = record {
   kept = All-weaker (λ l. IsKept floor l × (is_near sheet l ≡ true)) (λ l. IsKept floor l × Unit {0}) (λ l h. (h.0, tt)) ls a.kept;
-  all = λ l k _. a.all l k (near_tells sheet l.way l (between_ends l.way l refl k.longest.piece.at));
+  all = λ l k _. a.all l k (near_passes sheet l.way l (between_ends l.way l refl k.longest.piece.at));
   ordered = a.ordered;
 }

@@ -34,7 +34,7 @@ use Rattle.sweep_lines.proofs.Standing.{mark_cases, marks_have_sides, marks_have
 use Rattle.sweep_lines.proofs.Spans.{spans_alike, begun_spans, closed, new_keys, opened}
 use Rattle.sweep_lines.proofs.Loops.{got_is, read, read_back}
 use Rattle.sweep_lines.proofs.KeptAt.{Reason, held_across}
-use Rattle.sweep_lines.proofs.KeptLines.{IsSound, sound_bars, kept_lines, between_told, between_tells}
+use Rattle.sweep_lines.proofs.KeptLines.{IsSound, sound_bars, kept_lines, between_holds, between_passes}
 
 -- all marks of the way
 abbrev pub all_marks : Floor → Way → List Mark
@@ -96,12 +96,12 @@ swept_at_first floor way from to marks index is moved order spans =
       rest_each = λ m c.
           let a = Contains-permutation marks between m (IsPermutation-sym between marks moved) c in
           let f = among_filtered (λ (m : Mark). is_within from to m.at) (all_marks floor way) m (among_of_contains between m a) in
-          let h = between_told from to m.at f.1 in
+          let h = between_holds from to m.at f.1 in
           (contains_of_among (all_marks floor way) m f.0, omega (arith, ints, h.0), h.1);
       rest_all = λ m c h k.
           Contains-permutation between marks m moved
           (contains_of_among between m (among_filter (λ (m : Mark). is_within from to m.at) (all_marks floor way) m (among_of_contains (all_marks floor way) m c)
-          (between_tells from to m.at (omega (arith, ints)) k)));
+          (between_passes from to m.at (omega (arith, ints)) k)));
       ordered = order;
       once = λ k.
           let e = sum_by-IsPermutation (λ (m : Mark). cond (begins k m.kind) 1 0) between marks moved in

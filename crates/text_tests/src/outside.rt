@@ -27,7 +27,7 @@ fn copy<F: Folder, O: Sink>(
     out: &mut O,
 ) -> Result<Result<(), WriteFailed>, FolderFault>
     ensures copied { IfOk result (λ written. OnOk written
-        (IfSome (F.files folder.old) (λ told. IfSome (file_named told name.now) (λ bytes.
+        (IfSome (F.files folder.old) (λ exposed. IfSome (file_named exposed name.now) (λ bytes.
         O.held out.new ≡ append_known (O.held out.old) bytes)))) }
     ensures unread { IsErrOf result FolderFault.Failed → (taken : ℕ)
         × GainsNote (F.notes folder.old) (F.notes folder.new) name.now 100 taken true }
@@ -288,7 +288,7 @@ impl Print for Closed {
 }
 
 #[test]
-fn tells_of_a_closed_output(rt: HostRuntime) {
+fn reports_a_closed_output(rt: HostRuntime) {
     let mut sink = StdSink::new(&Closed);
     assert_eq!(rt; sink.write(b"lost"), Err(WriteFailed));
 }

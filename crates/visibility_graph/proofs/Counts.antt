@@ -17,11 +17,11 @@ module _ {X : Type 0} (p : X → Bool) where
       ap (λ b. cond b (x ∷ filter p xs) (filter p xs)) (h zero x (omega arith)) ∙ nothing xs (λ k d l. h (suc k) d (omega arith))
 
   -- the elements that pass come after a beginning in which none passes
-  pub filter_behind : (xs : List X) (n : ℕ) → AllWithin (λ x. p x ≡ false) xs 0 n → filter p (drop n xs) ≡ filter p xs
-  filter_behind xs zero h = refl
-  filter_behind [] (suc n) h = refl
-  filter_behind (x ∷ xs) (suc n) h =
-      filter_behind xs n (λ k d low high. h (suc k) d (omega arith) (omega arith))
+  pub filter_after : (xs : List X) (n : ℕ) → AllWithin (λ x. p x ≡ false) xs 0 n → filter p (drop n xs) ≡ filter p xs
+  filter_after xs zero h = refl
+  filter_after [] (suc n) h = refl
+  filter_after (x ∷ xs) (suc n) h =
+      filter_after xs n (λ k d low high. h (suc k) d (omega arith) (omega arith))
       ∙ sym (ap (λ b. cond b (x ∷ filter p xs) (filter p xs)) (h zero x (omega arith) (omega arith)))
 
   -- and before a back where nothing does

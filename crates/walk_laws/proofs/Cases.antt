@@ -15,7 +15,7 @@ use Rattle.walk_model.specs.declared.task.Choice.{Choice}
 use Rattle.walk_model.specs.declared.task.Task.{Task}
 use Rattle.walk_model.specs.Order.{Triple, IsFirst, IsLegalTriple}
 use Rattle.walk_model.proofs.Ranking.First.{one_first}
-use Rattle.walk_model.proofs.Ranking.Deciding.{legal_told, shown}
+use Rattle.walk_model.proofs.Ranking.Deciding.{legal_reflects, shown}
 use Rattle.walk_laws.specs.Lines.{run_line}
 use Rattle.walk_laws.specs.Runs.{runs_of_way}
 use Rattle.walk_laws.proofs.OnKeptLines.Lines.{chosen}
@@ -67,7 +67,7 @@ abbrev two_stubs : Triple
 two_stubs = record { start = 0; walk = record { start = at (pos 1) (pos 2); steps = East ∷ East ∷ [] }; end = 0 }
 
 legal : IsLegalTriple floor.solids task two_stubs
-legal = record { start = start; end = end; is_start = refl; is_end = refl; legal = shown _ (legal_told floor.solids [] start two_stubs.walk end) refl }
+legal = record { start = start; end = end; is_start = refl; is_end = refl; legal = shown _ (legal_reflects floor.solids [] start two_stubs.walk end) refl }
 
 -- there is a first walk, and its start port is no crossing: an end port inside a solid of its own node has to be ruled out
 port_inside : (t : Triple) × (first : IsFirst floor.solids task t) × (IsCrossing floor first.legal.start.port → ⊥)

@@ -49,7 +49,7 @@ pub fn first_walks_have_few_runs()
 /// Each run of a first walk that begins after the start port and ends before the end port holds a
 /// checkpoint, or shares a point with a closed side of a solid on its whole line.
 ///
-/// The solid lies on the side from which the walk comes to the run; where the walk goes on after
+/// The solid lies on the side from which the walk reaches the run; where the walk goes on after
 /// the run in the direction in which it came, on the side of the lesser coordinate.
 pub fn runs_are_held_to_a_side()
     ensures { (solids : List Solid) (task : Task) (t : Triple) → IsTask task → (first : IsFirst solids task t) →

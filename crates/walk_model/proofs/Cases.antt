@@ -7,7 +7,7 @@ use Rattle.plane_geom.specs.declared.rect.Solid.{Solid}
 use Rattle.walk_model.specs.declared.task.Choice.{Choice}
 use Rattle.walk_model.specs.Line.{walk_through}
 use Rattle.walk_model.specs.Legal.{IsLegal}
-use Rattle.walk_model.proofs.Ranking.Deciding.{is_legal, legal_told, refuted, shown}
+use Rattle.walk_model.proofs.Ranking.Deciding.{is_legal, legal_reflects, refuted, shown}
 
 abbrev at : ℤ → ℤ → Point
 at x y = record { x = x; y = y }
@@ -26,10 +26,10 @@ record Refuses (solids : List Solid) (via : List Point) (s e : Choice) (line : L
   illegal : IsLegal solids via s (walk_through s.pin line) e → ⊥
 
 accepted : {solids : List Solid} {via : List Point} {s e : Choice} {line : List Point} → is_legal solids via s (walk_through s.pin line) e ≡ true → Accepts solids via s e line
-accepted {solids} {via} {s} {e} {line} h = record { legal = shown _ (legal_told solids via s (walk_through s.pin line) e) h }
+accepted {solids} {via} {s} {e} {line} h = record { legal = shown _ (legal_reflects solids via s (walk_through s.pin line) e) h }
 
 refused : {solids : List Solid} {via : List Point} {s e : Choice} {line : List Point} → is_legal solids via s (walk_through s.pin line) e ≡ false → Refuses solids via s e line
-refused {solids} {via} {s} {e} {line} h = record { illegal = refuted _ (legal_told solids via s (walk_through s.pin line) e) h }
+refused {solids} {via} {s} {e} {line} h = record { illegal = refuted _ (legal_reflects solids via s (walk_through s.pin line) e) h }
 
 -- two boxes whose buffered boxes touch, so that both ports are one point
 abbrev touching : List Solid

@@ -15,7 +15,7 @@ use Rattle.walk_model.specs.Choice.{stub_length}
 use Rattle.walk_model.specs.Walk.{Walk, MeetsAt, point_at, step_at}
 use Rattle.walk_model.specs.Line.{AreStraight, steps_of, walk_through}
 use Rattle.walk_model.specs.Legal.{Arrives, Leaves, IsFree, IsLegal, Passes, cost_with}
-use Rattle.walk_model.proofs.Ranking.Deciding.{told, legal_told}
+use Rattle.walk_model.proofs.Ranking.Deciding.{decided, legal_reflects}
 use Rattle.scene_model.proofs.Editing.Entries.{each_weaker}
 use Rattle.route_check.specs.declared.verdict.Breach.{Breach}
 use Rattle.route_check.specs.declared.verdict.Breach.TheVariants.{Slanted, StartOff, EndOff, Hits as HitsAt, MissesVia}
@@ -213,7 +213,7 @@ module _ (solids : List Solid) (task : Task) (p : Point) (qs : List Point) (stra
 
   costs_decided : (n : ℕ) → Dec (Costs w n)
   unfolding Costs
-  costs_decided n = some_in _ (λ s. some_in _ (λ e. both (told (legal_told solids task.via s w e)) (ℕ_discrete (cost_with task.penalty s w e) n)) task.ends) task.starts
+  costs_decided n = some_in _ (λ s. some_in _ (λ e. both (decided (legal_reflects solids task.via s w e)) (ℕ_discrete (cost_with task.penalty s w e) n)) task.ends) task.starts
 
   by_cost : (n : ℕ) → HasLeast (Costs w) n → Verdict
   unfolding Costs Verdict
@@ -254,7 +254,7 @@ module _ (solids : List Solid) (task : Task) (p : Point) (qs : List Point) (stra
 
   by_joined : Dec (AreJoined w) → AreLeft w → Verdict
   unfolding AreLegal AreJoined AreLeft Verdict
-  by_joined (yes pair) left = by_legal (some_in _ (λ s. some_in _ (λ e. told (legal_told solids task.via s w e)) task.ends) task.starts) pair
+  by_joined (yes pair) left = by_legal (some_in _ (λ s. some_in _ (λ e. decided (legal_reflects solids task.via s w e)) task.ends) task.starts) pair
   by_joined (no none) (s, is_start, leaves) = (
     Err EndOff,
     (

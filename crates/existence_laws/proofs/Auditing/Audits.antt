@@ -202,29 +202,29 @@ module _ (floor : Floor) (task : Task) (claim : Claim) (rows : List LabelRow) wh
   by_all right shown entries moves (yes endings) = inl (record { right_rows = right; shown = shown; entries = entries; moves = moves; endings = endings })
   by_all right shown entries moves (no not) = inr (6, by_endings right shown entries moves not refl)
 
-  by_moves_told : AreRows floor task claim rows → IsShown floor task claim → AreEntriesFound floor task claim rows → Dec (AreMovesFound floor task claim rows) → Ruled
+  by_moves_decided : AreRows floor task claim rows → IsShown floor task claim → AreEntriesFound floor task claim rows → Dec (AreMovesFound floor task claim rows) → Ruled
   unfolding Ruled
-  by_moves_told right shown entries (yes moves) = by_all right shown entries moves endings_decided
-  by_moves_told right shown entries (no not) = inr (5, by_moves right shown entries not refl)
+  by_moves_decided right shown entries (yes moves) = by_all right shown entries moves endings_decided
+  by_moves_decided right shown entries (no not) = inr (5, by_moves right shown entries not refl)
 
-  by_entries_told : AreRows floor task claim rows → IsShown floor task claim → Dec (AreEntriesFound floor task claim rows) → Ruled
+  by_entries_decided : AreRows floor task claim rows → IsShown floor task claim → Dec (AreEntriesFound floor task claim rows) → Ruled
   unfolding Ruled
-  by_entries_told right shown (yes entries) = by_moves_told right shown entries moves_all_decided
-  by_entries_told right shown (no not) = inr (4, by_entries right shown not refl)
+  by_entries_decided right shown (yes entries) = by_moves_decided right shown entries moves_all_decided
+  by_entries_decided right shown (no not) = inr (4, by_entries right shown not refl)
 
   by_shown : AreRows floor task claim rows → Dec (IsShown floor task claim) → Ruled
   unfolding Ruled
-  by_shown right (yes shown) = by_entries_told right shown entries_decided
+  by_shown right (yes shown) = by_entries_decided right shown entries_decided
   by_shown right (no not) = inr (3, by_line right not refl)
 
-  by_rows_told : Dec (AreRows floor task claim rows) → Ruled
+  by_rows_decided : Dec (AreRows floor task claim rows) → Ruled
   unfolding Ruled
-  by_rows_told (yes right) = by_shown right (shown_by claim)
-  by_rows_told (no not) = inr (2, by_rows not refl)
+  by_rows_decided (yes right) = by_shown right (shown_by claim)
+  by_rows_decided (no not) = inr (2, by_rows not refl)
 
   pub ruled : Proves floor task claim rows ⊎ ((rule : ℕ) × BreaksFirst floor task claim rows rule)
   unfolding Ruled
-  ruled = by_rows_told rows_decided
+  ruled = by_rows_decided rows_decided
 
 -- one connector after the other
 module _ (s : Scene) where

@@ -66,7 +66,7 @@ gathered_exchange n (suc links) end m y within =
 
 -- ---- flows
 
--- what comes to a node less what leaves it, and both together
+-- what flows into a node less what leaves it, and both together
 abbrev pub net : ℕ → (ℕ → ℕ) → (ℕ → ℕ) → (ℕ → ℤ) → ℕ → ℤ
 net links from to m x = gathered links to m x -ℤ gathered links from m x
 

@@ -283,7 +283,7 @@ module _ (b : Bundle) (gap : ℤ) (ok : IsBundle b) (widest : IsWidestGap b gap)
         tight = rw (den_at r.left ends.0, den_at r.right ends.1, int_at-listed n p r.left ends.0, int_at-listed n p r.right ends.1, int_at-listed rules m j l) (rule_tight j l);
       }
 
-  -- what comes to an item, and what leaves it
+  -- what flows into an item, and what leaves it
   rule_sum : (end : Rule → ℕ) (i : ℕ) → sum_at end i b.rules.items mults ≡ sum_below rules (λ j. here (end (rule_at b.rules.items j)) i (m j))
   rule_sum end i =
       sum_at_is end i b.rules.items mults no_rule (length_of m rules)

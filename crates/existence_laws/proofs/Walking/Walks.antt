@@ -12,7 +12,7 @@ use Rattle.walk_model.specs.declared.task.Task.{Task}
 use Rattle.walk_model.specs.Walk.{Walk}
 use Rattle.walk_model.specs.Legal.{IsLegal}
 use Rattle.walk_model.specs.Order.{Triple, IsLegalTriple}
-use Rattle.walk_model.proofs.Ranking.Deciding.{told, legal_told}
+use Rattle.walk_model.proofs.Ranking.Deciding.{decided, legal_reflects}
 use Rattle.existence_laws.proofs.Deciding.Decided.{one_of, some_below}
 
 -- a list of at most n steps
@@ -78,7 +78,7 @@ short_by solids task n i j (Some s) (Some e) h k = map_dec
     let same : w.start ≡ s = let both : Some w.start ≡ Some s = sym w.is_start ∙ h in cc in
     let also : w.end ≡ e = let both : Some w.end ≡ Some e = sym w.is_end ∙ k in cc in
     (w.steps, w.few, subst (λ (c : Choice). IsLegal solids task.via c (from_pin c w.steps) e) same (subst (IsLegal solids task.via w.start (from_pin w.start w.steps)) also w.legal)))
-    (some_steps n (λ ds. IsLegal solids task.via s (from_pin s ds) e) (λ ds. told (legal_told solids task.via s (from_pin s ds) e)))
+    (some_steps n (λ ds. IsLegal solids task.via s (from_pin s ds) e) (λ ds. decided (legal_reflects solids task.via s (from_pin s ds) e)))
 
 -- a legal walk of at most n steps
 abbrev pub HasShort : List Solid → Task → ℕ → Type 0

@@ -35,7 +35,7 @@ use Rattle.search_labels.specs.declared.origin.Origin.{Origin}
 use Rattle.search_labels.specs.Problems.{IsReady}
 use Rattle.search_labels.specs.declared.problem.Problem.{Problem}
 use Rattle.side_touches.specs.Touches.{AreLineTouches, IsRunOn, LineTouches}
-use Rattle.exit_spread.specs.Handing.{AreOf, crosswise}
+use Rattle.exit_spread.specs.Propagating.{AreOf, crosswise}
 use Rattle.exit_spread.proofs.Known.Lines.{further_less}
 
 not_both : (w : Way) → w ≡ Vertical → w ≡ Horizontal → ⊥

@@ -26,7 +26,7 @@ use Rattle.search_labels.specs.declared.ends.Ending.{Ending}
 use Rattle.search_labels.specs.declared.problem.Problem.{Problem}
 use Rattle.exit_rows.specs.Exits.{ahead_at}
 use Rattle.exit_spread.specs.declared.spread.Spread.{Spread}
-use Rattle.exit_spread.specs.Offers.{IsHandedAt, IsHeldUpTo, IsOffered, exit_of}
+use Rattle.exit_spread.specs.Offers.{IsPropagatedAt, IsHeldUpTo, IsOffered, exit_of}
 use Rattle.exit_spread.specs.Searching.{IsKeptOf, IsSpread, IsStubOffered}
 use Rattle.exit_spread.specs.Ways.{AreNumbered, place_at, turned}
 use Rattle.exit_spread.proofs.Known.AheadOrder.{less_is_greater}
@@ -72,9 +72,9 @@ module _ (p : Problem) (number_of : ℕ → Way → ℕ) (s : Spread) (ready : I
     kept_of_known : IsKeptOf p number_of y.stage (number_of y.crossing (way_of d)) d k.kept
     kept_of_known = may_keep p number_of s ready numbered spread t first along y.stage y.crossing d k.point k.kept k.here k.has
 
-    -- what is known is not undercut, so it was handed on
-    handed : IsHandedAt p number_of s None y.stage d k.kept y.crossing k.point
-    handed = elim (spread.searching.handed y.stage y.crossing d k.point k.kept k.here k.has (λ none. cc) y.crossing k.point k.here refl k.counts) as (λ _. IsHandedAt p number_of s None y.stage d k.kept y.crossing k.point) [
+    -- what is known is not undercut, so it was propagated
+    propagated : IsPropagatedAt p number_of s None y.stage d k.kept y.crossing k.point
+    propagated = elim (spread.searching.propagated y.stage y.crossing d k.point k.kept k.here k.has (λ none. cc) y.crossing k.point k.here refl k.counts) as (λ _. IsPropagatedAt p number_of s None y.stage d k.kept y.crossing k.point) [
       | inl (i, o, lt, is, both) ↦ absurd (
           k.least o (i, lt, is) both.0 (ap (λ u. ahead_cmp u (ahead_at o (reach d k.point))) (sym k.is) ∙ less_is_greater (ahead_at o (reach d k.point)) (ahead_at k.kept (reach d k.point)) both.1))
       | inr at ↦ at
@@ -115,7 +115,7 @@ module _ (p : Problem) (number_of : ℕ → Way → ℕ) (s : Spread) (ready : I
       let own = held_up y d z next v k y.heading r at_r
       (subst (λ x. (next ≡ None) ⊎ ((b : Dir) × (next ≡ Some b) × IsHeldTo p.solids.now p.task.now.via (held_to y.heading b) (run_line x d (distance x r)))) (sym here) held) in
       let begins = may_begin p ready t first along y k.point m back k.here (subst (λ x. IsTurn p.solids.now p.arena.now p.task.now t along y x m back) (sym here) turns) in
-      let offered = (handed y d z next v k).turns y.heading turns.once own begins in
+      let offered = (propagated y d z next v k).turns y.heading turns.once own begins in
       inl (moved k.point u y y (Some d) _ _ (one_point p.arena.now y.crossing k.point u ready.arena k.here at_u) refl (λ i. turned p y.heading (here i) d (k.is i)) offered)
 
   -- a tip
@@ -126,7 +126,7 @@ module _ (p : Problem) (number_of : ℕ → Way → ℕ) (s : Spread) (ready : I
       let d = m.to.heading in
       let here : k.point ≡ q = one_point p.arena.now y.crossing k.point q ready.arena k.here h.here in
       let from : opposite d ≡ y.heading = sym (from_opposite y.heading d twice) in
-      let offered = (handed y d z next v k).tips (subst (Contains p.task.now.via) (sym here) has) in
+      let offered = (propagated y d z next v k).tips (subst (Contains p.task.now.via) (sym here) has) in
       inl (moved k.point u (place_at y.crossing y.stage (opposite d)) y None _ _ (one_point p.arena.now y.crossing k.point u ready.arena k.here at_u) (λ i. place_at y.crossing y.stage (from i))
       (λ i. turned p (from i) (here i) d (k.is i)) offered)
 
@@ -143,5 +143,5 @@ module _ (p : Problem) (number_of : ℕ → Way → ℕ) (s : Spread) (ready : I
         rest = subst (λ r. Rest p ready t first along y r (m ∷ back)) points h;
         straight = straight;
         offered = λ j less comes. moved k.point u (place_at y.crossing y.stage d) y None _ _ here (λ i. place_at y.crossing y.stage (sym straight i)) k.is
-            ((handed y d z next v k).ons j less (subst (λ r. ComesTo p.task.now.via j r y.stage) (sym here) comes));
+            ((propagated y d z next v k).ons j less (subst (λ r. ComesTo p.task.now.via j r y.stage) (sym here) comes));
       })

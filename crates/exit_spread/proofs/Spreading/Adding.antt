@@ -8,7 +8,7 @@ use Rattle.search_labels.specs.declared.problem.Problem.{Problem}
 use Rattle.exit_rows.specs.declared.exit.Exit.{Exit}
 use Rattle.exit_spread.specs.declared.run.Run.{Run}
 use Rattle.exit_spread.specs.declared.spread.Spread.{Spread}
-use Rattle.exit_spread.specs.Handing.{Adds, IsMetAt, IsSound, IsTurnedAt, IsTurnedOff}
+use Rattle.exit_spread.specs.Propagating.{Adds, IsMetAt, IsSound, IsTurnedAt, IsTurnedOff}
 use Rattle.exit_spread.specs.Offers.{IsOffered}
 use Rattle.exit_spread.proofs.Spreading.Still.{same_kept, still_offered}
 

@@ -30,7 +30,7 @@ use Rattle.search_labels.specs.declared.problem.Problem.{Problem}
 use Rattle.exit_rows.specs.Exits.{CountsAt, IsSmallKept, ahead_at}
 use Rattle.exit_rows.specs.declared.exit.Kept.{Kept}
 use Rattle.exit_spread.specs.declared.run.Run.{Run}
-use Rattle.exit_spread.specs.Handing.{IsBehind, IsFurtherAhead, IsOfferable, IsRun}
+use Rattle.exit_spread.specs.Propagating.{IsBehind, IsFurtherAhead, IsOfferable, IsRun}
 use Rattle.exit_spread.specs.Offers.{from_of}
 use Rattle.exit_spread.specs.Searching.{IsKeptOf}
 use Rattle.exit_spread.specs.Ways.{AreNumbered, IsWayAhead, place_at, turned}

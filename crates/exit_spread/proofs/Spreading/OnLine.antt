@@ -23,7 +23,7 @@ use Rattle.line_lists.proofs.OnLine.{one_of_both, same_line}
 use Rattle.search_labels.specs.Problems.{IsReady}
 use Rattle.search_labels.specs.declared.problem.Problem.{Problem}
 use Rattle.exit_spread.specs.declared.run.Run.{Run}
-use Rattle.exit_spread.specs.Handing.{IsRun, reach_along}
+use Rattle.exit_spread.specs.Propagating.{IsRun, reach_along}
 use Rattle.exit_spread.proofs.Known.Numbers.{numbered_line}
 
 across_on : (d : Dir) (l : Line) (p : Point) → l.way ≡ way_of d → Holds l p → across (way_of d) p ≡ l.at
@@ -48,7 +48,7 @@ along_on : (w : Way) (at z : ℤ) → along w (point_on w at z) ≡ z
 along_on Vertical at z = refl
 along_on Horizontal at z = refl
 
--- a point is told by its coordinates across and along
+-- a point is determined by its coordinates across and along
 pub there : (w : Way) (p : Point) → point_on w (across w p) (along w p) ≡ p
 there Vertical p = refl
 there Horizontal p = refl

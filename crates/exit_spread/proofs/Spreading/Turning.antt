@@ -15,7 +15,7 @@ use Rattle.search_labels.specs.declared.problem.Problem.{Problem}
 use Rattle.exit_rows.specs.Exits.{ahead_at}
 use Rattle.exit_spread.specs.declared.run.Run.{Run}
 use Rattle.exit_spread.specs.declared.spread.Spread.{Spread}
-use Rattle.exit_spread.specs.Handing.{IsTurnOffered}
+use Rattle.exit_spread.specs.Propagating.{IsTurnOffered}
 use Rattle.exit_spread.specs.Searching.{most_stops}
 
 pub left_out : (p : Problem) (line_of : ℕ → Way → ℕ) (s : Spread) (r : Run) (h : Dir) (c : ℕ) (q : Point) → s.best < (ahead_at r.kept (reach r.heading q)).cost → IsTurnOffered p line_of s r h c q

@@ -1,4 +1,4 @@
--- A line keeps one exit more, which is handed on.
+-- A line keeps one exit more, which is propagated.
 use Rattle.std.proofs.Common.{◌≡◌, ◌⊎◌, ℕ, ◌+◌, ◌*◌, ◌<◌, ◌≤◌, ◌≤ℤ◌, ◌<ℤ◌, ℤ, pos, ◌-ℤ◌, zero, suc, List, [], ◌∷◌, ◌++◌, Option, None, refl, sym, ap, subst, ◌∙◌, inl, inr, arith}
 use Rattle.std.specs.Prelude.{All, Contains}
 use Rattle.std.proofs.Math.Nat.{mul-le-mul_left}
@@ -25,8 +25,8 @@ use Rattle.exit_rows.proofs.Late.{stands_for_itself}
 use Rattle.exit_rows.proofs.Lighter.{rows_lighter}
 use Rattle.exit_spread.specs.declared.run.Run.{Run}
 use Rattle.exit_spread.specs.declared.spread.Spread.{Spread}
-use Rattle.exit_spread.specs.Handing.{Adds, IsBehind, IsRun}
-use Rattle.exit_spread.specs.Offers.{IsHandedAt, IsHandedOn, IsOffered, from_of, kept_of}
+use Rattle.exit_spread.specs.Propagating.{Adds, IsBehind, IsRun}
+use Rattle.exit_spread.specs.Offers.{IsPropagatedAt, IsPropagated, IsOffered, from_of, kept_of}
 use Rattle.exit_spread.specs.Searching.{IsKeptOf, IsSearching, most_stops}
 use Rattle.exit_spread.specs.Taking.{Grows, IsExit}
 use Rattle.exit_spread.specs.Ways.{AreNumbered}
@@ -34,7 +34,7 @@ use Rattle.exit_spread.proofs.Sizes.{kept_small}
 use Rattle.exit_spread.proofs.Spreading.Adding.{offered_in}
 use Rattle.exit_spread.proofs.Spreading.Still.{AllKept, still_offered}
 use Rattle.exit_spread.proofs.Taking.Numbered.{one_heading}
-use Rattle.exit_spread.proofs.Taking.Offered.{handed_at, handed_still}
+use Rattle.exit_spread.proofs.Taking.Offered.{propagated_at, propagated_still}
 
 module _ (p : Problem) (ready : IsReady p) (lists : Lists) (number_of : ℕ → Way → ℕ) (x : Exit) (at : Point) (is : IsExit p number_of x at) (k : ℕ) (comes : ComesTo p.task.now.via k at x.place.stage) where
   abbrev h : Dir
@@ -93,11 +93,11 @@ module _ (p : Problem) (ready : IsReady p) (lists : Lists) (number_of : ℕ → 
       pub is_run : IsRun p number_of run
       is_run = record { here = here; kept = may_keep; from = from; within = stop_within }
 
-      -- the line keeps the exit, which is handed on
+      -- the line keeps the exit, which is propagated
       module _ (numbered : AreNumbered p.arena.now number_of) (below : x.place.crossing < p.arena.now.places) (late : IsLate row e → ⊥)
           (rows : Rows) (keeps : Keeps old.rows rows k x.line h e) (marked : IsMarked rows) (new : Spread) (same : new.rows ≡ rows)
           (adds : Adds p number_of (record { rows = rows; queue = old.queue; best = old.best }) new (2 * most_stops lists + 8))
-          (handed : (c : ℕ) (q : Point) → IsBehind p number_of run c q → IsHandedAt p number_of new None k h run.kept c q) where
+          (propagated : (c : ℕ) (q : Point) → IsBehind p number_of run c q → IsPropagatedAt p number_of new None k h run.kept c q) where
         -- each row is as it was, or is that of the exit
         record Grown (j c : ℕ) (d : Dir) : Type 0 where
           stage : j ≡ k
@@ -145,14 +145,14 @@ module _ (p : Problem) (ready : IsReady p) (lists : Lists) (number_of : ℕ → 
         still : (q : Point) (y : Exit) → StandsAt p.arena.now y.place.crossing q → IsOffered p old hole q y → IsOffered p new hole q y
         still q y there was = still_offered p old new all_kept adds.kept adds.best hole q y was
 
-        -- the exit is handed on
-        own : IsHandedOn p number_of new hole k x.line h e
+        -- the exit is propagated
+        own : IsPropagated p number_of new hole k x.line h e
         own c r there on counts = by_lt_z (reach h r) stop
             (λ cut. inl (let any = undercut (reach h r) counts.from cut in let c' = all_kept k x.line h any.1 (any.0, any.2, any.3) in (c'.0, any.1, c'.1, c'.2, any.4)))
             (λ past. inr (
             let before = counts.before in
             let behind : IsBehind p number_of run c r = record { here = there; on = on; counts = record { from = past; before = before } } in
-            let at_run = handed_at p number_of new new None hole (λ q y there was. offered_in p number_of new hole q y was) k h run.kept c r there (handed c r behind) in
+            let at_run = propagated_at p number_of new new None hole (λ q y there was. offered_in p number_of new hole q y was) k h run.kept c r there (propagated c r behind) in
             record { turns = at_run.turns; tips = at_run.tips; ons = at_run.ons }))
 
         kept_searching : IsSearching p number_of new hole None
@@ -163,11 +163,11 @@ module _ (p : Problem) (ready : IsReady p) (lists : Lists) (number_of : ℕ → 
                 (All-push (IsKeptOf p number_of j (number_of c (way_of d)) d) (kept_in old.rows j (number_of c (way_of d)) d) e (s.kept j c d q there)
                 (transport_kept j (number_of c (way_of d)) d g.stage g.line g.heading))
           ];
-          handed = λ j c d q o there has other. elim (each j c d q there) as (λ _. IsHandedOn p number_of new hole j (number_of c (way_of d)) d o) [
-            | inl was ↦ handed_still p number_of old new hole hole still all_kept j (number_of c (way_of d)) d o (s.handed j c d q o there (subst (λ os. Contains os o) was has) other)
-            | inr g ↦ elim (Contains-append_cases (kept_in old.rows j (number_of c (way_of d)) d) (e ∷ []) o (subst (λ os. Contains os o) g.more has)) as (λ _. IsHandedOn p number_of new hole j (number_of c (way_of d)) d o) [
-              | inl before ↦ handed_still p number_of old new hole hole still all_kept j (number_of c (way_of d)) d o (s.handed j c d q o there before other)
-              | inr one ↦ transport_handed j (number_of c (way_of d)) d o g.stage g.line g.heading (only e o one)
+          propagated = λ j c d q o there has other. elim (each j c d q there) as (λ _. IsPropagated p number_of new hole j (number_of c (way_of d)) d o) [
+            | inl was ↦ propagated_still p number_of old new hole hole still all_kept j (number_of c (way_of d)) d o (s.propagated j c d q o there (subst (λ os. Contains os o) was has) other)
+            | inr g ↦ elim (Contains-append_cases (kept_in old.rows j (number_of c (way_of d)) d) (e ∷ []) o (subst (λ os. Contains os o) g.more has)) as (λ _. IsPropagated p number_of new hole j (number_of c (way_of d)) d o) [
+              | inl before ↦ propagated_still p number_of old new hole hole still all_kept j (number_of c (way_of d)) d o (s.propagated j c d q o there before other)
+              | inr one ↦ transport_propagated j (number_of c (way_of d)) d o g.stage g.line g.heading (only e o one)
             ]
           ];
           candidates = adds.sound.candidates;
@@ -179,10 +179,10 @@ module _ (p : Problem) (ready : IsReady p) (lists : Lists) (number_of : ℕ → 
             transport_kept : (j l : ℕ) (d : Dir) → j ≡ k → l ≡ x.line → d ≡ h → IsKeptOf p number_of j l d e
             transport_kept j l d a b c = subst (λ (i : ℕ). IsKeptOf p number_of i l d e) (sym a) (subst (λ (i : ℕ). IsKeptOf p number_of k i d e) (sym b) (subst (λ (i : Dir). IsKeptOf p number_of k x.line i e) (sym c) may_keep))
 
-            transport_handed : (j l : ℕ) (d : Dir) (o : Kept) → j ≡ k → l ≡ x.line → d ≡ h → o ≡ e → IsHandedOn p number_of new hole j l d o
-            transport_handed j l d o a b c same_exit =
-                subst (λ (i : ℕ). IsHandedOn p number_of new hole i l d o) (sym a) (subst (λ (i : ℕ). IsHandedOn p number_of new hole k i d o) (sym b)
-                (subst (λ (i : Dir). IsHandedOn p number_of new hole k x.line i o) (sym c) (subst (IsHandedOn p number_of new hole k x.line h) (sym same_exit) own)))
+            transport_propagated : (j l : ℕ) (d : Dir) (o : Kept) → j ≡ k → l ≡ x.line → d ≡ h → o ≡ e → IsPropagated p number_of new hole j l d o
+            transport_propagated j l d o a b c same_exit =
+                subst (λ (i : ℕ). IsPropagated p number_of new hole i l d o) (sym a) (subst (λ (i : ℕ). IsPropagated p number_of new hole k i d o) (sym b)
+                (subst (λ (i : Dir). IsPropagated p number_of new hole k x.line i o) (sym c) (subst (IsPropagated p number_of new hole k x.line h) (sym same_exit) own)))
 
             only : (one o : Kept) → Contains (one ∷ []) o → o ≡ one
             only one o (zero, lt, same) = sym same

@@ -19,7 +19,7 @@ use Rattle.exit_rows.specs.Rows.{side}
 use Rattle.exit_spread.specs.Ways.{AreNumbered}
 use Rattle.exit_spread.proofs.Known.Numbers.{lists_number}
 
--- a heading is told by its way and its side
+-- a heading is determined by its way and its side
 abbrev heading_of : Way → ℕ → Dir
 heading_of Vertical zero = North
 heading_of Vertical (suc n) = South

@@ -1,4 +1,4 @@
--- What was handed on is handed on still, while exits are offered and kept.
+-- What was propagated is propagated still, while exits are offered and kept.
 use Rattle.std.proofs.Common.{◌≡◌, ◌⊎◌, ℕ, Option, Some, None, sym, subst, inl, inr, arith}
 use Rattle.std.specs.Prelude.{All, Contains}
 use Rattle.plane_geom.specs.declared.point.Point.{Point}
@@ -16,8 +16,8 @@ use Rattle.exit_rows.specs.declared.exit.Exit.{Exit}
 use Rattle.exit_rows.specs.declared.exit.Kept.{Kept}
 use Rattle.exit_rows.specs.declared.rows.Rows.{Rows}
 use Rattle.exit_spread.specs.declared.spread.Spread.{Spread}
-use Rattle.exit_spread.specs.Handing.{Adds, IsSound}
-use Rattle.exit_spread.specs.Offers.{IsHandedAt, IsHandedOn, IsOffered, exit_of}
+use Rattle.exit_spread.specs.Propagating.{Adds, IsSound}
+use Rattle.exit_spread.specs.Offers.{IsPropagatedAt, IsPropagated, IsOffered, exit_of}
 use Rattle.exit_spread.specs.Searching.{IsKeptOf, IsSearching, KeptIn}
 use Rattle.exit_spread.specs.Taking.{Grows}
 use Rattle.exit_spread.specs.Ways.{place_at, turned}
@@ -30,29 +30,29 @@ by_heading P e s w n South = s
 by_heading P e s w n West = w
 by_heading P e s w n North = n
 
--- exits that were handed on are handed on still, if what was offered is
+-- exits that were propagated are propagated still, if what was offered is
 module _ (p : Problem) (number_of : ℕ → Way → ℕ) (old new : Spread) (hole now : Option Exit)
     (offered : (q : Point) (x : Exit) → StandsAt p.arena.now x.place.crossing q → IsOffered p old hole q x → IsOffered p new now q x) where
-  pub handed_at : (k : ℕ) (d : Dir) (e : Kept) (c : ℕ) (r : Point) → StandsAt p.arena.now c r → IsHandedAt p number_of old hole k d e c r → IsHandedAt p number_of new now k d e c r
-  handed_at k d e c r here h = record {
+  pub propagated_at : (k : ℕ) (d : Dir) (e : Kept) (c : ℕ) (r : Point) → StandsAt p.arena.now c r → IsPropagatedAt p number_of old hole k d e c r → IsPropagatedAt p number_of new now k d e c r
+  propagated_at k d e c r here h = record {
     turns = λ g turns held begins. offered r (exit_of number_of (place_at c k g) (Some d) (turned p g r d (ahead_at e (reach d r)))) here (h.turns g turns held begins);
     tips = λ via. offered r (exit_of number_of (place_at c k (opposite d)) None (turned p (opposite d) r d (ahead_at e (reach d r)))) here (h.tips via);
     ons = λ j less comes. offered r (exit_of number_of (place_at c k d) None (ahead_at e (reach d r))) here (h.ons j less comes);
   }
 
-  pub handed_still : AllKept old new → (k line : ℕ) (d : Dir) (e : Kept) → IsHandedOn p number_of old hole k line d e → IsHandedOn p number_of new now k line d e
-  handed_still rows k line d e h c r here on counts =
-      elim (h c r here on counts) as (λ _. IsUndercut (kept_in new.rows k line d) e (reach d r) ⊎ IsHandedAt p number_of new now k d e c r) [
+  pub propagated_still : AllKept old new → (k line : ℕ) (d : Dir) (e : Kept) → IsPropagated p number_of old hole k line d e → IsPropagated p number_of new now k line d e
+  propagated_still rows k line d e h c r here on counts =
+      elim (h c r here on counts) as (λ _. IsUndercut (kept_in new.rows k line d) e (reach d r) ⊎ IsPropagatedAt p number_of new now k d e c r) [
         | inl cut ↦ inl (any_in _ (kept_in old.rows k line d) (kept_in new.rows k line d) (rows k line d) cut)
-        | inr at ↦ inr (handed_at k d e c r here at)
+        | inr at ↦ inr (propagated_at k d e c r here at)
       ]
 
   -- the rows stay as they are
   pub same_searching : new.rows ≡ old.rows → IsSound p number_of new → (but : Option KeptIn) → IsSearching p number_of old hole but → IsSearching p number_of new now but
   same_searching same sound but s = record {
     kept = λ k c d at here. subst (λ (t : Rows). All (IsKeptOf p number_of k (number_of c (way_of d)) d) (kept_in t k (number_of c (way_of d)) d)) (sym same) (s.kept k c d at here);
-    handed = λ k c d at e here has other. handed_still (same_kept old new same) k (number_of c (way_of d)) d e
-        (s.handed k c d at e here (subst (λ (t : Rows). Contains (kept_in t k (number_of c (way_of d)) d) e) same has) other);
+    propagated = λ k c d at e here has other. propagated_still (same_kept old new same) k (number_of c (way_of d)) d e
+        (s.propagated k c d at e here (subst (λ (t : Rows). Contains (kept_in t k (number_of c (way_of d)) d) e) same has) other);
     candidates = sound.candidates;
     best = sound.best;
     marked = subst IsMarked (sym same) s.marked;

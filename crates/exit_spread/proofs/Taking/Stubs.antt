@@ -15,7 +15,7 @@ use Rattle.move_model.proofs.GoingOn.Stretching.{stub_ahead}
 use Rattle.search_labels.specs.Problems.{IsReady}
 use Rattle.search_labels.specs.declared.ends.Ending.{Ending}
 use Rattle.search_labels.specs.declared.problem.Problem.{Problem}
-use Rattle.exit_spread.specs.Handing.{IsOfferable}
+use Rattle.exit_spread.specs.Propagating.{IsOfferable}
 use Rattle.exit_spread.specs.Ways.{IsWayAhead, place_at}
 use Rattle.exit_spread.proofs.Sizes.{IsSmallEnding, across_small}
 

@@ -1,4 +1,4 @@
--- The runs of a way: by which straight legs it comes to a place, and what is ahead of straight legs.
+-- The runs of a way: by which straight legs it reaches a place, and what is ahead of straight legs.
 use Rattle.std.proofs.Common.{◌≡◌, ◌≢◌, ◌⊎◌, ℕ, ◌<◌, List, [], ◌∷◌, ◌++◌, Some, length, replicate, refl, sym, ap, subst, ◌∙◌, inl, inr, arith, append_assoc, length-append}
 use Rattle.std.specs.Prelude.{slice_get}
 use Rattle.std.proofs.lemmas.Int.{ints}
@@ -68,7 +68,7 @@ bend_ahead penalty h d q n ds more some =
     ∙ turned_on penalty h d q n v
     ∙ ap (with_stretch penalty h (record { from = q; dir = d; steps = 0 })) (sym (stretch_ahead penalty d (record { from = q; dir = d; steps = n }) ds more some ∙ straight_on penalty d q n v))
 
--- ---- by which straight legs a way comes to a place
+-- ---- by which straight legs a way reaches a place
 
 module _ (a : Arena) (via : List Point) where
   one_in : (x : Place) (l : Leg) (y : Place) → Leads a via x (l ∷ []) y → ComesStraight a via x (l ∷ []) y

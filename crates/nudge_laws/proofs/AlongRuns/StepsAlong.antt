@@ -105,9 +105,9 @@ step_on (r ∷ rest) k h =
           record { run = suc s.run; offset = s.offset; in_list = omega (arith, s.in_list); on_it = s.on_it; number = omega (arith, s.number, later) })
     ]
 
-take_behind : (n : ℕ) (d : Dir) (m : ℕ) (xs : List Dir) → take (n + m) (replicate n d ++ xs) ≡ replicate n d ++ take m xs
-take_behind zero d m xs = ap (λ k. take k xs) (omega arith)
-take_behind (suc n) d m xs = ap (λ k. take k (d ∷ (replicate n d ++ xs))) (let e : suc n + m ≡ suc (n + m) = omega arith in e) ∙ ap (λ ys. d ∷ ys) (take_behind n d m xs)
+take_after : (n : ℕ) (d : Dir) (m : ℕ) (xs : List Dir) → take (n + m) (replicate n d ++ xs) ≡ replicate n d ++ take m xs
+take_after zero d m xs = ap (λ k. take k xs) (omega arith)
+take_after (suc n) d m xs = ap (λ k. take k (d ∷ (replicate n d ++ xs))) (let e : suc n + m ≡ suc (n + m) = omega arith in e) ∙ ap (λ ys. d ∷ ys) (take_after n d m xs)
 
 -- where the walk stands so far on along a run, and what its step is
 pub stands_on : (p : Point) (runs : List Run) (j i : ℕ) → Follow p runs → j < length runs → i ≤ steps_of_run (run_at runs j) → after p (take (before runs j + i) (steps_along runs)) ≡ forward (run_at runs j).heading i (start_of_run (run_at runs j))
@@ -125,7 +125,7 @@ stands_on p (r ∷ rest) (suc j) i f h g =
     let m = before rest j + i in
     let sum : n + before rest j + i ≡ n + m = omega arith in
     ap (λ x. after p (take x (steps_along (r ∷ rest)))) sum
-    ∙ ap (after p) (take_behind n d m (steps_along rest)) ∙ after-append p (replicate n d) (take m (steps_along rest))
+    ∙ ap (after p) (take_after n d m (steps_along rest)) ∙ after-append p (replicate n d) (take m (steps_along rest))
     ∙ ap (λ (q : Point). after q (take m (steps_along rest))) (after-replicate p n d ∙ ap (forward d n) (sym f.1) ∙ run_leads r f.0)
     ∙ stands_on (end_of_run r) rest j i f.2 (omega arith) g
 

@@ -16,7 +16,7 @@ use Rattle.proof_search.proofs.Offers.OnePlace.{one_place}
 use Rattle.proof_search.specs.declared.labels.Labels.{Labels}
 use Rattle.proof_search.specs.declared.scope.Scope.{Scope}
 use Rattle.proof_search.specs.Scopes.{claim_of}
-use Rattle.proof_search.specs.Search.{Falls, IsHandedIn, IsHandedOn, IsMoveOffered, IsOffered, IsPlace, IsQueued, IsReachedAt, IsSearching, Spreads, cost_at, cost_in, label_at}
+use Rattle.proof_search.specs.Search.{Falls, IsPropagatedIn, IsPropagated, IsMoveOffered, IsOffered, IsPlace, IsQueued, IsReachedAt, IsSearching, Spreads, cost_at, cost_in, label_at}
 use Rattle.proof_search.proofs.Offers.Scopes.{lower_suffices, small_label}
 
 module _ (p : Problem) (s : Scope) (old new : Labels) (falls : Falls s old new) where
@@ -26,11 +26,11 @@ module _ (p : Problem) (s : Scope) (old new : Labels) (falls : Falls s old new) 
   move_still at heading d cost (Some n) h = (h.0, falls n.place _ h.1)
 
   -- what was offered has been offered still
-  pub in_still : (x : Place) (at : Point) (cost : ℕ) (d : Dir) → IsHandedIn p s old x at cost d → IsHandedIn p s new x at cost d
+  pub in_still : (x : Place) (at : Point) (cost : ℕ) (d : Dir) → IsPropagatedIn p s old x at cost d → IsPropagatedIn p s new x at cost d
   in_still x at cost d h = record { next = h.next; is_next = h.is_next; offered = move_still at x.heading d cost h.next h.offered }
 
-  pub still_handed : (x : Place) (cost : ℕ) → IsHandedOn p s old x cost → IsHandedOn p s new x cost
-  still_handed x cost h at here d = in_still x at cost d (h at here d)
+  pub still_propagated : (x : Place) (cost : ℕ) → IsPropagated p s old x cost → IsPropagated p s new x cost
+  still_propagated x cost h at here d = in_still x at cost d (h at here d)
 
 -- what falls twice has fallen
 pub falls_both : (s : Scope) (old mid new : Labels) → Falls s old mid → Falls s mid new → Falls s old new
@@ -89,7 +89,7 @@ module _ (p : Problem) (ready : IsReady p) (s : Scope) (old new : Labels) (but :
     small = searching.small;
     reached = λ y w e. reached_at y w e (one_place y x);
     queued = λ y w not_but e. queued_at y w e (one_place y x);
-    handed = λ y w not_but e. still_handed p s old new labels_fall y w.cost (searching.handed y w not_but (none_closed y w e));
+    propagated = λ y w not_but e. still_propagated p s old new labels_fall y w.cost (searching.propagated y w not_but (none_closed y w e));
     candidates = places;
     marked = marked;
     rooms = record { places = puts.rooms.places ∙ searching.rooms.places; rows = omega (arith, puts.rooms.rows, searching.rooms.rows) };

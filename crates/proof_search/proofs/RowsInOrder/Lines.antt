@@ -117,7 +117,7 @@ module _ (a : Arena) (arena : IsArena a) where
         let h = so_far.only s (k, lt, get_or_default old k s d lt) in
         points_before h.entry.1 e.1 h.entry.0 e.0 (known h.entry h.listed) is h.way way (order h.entry h.listed) s.at q h.holds holds
 
-    -- its crossings come to them
+    -- its crossings become them
     pub line_more : (new : List Spot) → e.0.way ≡ Horizontal → HasLineCome a e.0 e.1 old new → AreOfLines a (lines ++ e ∷ []) new
     line_more new way come = record {
       only = λ s has. elim (come.only s has) as (λ _. IsOfLines a (lines ++ e ∷ []) s) [

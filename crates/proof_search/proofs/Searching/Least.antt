@@ -83,8 +83,8 @@ module _ (p : Problem) (ready : IsReady p) (s : Scope) (l : Labels) (spread : Is
       → floors.IsMove floor p.task.now x cost y → IsOffered s l (standing b y) (v + cost)
   move_offered x y c b v cost here there is m =
       let closed = closed_label (label_at l (standing c x)) v (spread.closed (standing c x)) is in
-      let handed = spread.searching.handed (standing c x) closed.0 (λ none. cc) closed.1 x.at here y.heading in
-      by_next handed.next handed.is_next (subst (λ n. IfSome handed.next (IsMoveOffered p s l x.at x.heading n y.heading)) closed.2 handed.offered)
+      let propagated = spread.searching.propagated (standing c x) closed.0 (λ none. cc) closed.1 x.at here y.heading in
+      by_next propagated.next propagated.is_next (subst (λ n. IfSome propagated.next (IsMoveOffered p s l x.at x.heading n y.heading)) closed.2 propagated.offered)
     where
       by_next : (next : Option Next) → IsNextIn p x.stage x.at y.heading next → IfSome next (IsMoveOffered p s l x.at x.heading v y.heading)
           → IsOffered s l (standing b y) (v + cost)

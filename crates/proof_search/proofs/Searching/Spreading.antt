@@ -52,7 +52,7 @@ use Rattle.proof_search.specs.declared.labels.Labels.{Labels}
 use Rattle.proof_search.specs.declared.scope.Scope.{Scope}
 use Rattle.proof_search.specs.Scopes.{most_of}
 use Rattle.proof_search.specs.Search.{AreNone, Falls, HasRooms, IsEntryOffered, IsPlace, IsQueued, IsSearching, IsSpread, cost_at, cost_in, label_at, weight}
-use Rattle.proof_search.proofs.Offers.Offering.{still_handed}
+use Rattle.proof_search.proofs.Offers.Offering.{still_propagated}
 
 -- the labels with another queue
 abbrev pub with_queue : Labels → Queue Place → Labels
@@ -90,7 +90,7 @@ module _ (p : Problem) (s : Scope) (l : Labels) (none : AreNone l) where
     small = small;
     reached = λ x v e. absurd (nothing_known x v e);
     queued = λ x v but e. absurd (nothing_known x v.cost (ap cost_in e));
-    handed = λ x v but e. absurd (nothing_known x v.cost (ap cost_in e));
+    propagated = λ x v but e. absurd (nothing_known x v.cost (ap cost_in e));
     candidates = none_all (heap_items l.queue.heap) none.queue (λ c. IsPlace p c.0.item);
     marked = record {
       rows = λ k d lt. inl (none.table.rows k d lt);
@@ -107,7 +107,7 @@ module _ (p : Problem) (s : Scope) (l : Labels) (q : Queue Place) (searching : I
     small = searching.small;
     reached = searching.reached;
     queued = queued;
-    handed = λ x v other closed. still_handed p s l (with_queue l q) (queue_falls s l q) x v.cost (searching.handed x v other closed);
+    propagated = λ x v other closed. still_propagated p s l (with_queue l q) (queue_falls s l q) x v.cost (searching.propagated x v other closed);
     candidates = places;
     marked = searching.marked;
     rooms = record { places = searching.rooms.places; rows = searching.rooms.rows };

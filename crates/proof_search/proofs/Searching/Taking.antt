@@ -13,8 +13,8 @@ use Rattle.proof_search.proofs.Offers.OnePlace.{one_place}
 use Rattle.proof_search.specs.declared.labels.Labels.{Labels}
 use Rattle.proof_search.specs.declared.scope.Scope.{Scope}
 use Rattle.proof_search.specs.Scopes.{claim_of}
-use Rattle.proof_search.specs.Search.{Falls, IsHandedOn, IsPlace, IsQueued, IsSearching, Spreads, cost_at, cost_in, label_at}
-use Rattle.proof_search.proofs.Offers.Offering.{still_handed}
+use Rattle.proof_search.specs.Search.{Falls, IsPropagated, IsPlace, IsQueued, IsSearching, Spreads, cost_at, cost_in, label_at}
+use Rattle.proof_search.proofs.Offers.Offering.{still_propagated}
 
 same_place : (x y : Place) → ◌≡◌ {A = Option Place} (Some x) (Some y) → x ≡ y
 same_place x y e = cc
@@ -26,7 +26,7 @@ none_open p s l x h never = record {
   small = h.small;
   reached = h.reached;
   queued = λ y w but e. h.queued y w (λ (same : ◌≡◌ {A = Option Place} (Some y) (Some x)). never w (ap (label_at l) (sym (same_place y x same)) ∙ e)) e;
-  handed = h.handed;
+  propagated = h.propagated;
   candidates = h.candidates;
   marked = h.marked;
   rooms = h.rooms;
@@ -59,9 +59,9 @@ module _ (p : Problem) (s : Scope) (old new : Labels) (x : Place) (v : Ahead) (s
         (let o = other_open y w e in
         let was = searching.queued y w (λ (same : ◌≡◌ {A = Option Place} (Some y) (Some x)). o.0 (same_place y x same)) o.1 in
         subst (λ (q : Queue Place). IsQueued (record { table = new.table; queue = q }) y) (sym queue) was);
-    handed = λ y w but e. elim (one_place y x) as (λ _. IsHandedOn p s new y w.cost) [
+    propagated = λ y w but e. elim (one_place y x) as (λ _. IsPropagated p s new y w.cost) [
       | inl same ↦ absurd (but (ap Some same))
-      | inr other ↦ still_handed p s old new closing_falls y w.cost (searching.handed y w (λ none. cc) (sym (puts.others y other) ∙ e))
+      | inr other ↦ still_propagated p s old new closing_falls y w.cost (searching.propagated y w (λ none. cc) (sym (puts.others y other) ∙ e))
     ];
     candidates = subst (λ (q : Queue Place). All (λ c. IsPlace p c.0.item) (heap_items q.heap)) (sym queue) searching.candidates;
     marked = marked;
@@ -69,19 +69,19 @@ module _ (p : Problem) (s : Scope) (old new : Labels) (x : Place) (v : Ahead) (s
   }
 
 -- and it is passed on
-pub handed_searching : (p : Problem) (s : Scope) (mid new : Labels) (x : Place) (v : Ahead) → label_at mid x ≡ Closed v → IsSearching p s new None (Some x)
+pub propagated_searching : (p : Problem) (s : Scope) (mid new : Labels) (x : Place) (v : Ahead) → label_at mid x ≡ Closed v → IsSearching p s new None (Some x)
     → Spreads s mid new
-    → IsHandedOn p s new x v.cost → IsSearching p s new None None
-handed_searching p s mid new x v closed h spreads handed = record {
+    → IsPropagated p s new x v.cost → IsSearching p s new None None
+propagated_searching p s mid new x v closed h spreads propagated = record {
   small = h.small;
   reached = h.reached;
   queued = h.queued;
-  handed = λ y w but e. elim (one_place y x) as (λ _. IsHandedOn p s new y w.cost) [
+  propagated = λ y w but e. elim (one_place y x) as (λ _. IsPropagated p s new y w.cost) [
     | inl same ↦ (
         let was : Closed v ≡ Closed w = sym closed ∙ spreads.closed x w (ap (label_at new) (sym same) ∙ e) in
         let is : v ≡ w = cc in
-        subst (λ (z : Place). IsHandedOn p s new z w.cost) (sym same) (subst (λ (u : Ahead). IsHandedOn p s new x u.cost) is handed))
-    | inr other ↦ h.handed y w (λ (both : ◌≡◌ {A = Option Place} (Some y) (Some x)). other (same_place y x both)) e
+        subst (λ (z : Place). IsPropagated p s new z w.cost) (sym same) (subst (λ (u : Ahead). IsPropagated p s new x u.cost) is propagated))
+    | inr other ↦ h.propagated y w (λ (both : ◌≡◌ {A = Option Place} (Some y) (Some x)). other (same_place y x both)) e
   ];
   candidates = h.candidates;
   marked = h.marked;

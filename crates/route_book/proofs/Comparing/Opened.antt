@@ -57,15 +57,15 @@ record ReachesBy (old : Scene) (l : Looks) (r : Rect) (cost : ℕ) : Type 0 wher
   is_way : IsLengthBy by (place_of source start) (l.via ++ place_of target end ∷ []) way
   reached : unsigned_abs start.cost + unsigned_abs end.cost + way ≤ cost
 
-told : (old s : Scene) (e : Edge) (r : Rect) (cost : ℕ) → IsWithinReach old e r cost → ReachesBy old (looks s e) r cost
-told old s e r cost h = record { source = h.source; target = h.target; start = h.start; end = h.end; is_start = h.is_start; is_end = h.is_end; by = h.by; within = h.within; way = h.way; is_way = h.is_way; reached = h.reached }
+as_reaches : (old s : Scene) (e : Edge) (r : Rect) (cost : ℕ) → IsWithinReach old e r cost → ReachesBy old (looks s e) r cost
+as_reaches old s e r cost h = record { source = h.source; target = h.target; start = h.start; end = h.end; is_start = h.is_start; is_end = h.is_end; by = h.by; within = h.within; way = h.way; is_way = h.is_way; reached = h.reached }
 
-untold : (old s : Scene) (e : Edge) (r : Rect) (cost : ℕ) → ReachesBy old (looks s e) r cost → IsWithinReach old e r cost
-untold old s e r cost h = record { source = h.source; target = h.target; start = h.start; end = h.end; is_start = h.is_start; is_end = h.is_end; by = h.by; within = h.within; way = h.way; is_way = h.is_way; reached = h.reached }
+from_reaches : (old s : Scene) (e : Edge) (r : Rect) (cost : ℕ) → ReachesBy old (looks s e) r cost → IsWithinReach old e r cost
+from_reaches old s e r cost h = record { source = h.source; target = h.target; start = h.start; end = h.end; is_start = h.is_start; is_end = h.is_end; by = h.by; within = h.within; way = h.way; is_way = h.is_way; reached = h.reached }
 
 -- edges that look the same reach the same
 same_reach : (old s t : Scene) (d e : Edge) (r : Rect) (cost : ℕ) → looks s d ≡ looks t e → IsWithinReach old d r cost → IsWithinReach old e r cost
-same_reach old s t d e r cost same h = untold old t e r cost (subst (λ l. ReachesBy old l r cost) same (told old s d r cost h))
+same_reach old s t d e r cost same h = from_reaches old t e r cost (subst (λ l. ReachesBy old l r cost) same (as_reaches old s d r cost h))
 
 -- so they are open alike
 pub same_open : (old new s t : Scene) (d e : Edge) (route : Option Route) → looks s d ≡ looks t e → IsOpen old new d route → IsOpen old new e route

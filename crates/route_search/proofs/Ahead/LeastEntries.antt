@@ -18,7 +18,7 @@ use Rattle.search_labels.specs.Problems.{IsReady}
 use Rattle.search_labels.specs.declared.ends.Entry.{Entry}
 use Rattle.search_labels.specs.declared.problem.Problem.{Problem}
 use Rattle.search_labels.proofs.Choices.{entries_small}
-use Rattle.exit_spread.specs.Handing.{IsOfferable}
+use Rattle.exit_spread.specs.Propagating.{IsOfferable}
 use Rattle.route_search.specs.Known.{IsAttained, IsPlace}
 use Rattle.route_search.specs.Starting.{EntersNoLater, IsBetterOf, IsLeastEntry, IsLeastOf, IsLessThan, whole_from}
 use Rattle.exit_rows.proofs.Orders.{ahead_total}

@@ -28,7 +28,7 @@ use Rattle.route_search.specs.declared.follow.Move.{Move}
 use Rattle.route_search.specs.declared.follow.Next.TheVariants.{Stop, Go}
 use Rattle.route_search.specs.declared.follow.Standing.{Standing}
 use Rattle.route_search.specs.declared.follow.Tail.{Tail}
-use Rattle.route_search.specs.Following.{GoesIn, IsMoveIn, IsNext, IsTailIn, left_behind}
+use Rattle.route_search.specs.Following.{GoesIn, IsMoveIn, IsNext, IsTailIn, left_after}
 use Rattle.route_search.specs.Known.{IsAttained}
 use Rattle.route_search.specs.Starting.{IsKnownAlong}
 use Rattle.route_search.proofs.Tracing.Corners.{corner_between, corners_behind, stretch_parts}
@@ -85,7 +85,7 @@ module _ (p : Problem) (known : Place → Option Ahead) (t : Triple) (h : IsKnow
     passed = f.passed ++ leg ∷ []
 
     abbrev standing : Standing
-    standing = record { place = m.to; ahead = m.ahead; tail = left_behind m.steps best }
+    standing = record { place = m.to; ahead = m.ahead; tail = left_after m.steps best }
 
     begin : is.move.begin ≡ f.at
     begin = one_point p.arena.now s.place.crossing is.move.begin f.at ready.arena is.move.here f.here
@@ -105,7 +105,7 @@ module _ (p : Problem) (known : Place → Option Ahead) (t : Triple) (h : IsKnow
         steps_by_on (replicate k turned) ∙ ap (λ zs. steps_by p known t h f.passed ++ zs) (stretch_parts turned m.steps b.steps less ∙ ap (replicate b.steps) is.dir) in
         (omega (arith, less), subst (λ ds. IsRival p known t h ds b.end) (sym same) (rival_tail p known t h ready s points f d b inside).1)
 
-    tails_on : (o : Option Tail) → IfSome o (IsTailIn p s d p.endings.items) → IfSome o (λ b. m.steps < b.steps) → (x : Tail) → left_behind m.steps o ≡ Some x
+    tails_on : (o : Option Tail) → IfSome o (IsTailIn p s d p.endings.items) → IfSome o (λ b. m.steps < b.steps) → (x : Tail) → left_after m.steps o ≡ Some x
         → (0 < x.steps) × IsRival p known t h (steps_by p known t h passed ++ replicate x.steps turned) x.end
     tails_on None inside less x e = absurd (let wrong : Some x ≡ None = sym e in cc)
     tails_on (Some b) inside less x e =
@@ -157,7 +157,7 @@ module _ (p : Problem) (known : Place → Option Ahead) (t : Triple) (h : IsKnow
       m = g.move
 
       after_it : Standing
-      after_it = record { place = m.to; ahead = m.ahead; tail = left_behind m.steps g.best }
+      after_it = record { place = m.to; ahead = m.ahead; tail = left_after m.steps g.best }
 
       by : ((x : Tail) × EndsBy p known t h ready s points f d x) ⊎ ((k : Move) × GoesBy p known t h ready s points f d k) → IsFollowing p known t h after_it (points_to d)
       by (inl (k, ends)) =
@@ -173,7 +173,7 @@ module _ (p : Problem) (known : Place → Option Ahead) (t : Triple) (h : IsKnow
           let rest : List Dir = replicate (a.steps - m.steps) m.to.heading in
           let left : f.rest ≡ replicate m.steps m.to.heading ++ rest = ends.left ∙ (λ i. replicate (same i) (sym g.is_move.dir i)) ∙ sym (stretch_parts m.to.heading m.steps a.steps less) in
           by_move d m g.is_move g.best g.tail.is g.long rest left
-          (inr (record { tail = record { steps = a.steps - m.steps; end = a.end }; is = ap (left_behind m.steps) first.1; left = refl; end = end }))
+          (inr (record { tail = record { steps = a.steps - m.steps; end = a.end }; is = ap (left_after m.steps) first.1; left = refl; end = end }))
       by (inr (k, goes)) =
           let only = the_only p known s d ready.arena m k.steps k.to g.is_move goes.move.move goes.move.dir in
           let rest : List Dir = steps_of_way goes.legs h.along.end in

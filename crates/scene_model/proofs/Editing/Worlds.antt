@@ -9,7 +9,7 @@ use Rattle.scene_model.specs.declared.edit.Command.TheVariants.{Begin, Edit, Com
 use Rattle.scene_model.specs.Scene.{Scene}
 use Rattle.scene_model.specs.Valid.{IsValid}
 use Rattle.scene_model.specs.Edits.{refusal, changed, edited_by, IsDirected}
-use Rattle.scene_model.specs.World.{World, given_up, edit_working, one_scene_back, one_scene_on, taken, or_given_up, next_world, played, Everywhere, IsDirectedCommand, EditsKeep, ScenesStayValid}
+use Rattle.scene_model.specs.World.{World, rolled_back, edit_working, one_scene_back, one_scene_on, taken, or_rolled_back, next_world, played, Everywhere, IsDirectedCommand, EditsKeep, ScenesStayValid}
 use Rattle.scene_model.proofs.Editing.Validity.{keeps_valid}
 
 each_take : {X : Type 0} (P : X → Type 0) (n : ℕ) (xs : List X) → Each P xs → Each P (take n xs)
@@ -18,22 +18,22 @@ each_take P (suc n) [] e = tt
 each_take P (suc n) (x ∷ xs) e = (e.0, each_take P n xs e.1)
 
 module _ (P : Scene → Type 0) (keeps : EditsKeep P) where
-  quiet : (w : World) → Everywhere P w → Everywhere P (given_up w)
+  quiet : (w : World) → Everywhere P w → Everywhere P (rolled_back w)
   quiet w h = record { past = h.past; present = h.present; future = h.future; working = tt }
 
-  edited_keeps : (w : World) (s : Scene) (e : SceneEdit) (r : Option SceneFault) → refusal e s ≡ r → IsDirected e → P s → Everywhere P w → Everywhere P (or_given_up w (edit_working w (edited_by r (changed e s))))
+  edited_keeps : (w : World) (s : Scene) (e : SceneEdit) (r : Option SceneFault) → refusal e s ≡ r → IsDirected e → P s → Everywhere P w → Everywhere P (or_rolled_back w (edit_working w (edited_by r (changed e s))))
   edited_keeps w s e None free directed p h = record { past = h.past; present = h.present; future = h.future; working = keeps e s directed p free }
   edited_keeps w s e (Some fault) free directed p h = quiet w h
 
-  back_keeps : (w : World) (past : List Scene) → Each P past → Everywhere P w → Everywhere P (or_given_up w (one_scene_back w past))
+  back_keeps : (w : World) (past : List Scene) → Each P past → Everywhere P w → Everywhere P (or_rolled_back w (one_scene_back w past))
   back_keeps w [] e h = quiet w h
   back_keeps w (s ∷ ss) e h = record { past = e.1; present = e.0; future = (h.present, h.future); working = tt }
 
-  on_keeps : (w : World) (future : List Scene) → Each P future → Everywhere P w → Everywhere P (or_given_up w (one_scene_on w future))
+  on_keeps : (w : World) (future : List Scene) → Each P future → Everywhere P w → Everywhere P (or_rolled_back w (one_scene_on w future))
   on_keeps w [] e h = quiet w h
   on_keeps w (s ∷ ss) e h = record { past = (h.present, h.past); present = e.0; future = e.1; working = tt }
 
-  taken_keeps : (c : Command) (working : Option Scene) (w : World) → IsDirectedCommand c → IfSome working P → Everywhere P w → Everywhere P (or_given_up w (taken c working w))
+  taken_keeps : (c : Command) (working : Option Scene) (w : World) → IsDirectedCommand c → IfSome working P → Everywhere P w → Everywhere P (or_rolled_back w (taken c working w))
   taken_keeps Bad working w d p h = quiet w h
   taken_keeps Begin None w d p h = record { past = h.past; present = h.present; future = h.future; working = h.present }
   taken_keeps Begin (Some s) w d p h = quiet w h

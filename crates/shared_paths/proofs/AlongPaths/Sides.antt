@@ -83,8 +83,8 @@ stop_or Stop h = refl
 stop_or (Far p) h = absurd (h (λ e. cc))
 
 -- at a pair that does not go on the end shows on which hand the route is
-end_tells : (a b : List Run) (ahead : Bool) (p : Pair) → (GoesOn a b ahead p → ⊥) → hand_at a b p.a p.b (outward a ahead p) ≡ hand_in ahead (end_at a b ahead p)
-end_tells a b ahead p ends =
+end_hand : (a b : List Run) (ahead : Bool) (p : Pair) → (GoesOn a b ahead p → ⊥) → hand_at a b p.a p.b (outward a ahead p) ≡ hand_in ahead (end_at a b ahead p)
+end_hand a b ahead p ends =
     let d = outward a ahead p in
     ap (λ o. hand_by o (near_side d)) (first_decides (ray a (run_at a p.a) d) (ray b (run_at b p.b) d) (stops (near_side d) d _ _) (stops (near_side d) d _ _)
     (λ same. stop_or (first_entry a p.a d) (λ h. ends (record { same = same; turns = h }))))
@@ -98,7 +98,7 @@ module _ (edge other : ℕ) (a b : List Run) (are : AreRunsOf edge a) (others : 
   -- ahead
   pub hands_ahead : (p : Pair) (ps : List Pair) → IsPair a b p → All (IsPair a b) ps → RunOn a b p ps →
       All (IsOn a b true (hand_in true (end_at a b true (last_of p ps)))) (p ∷ ps)
-  hands_ahead p [] is are_pairs runs = All-cons (IsOn a b true (hand_in true (end_at a b true p))) p [] (end_tells a b true p runs) (All-nil (IsOn a b true (hand_in true (end_at a b true p))))
+  hands_ahead p [] is are_pairs runs = All-cons (IsOn a b true (hand_in true (end_at a b true p))) p [] (end_hand a b true p runs) (All-nil (IsOn a b true (hand_in true (end_at a b true p))))
   hands_ahead p (q ∷ ps) is are_pairs runs =
       let hand = hand_in true (end_at a b true (last_of q ps)) in
       let more = hands_ahead q ps (All-head (IsPair a b) q ps are_pairs) (All-tail (IsPair a b) q ps are_pairs) runs.2 in
@@ -129,10 +129,10 @@ decided Greater rest Left Right h = (λ e. cc, λ e. cc)
 decided Greater rest Right Left h = (λ e. cc, λ e. cc)
 decided Greater rest Right Right h = cc
 
-untold : (o : Ordering) (near : Side) → hand_by o near ≡ None → o ≡ Equal
-untold Less near h = cc
-untold Equal near h = refl
-untold Greater near h = cc
+no_hand : (o : Ordering) (near : Side) → hand_by o near ≡ None → o ≡ Equal
+no_hand Less near h = cc
+no_hand Equal near h = refl
+no_hand Greater near h = cc
 
 -- seen ahead and back the hands change
 other_same : (s t : Side) → Some (other_side s) ≡ Some (other_side t) → s ≡ t
@@ -183,10 +183,10 @@ by_ends : (one two : End) (ahead back : Ordering) (near side : Side) → side_of
 by_ends Tie Tie ahead back near side e h k = cc
 by_ends (Parts s) Tie ahead back near side e h k =
     let same : s ≡ side = cc in
-    by_back ahead back near side (turned_round back near side (k ∙ ap (λ t. Some (other_side t)) same)) (untold ahead near h)
+    by_back ahead back near side (turned_round back near side (k ∙ ap (λ t. Some (other_side t)) same)) (no_hand ahead near h)
 by_ends Tie (Parts t) ahead back near side e h k =
     let same : t ≡ side = cc in
-    by_ahead ahead back near side (h ∙ ap Some same) (untold back (other_side near) k)
+    by_ahead ahead back near side (h ∙ ap Some same) (no_hand back (other_side near) k)
 by_ends (Parts s) (Parts t) ahead back near side e h k =
     let both = agreed_so s t side e in
     by_both ahead back near side (h ∙ ap Some both.1) (turned_round back near side (k ∙ ap (λ t. Some (other_side t)) both.0))
@@ -243,7 +243,7 @@ keep_sides one other a b first others side is_a is_b apart shared sided = λ k d
     shared.begins (next_pair a b false first) it.pair it.goes it.returns in
     let on_ahead : IsOn a b true (hand_in true two) p = hands_ahead one other a b is_a.runs is_b.runs first others shared.first_is shared.pairs shared.runs_on k d l in
     let on_back : IsOn a b false (hand_in false back) p =
-    hands_back one other a b is_a.runs is_b.runs (hand_in false back) first others shared.first_is shared.pairs shared.runs_on (end_tells a b false first ends_back) k d l in
+    hands_back one other a b is_a.runs is_b.runs (hand_in false back) first others shared.first_is shared.pairs shared.runs_on (end_hand a b false first ends_back) k d l in
     pair_order a b r s side is.companions.way is.companions.at (is_a.runs.each p.a is.of_a).way
     (by_ends back two (by_ray a b r s r.heading) (by_ray a b r s (opposite r.heading)) (near_side r.heading) side sided on_ahead
     (ap (λ near. hand_by (by_ray a b r s (opposite r.heading)) near) (sym (near_behind r.heading)) ∙ on_back))

@@ -20,7 +20,7 @@ use Rattle.walk_model.specs.Lean.{lean}
 use Rattle.walk_model.specs.Legal.{IsLegal, cost_with}
 use Rattle.walk_model.specs.Order.{Triple, IsLegalTriple, triple_cost, rank, dir_cmp, compare_triples, IsBefore, IsFirst}
 use Rattle.walk_model.specs.OneFirst.{HasOneFirst}
-use Rattle.walk_model.proofs.Ranking.Deciding.{told, legal_told, rank_below, same_rank, unrank, unrank-rank}
+use Rattle.walk_model.proofs.Ranking.Deciding.{decided, legal_reflects, rank_below, same_rank, unrank, unrank-rank}
 
 -- the order of walks is a total order of their keys
 pub triples_total : (task : Task) → IsTotalOrder (compare_triples task)
@@ -124,7 +124,7 @@ triple_decided solids task t = by_start (slice_get task.starts t.start) refl
         (λ l. let same : l.start ≡ s = let both : Some l.start ≡ Some s = sym l.is_start ∙ h in cc in
         let also : l.end ≡ e = let both : Some l.end ≡ Some e = sym l.is_end ∙ g in cc in
         subst (λ (c : Choice). IsLegal solids task.via c t.walk e) same (subst (λ (c : Choice). IsLegal solids task.via l.start t.walk c) also l.legal))
-        (told (legal_told solids task.via s t.walk e))
+        (decided (legal_reflects solids task.via s t.walk e))
 
     by_start : (s : Option Choice) → slice_get task.starts t.start ≡ s → Dec (IsLegalTriple solids task t)
     by_start None h = no (λ l. let wrong : None ≡ Some l.start = sym h ∙ l.is_start in cc)
@@ -299,12 +299,12 @@ same_order solids task a b l k h =
 
 -- one of two legal walks stands before the other, or they are one
 by_order : (solids : List Solid) (task : Task) (a b : Triple) → IsLegalTriple solids task a → IsLegalTriple solids task b → (a ≡ b) ⊎ (IsBefore task a b ⊎ IsBefore task b a)
-by_order solids task a b l k = told (compare_triples task a b) refl
+by_order solids task a b l k = decided (compare_triples task a b) refl
   where
-    told : (o : Ordering) → compare_triples task a b ≡ o → (a ≡ b) ⊎ (IsBefore task a b ⊎ IsBefore task b a)
-    told Less e = inr (inl e)
-    told Equal e = inl (same_order solids task a b l k e)
-    told Greater e = inr (inr ((triples_total task).antisymm b a ∙ ap ordering_reverse e))
+    decided : (o : Ordering) → compare_triples task a b ≡ o → (a ≡ b) ⊎ (IsBefore task a b ⊎ IsBefore task b a)
+    decided Less e = inr (inl e)
+    decided Equal e = inl (same_order solids task a b l k e)
+    decided Greater e = inr (inr ((triples_total task).antisymm b a ∙ ap ordering_reverse e))
 
 -- the cost of a legal walk is that of its steps and of its two choices
 cost_of_choices : (solids : List Solid) (task : Task) (t : Triple) (l : IsLegalTriple solids task t) → triple_cost task t ≡ cost_with task.penalty l.start t.walk l.end

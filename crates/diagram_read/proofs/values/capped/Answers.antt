@@ -8,8 +8,8 @@ use Rattle.std.proofs.lemmas.List.Folds.{list_all_more}
 use Rattle.diagram_read.proofs.values.capped.Goals as goal
 
 -- the value of a digit is its distance from the first digit
-digit_told : (b : ℕ) → is_ascii_digit b ≡ true → digit_value b ≡ b - 48
-digit_told b h = grind (arith, nat_tests)
+digit_by_code : (b : ℕ) → is_ascii_digit b ≡ true → digit_value b ≡ b - 48
+digit_by_code b h = grind (arith, nat_tests)
 
 pub loop-digit-preserved : goal.loop-digit-preserved
 loop-digit-preserved c =
@@ -18,8 +18,8 @@ loop-digit-preserved c =
     let within = c.loop-digit-test.true in
     let digit : is_ascii_digit (get_or digits here 0) ≡ true = sym c.is_ascii_digit.ensures.value ∙ c.if-not-is_ascii_digit.false in
     let more = digits_value_more 10 digits here within in
-    let told = digit_told (get_or digits here 0) digit in
+    let is = digit_by_code (get_or digits here 0) digit in
     let number = c.loop-digit.invariant.0 in (
-      omega (arith, more, told, number, c.min-number.ensures, c.from.ensures),
+      omega (arith, more, is, number, c.min-number.ensures, c.from.ensures),
       list_all_more is_ascii_digit digits here 0 within ∙ ap (λ b. b && is_ascii_digit (get_or digits here 0)) c.loop-digit.invariant.1 ∙ digit,
     )

@@ -13,7 +13,7 @@ use Rattle.walk_laws.specs.Sides.{IsHeldTo, held_to}
 use Rattle.move_model.specs.Stations.{line_between}
 use Rattle.side_touches.specs.Touches.{IsTouched}
 use Rattle.line_lists.specs.Lists.{number_of}
-use Rattle.exit_spread.specs.Handing.{LiesUpTo}
+use Rattle.exit_spread.specs.Propagating.{LiesUpTo}
 use Rattle.exit_spread.proofs.Known.Numbers.{lists_number}
 use Rattle.move_model.proofs.GoingOn.Rests.{crossing_on_sheet}
 use Rattle.line_arena.specs.Arena.{LiesFurther}

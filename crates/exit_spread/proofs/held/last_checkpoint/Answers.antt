@@ -5,7 +5,7 @@ use Rattle.std.proofs.lemmas.List.{take_all}
 use Rattle.std.proofs.lemmas.List.Elements.{All-more, All-weaker}
 use Rattle.plane_geom.specs.Along.{reach}
 use Rattle.plane_geom.specs.declared.point.Point.{Point}
-use Rattle.exit_spread.specs.Handing.{LiesUpTo}
+use Rattle.exit_spread.specs.Propagating.{LiesUpTo}
 use Rattle.exit_spread.proofs.held.last_checkpoint.Goals as goal
 use Rattle.exit_spread.proofs.held.last_checkpoint.Goals.{then-lies_up_to, else-lies_up_to}
 

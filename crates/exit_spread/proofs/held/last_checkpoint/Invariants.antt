@@ -1,7 +1,7 @@
 -- The greatest reach so far.
 use Rattle.std.proofs.Common.{◌≤ℤ◌, IsSomeAnd, take, All}
 use Rattle.plane_geom.specs.Along.{reach}
-use Rattle.exit_spread.specs.Handing.{LiesUpTo}
+use Rattle.exit_spread.specs.Propagating.{LiesUpTo}
 use Rattle.exit_spread.proofs.held.last_checkpoint.Given as goal
 
 abbrev pub invariant-loop-checkpoint : goal.invariant-loop-checkpoint

@@ -3,7 +3,7 @@ use Rattle.std.proofs.Common.{◌≡◌, ◌⊎◌, ℤ, pos, ◌-ℤ◌, inl, i
 use Rattle.std.proofs.lemmas.Int.{ints, to_z-of_z}
 use Rattle.plane_geom.specs.declared.point.Dir.{Dir}
 use Rattle.plane_geom.specs.declared.point.Dir.TheVariants.{East, South, West, North}
-use Rattle.exit_spread.specs.Handing.{reach_along}
+use Rattle.exit_spread.specs.Propagating.{reach_along}
 use Rattle.exit_spread.proofs.run.stops_between.Goals as goal
 
 rises : (d : Dir) (z : ℤ) → (d ≡ East) ⊎ (d ≡ South) → reach_along d z ≡ z

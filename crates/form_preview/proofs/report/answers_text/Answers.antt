@@ -13,8 +13,8 @@ loop-index-preserved c =
     let out = c.loop-index.text.items in
     let later = drop (i + 1) answers in
     let rest = lines_from (i + 1 + 1) later in
-    let told : c.push_answer.new.text.items ≡ out ++ answer_lines (i + 1) a = c.in_ok-push_answer.ensures in
-    ap (λ t. t ++ rest) told
+    let pushed : c.push_answer.new.text.items ≡ out ++ answer_lines (i + 1) a = c.in_ok-push_answer.ensures in
+    ap (λ t. t ++ rest) pushed
     ∙ append_assoc out (answer_lines (i + 1) a) rest
     ∙ ap (λ t. out ++ t) (ap (λ (p : Previewed). lines_from (i + 1) (p ∷ later)) c.index-answers-index.is ∙ sym (at_drop_more (lines_from (i + 1)) answers i a c.loop-index-test.true))
     ∙ c.loop-index.invariant

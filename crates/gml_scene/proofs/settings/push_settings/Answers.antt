@@ -9,11 +9,11 @@ use Rattle.scene_model.specs.Scene.{default_settings}
 use Rattle.gml_scene.specs.Changes.{one}
 use Rattle.gml_scene.specs.Forms.{settings_pairs}
 use Rattle.gml_scene.specs.Tree.{settings_eq, router_pairs}
-use Rattle.gml_scene.proofs.Walks.{nothing_behind}
+use Rattle.gml_scene.proofs.Walks.{nothing_after}
 use Rattle.gml_scene.proofs.settings.push_settings.Goals as goal
 
 pub returns-then-has_router : goal.returns-then-has_router
-returns-then-has_router c = nothing_behind (pairs c.args.graph.now.items) _ (ap (λ b. if b then no_pairs else router_pairs c.args.settings) c.if-has_router.true)
+returns-then-has_router c = nothing_after (pairs c.args.graph.now.items) _ (ap (λ b. if b then no_pairs else router_pairs c.args.settings) c.if-has_router.true)
 
 pub returns-then-settings-3 : goal.returns-then-settings-3
 returns-then-settings-3 c =
@@ -22,6 +22,6 @@ returns-then-settings-3 c =
     let buffer : int_eq t.buffer (pos 4000) ≡ true = search rules in
     let nudge : int_eq t.nudge (pos 4000) ≡ true = search rules in
     let same : settings_eq t default_settings ≡ true = and_from _ _ (and_from _ _ penalty buffer) nudge in
-    nothing_behind (pairs c.args.graph.now.items) _
+    nothing_after (pairs c.args.graph.now.items) _
     (ap (λ b. if b then no_pairs else router_pairs t) c.if-has_router.false
     ∙ ap (λ b. if b then no_pairs else one (codes "router") (list (settings_pairs t))) same)

@@ -2,10 +2,10 @@
 use Rattle.std.proofs.Common.{◌++◌, rules}
 use Rattle.std.specs.List.{flat_map}
 use Rattle.live_replies.specs.Changes.{changes_text, gone_of}
-use Rattle.report_text.proofs.Lists.{told_on}
+use Rattle.report_text.proofs.Lists.{one_pushed}
 use Rattle.live_replies.proofs.change.push_all_gone.Goals as goal
 
 pub loop-line-preserved : goal.loop-line-preserved
 loop-line-preserved c =
-    told_on (λ k. changes_text (gone_of c.args.after.now k)) (c.args.out.now.items ++ flat_map (λ k. changes_text (gone_of c.args.after.now k)) c.args.before.now) c.loop-line.out.items c.push_if_gone.new.out.items c.args.before.now
+    one_pushed (λ k. changes_text (gone_of c.args.after.now k)) (c.args.out.now.items ++ flat_map (λ k. changes_text (gone_of c.args.after.now k)) c.args.before.now) c.loop-line.out.items c.push_if_gone.new.out.items c.args.before.now
     c.loop-line.line-index c.line-item.result c.loop-line-test.true c.loop-line.invariant (search rules)

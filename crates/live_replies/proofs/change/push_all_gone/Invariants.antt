@@ -1,4 +1,4 @@
--- What is told so far, and the lines that are left, give the whole.
+-- What is reported so far, and the lines that are left, give the whole.
 use Rattle.std.proofs.Common.{◌≡◌, ◌++◌, drop}
 use Rattle.std.specs.List.{flat_map}
 use Rattle.live_replies.specs.Changes.{changes_text, gone_of}

@@ -1,4 +1,4 @@
--- What is told so far, and the elements that are left, give the whole.
+-- What is reported so far, and the elements that are left, give the whole.
 use Rattle.std.proofs.Common.{◌≡◌, ◌++◌, drop}
 use Rattle.live_replies.specs.Texts.{corners_text}
 use Rattle.live_replies.proofs.line.push_corners.Given as goal

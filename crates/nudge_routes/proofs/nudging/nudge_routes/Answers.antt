@@ -9,7 +9,7 @@ use Rattle.nudge_laws.specs.Nudged.{IsWrittenLine}
 use Rattle.nudge_laws.specs.Phase.{IsPhase}
 use Rattle.nudge_routes.specs.Steps.{AreEach}
 use Rattle.nudge_laws.proofs.Phases.Solvable.{as_many}
-use Rattle.nudge_routes.proofs.HandingOn.{phase_rises, raw_may_move, x_may_move, x_ready_all, y_ready_all}
+use Rattle.nudge_routes.proofs.BetweenPhases.{phase_rises, raw_may_move, x_may_move, x_ready_all, y_ready_all}
 use Rattle.nudge_routes.proofs.nudging.nudge_routes.Goals as goal
 use Rattle.nudge_routes.proofs.nudging.nudge_routes.Goals.{In_ok-x, In_ok-y}
 

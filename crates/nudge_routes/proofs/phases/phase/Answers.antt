@@ -9,7 +9,7 @@ use Rattle.nudge_laws.specs.Phase.{IsPhase}
 use Rattle.nudge_routes.specs.Steps.{AreBundlesIn, AreSolutionsOf}
 use Rattle.nudge_routes.specs.Rising.{EdgesRise}
 use Rattle.nudge_routes.proofs.Covering.{bundles_in}
-use Rattle.nudge_routes.proofs.HandingOn.{phase_of, rising_differ}
+use Rattle.nudge_routes.proofs.BetweenPhases.{phase_of, rising_differ}
 use Rattle.nudge_routes.proofs.Routes.{take_whole}
 use Rattle.nudge_routes.proofs.phases.phase.Goals as goal
 

@@ -1,7 +1,7 @@
 -- A diagram or a certificate that is not read is the end, and what is read is audited.
 use Rattle.std.proofs.Common.{ℕ, List, sym, subst}
 use Rattle.std.specs.Prelude.{Option}
-use Rattle.host_edge.specs.Folder.{ToldFiles}
+use Rattle.host_edge.specs.Folder.{ExposedFiles}
 use Rattle.gml_text.specs.View.{tree}
 use Rattle.scene_model.specs.Scene.{Scene}
 use Rattle.reroute_app.specs.Outcome.{Course, Ends}
@@ -29,7 +29,7 @@ returns-in_err-bytes-clause-outcome g c =
     let d = c.in_ok-read.read in
     second_stops files c.args.diagram.now c.args.certificate.now most_certificate_bytes next (g.F.Folder.notes c.args.folder.now) middle new (tree d.doc) d.scene c.in_err-bytes.field-0.0
     c.from_residual-in_err-bytes.result c.in_ok-read.ensures.read
-    (subst (λ (told : Option ToldFiles). StopsAt (ReadsFile told c.args.certificate.now most_certificate_bytes never middle new) c.in_err-bytes.field-0.0) c.read_small.ensures.files_kept c.in_err-bytes.ensures.stopped)
+    (subst (λ (exposed : Option ExposedFiles). StopsAt (ReadsFile exposed c.args.certificate.now most_certificate_bytes never middle new) c.in_err-bytes.field-0.0) c.read_small.ensures.files_kept c.in_err-bytes.ensures.stopped)
     c.from_residual-in_err-bytes.ensures.1
 
 pub returns-in_err-bytes-clause-notes : goal.returns-in_err-bytes-clause-notes
@@ -47,7 +47,7 @@ returns-clause-outcome g c =
     let r = c.audit_scene.result in
     small_comes files c.args.diagram.now (λ s. ReadsFile files c.args.certificate.now most_certificate_bytes (next s)) (g.F.Folder.notes c.args.folder.now) middle new (tree d.doc) d.scene r c.in_ok-read.ensures.read
     (file_comes files c.args.certificate.now most_certificate_bytes (next d.scene) middle new new bytes r
-    (subst (λ (told : Option ToldFiles). HasRead told c.args.certificate.now most_certificate_bytes middle new bytes) c.read_small.ensures.files_kept c.in_ok-bytes.ensures.read)
+    (subst (λ (exposed : Option ExposedFiles). HasRead exposed c.args.certificate.now most_certificate_bytes middle new bytes) c.read_small.ensures.files_kept c.in_ok-bytes.ensures.read)
     (end_comes (AuditsCertificate d.scene bytes) new r (subst (λ (bs : List ℕ). Comes (AuditsCertificate d.scene bs) r) c.deref.ensures.value c.audit_scene.ensures)))
 
 pub returns-clause-notes : goal.returns-clause-notes

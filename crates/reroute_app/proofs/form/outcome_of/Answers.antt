@@ -5,7 +5,7 @@ use Rattle.command_words.specs.Words.{audit, check, form_of, preview, prove, rou
 use Rattle.reroute_app.specs.Replay.{most_script_bytes}
 use Rattle.reroute_app.specs.Certificate.{most_certificate_bytes}
 use Rattle.reroute_app.specs.View.{AnyScene, IsSmall}
-use Rattle.reroute_app.proofs.Crews.{IsCrew, crew_of, told_form}
+use Rattle.reroute_app.proofs.Crews.{IsCrew, crew_of, same_form}
 use Rattle.reroute_app.proofs.Stops.{words_come, one_in_order, two_in_order}
 use Rattle.reroute_app.proofs.form.outcome_of.Given as given
 use Rattle.reroute_app.proofs.form.outcome_of.Goals as goal
@@ -15,13 +15,13 @@ use Rattle.reroute_app.proofs.form.outcome_of.Goals.{In-Some-Audit, In-Some-Chec
 asks_check : (g : given.Over) (c : In-Some-Check g) → Some (check c.in-Some-Check.diagram.now) ≡ form_of (map string_bytes c.args.words.now)
 asks_check g c =
     let r = c.in-Some-Check in
-    told_form (map string_bytes c.args.words.now) c.in_ok-read_words.field-0 r.field-0 _ r.is r.field-0-is c.in_ok-read_words.ensures
+    same_form (map string_bytes c.args.words.now) c.in_ok-read_words.field-0 r.field-0 _ r.is r.field-0-is c.in_ok-read_words.ensures
 
 -- the arguments ask for this route, and so for one to four workers
 asks_route : (g : given.Over) (c : In-Some-Route g) → let r = c.in-Some-Route in Some (route r.diagram.now r.script.now r.workers r.count) ≡ form_of (map string_bytes c.args.words.now)
 asks_route g c =
     let r = c.in-Some-Route in
-    told_form (map string_bytes c.args.words.now) c.in_ok-read_words.field-0 r.field-0 _ r.is r.field-0-is c.in_ok-read_words.ensures
+    same_form (map string_bytes c.args.words.now) c.in_ok-read_words.field-0 r.field-0 _ r.is r.field-0-is c.in_ok-read_words.ensures
 
 route_crew : (g : given.Over) (c : In-Some-Route g) → IsCrew c.in-Some-Route.workers
 route_crew g c = crew_of (map string_bytes c.args.words.now) _ (asks_route g c)
@@ -30,7 +30,7 @@ route_crew g c = crew_of (map string_bytes c.args.words.now) _ (asks_route g c)
 asks_preview : (g : given.Over) (c : In-Some-Preview g) → let r = c.in-Some-Preview in Some (preview r.diagram.now r.script.now r.workers) ≡ form_of (map string_bytes c.args.words.now)
 asks_preview g c =
     let r = c.in-Some-Preview in
-    told_form (map string_bytes c.args.words.now) c.in_ok-read_words.field-0 r.field-0 _ r.is r.field-0-is c.in_ok-read_words.ensures
+    same_form (map string_bytes c.args.words.now) c.in_ok-read_words.field-0 r.field-0 _ r.is r.field-0-is c.in_ok-read_words.ensures
 
 preview_crew : (g : given.Over) (c : In-Some-Preview g) → IsCrew c.in-Some-Preview.workers
 preview_crew g c = crew_of (map string_bytes c.args.words.now) _ (asks_preview g c)
@@ -39,19 +39,19 @@ preview_crew g c = crew_of (map string_bytes c.args.words.now) _ (asks_preview g
 asks_shared : (g : given.Over) (c : In-Some-Shared g) → Some (shared c.in-Some-Shared.diagram.now) ≡ form_of (map string_bytes c.args.words.now)
 asks_shared g c =
     let r = c.in-Some-Shared in
-    told_form (map string_bytes c.args.words.now) c.in_ok-read_words.field-0 r.field-0 _ r.is r.field-0-is c.in_ok-read_words.ensures
+    same_form (map string_bytes c.args.words.now) c.in_ok-read_words.field-0 r.field-0 _ r.is r.field-0-is c.in_ok-read_words.ensures
 
 -- the arguments ask for this certificate
 asks_prove : (g : given.Over) (c : In-Some-Prove g) → Some (prove c.in-Some-Prove.diagram.now) ≡ form_of (map string_bytes c.args.words.now)
 asks_prove g c =
     let r = c.in-Some-Prove in
-    told_form (map string_bytes c.args.words.now) c.in_ok-read_words.field-0 r.field-0 _ r.is r.field-0-is c.in_ok-read_words.ensures
+    same_form (map string_bytes c.args.words.now) c.in_ok-read_words.field-0 r.field-0 _ r.is r.field-0-is c.in_ok-read_words.ensures
 
 -- the arguments ask for this audit
 asks_audit : (g : given.Over) (c : In-Some-Audit g) → let r = c.in-Some-Audit in Some (audit r.diagram.now r.certificate.now) ≡ form_of (map string_bytes c.args.words.now)
 asks_audit g c =
     let r = c.in-Some-Audit in
-    told_form (map string_bytes c.args.words.now) c.in_ok-read_words.field-0 r.field-0 _ r.is r.field-0-is c.in_ok-read_words.ensures
+    same_form (map string_bytes c.args.words.now) c.in_ok-read_words.field-0 r.field-0 _ r.is r.field-0-is c.in_ok-read_words.ensures
 
 pub replay_files-requires-clause-some : goal.replay_files-requires-clause-some
 replay_files-requires-clause-some g c κs within = (route_crew g (goal.at.replay_files-requires-clause-some g c).In-Some-Route).some

@@ -1,7 +1,7 @@
 -- A diagram or a script that is not read is the end.
 use Rattle.std.proofs.Common.{subst}
 use Rattle.std.specs.Prelude.{Option}
-use Rattle.host_edge.specs.Folder.{ToldFiles}
+use Rattle.host_edge.specs.Folder.{ExposedFiles}
 use Rattle.gml_text.specs.View.{tree}
 use Rattle.edit_script.specs.Script.{commands}
 use Rattle.reroute_app.specs.Diagram.{ReadsDiagram}
@@ -32,7 +32,7 @@ returns-in_err-commands-clause-stopped g c =
     let d = c.in_ok-diagram.diagram in
     stop_on (ReadsScript files c.args.diagram.now c.args.script.now never_three old new) c.in_err-commands.field-0.0 c.from_residual-in_err-commands.result
     (script_unread files c.args.diagram.now c.args.script.now old middle new (tree d.doc) d.scene c.in_ok-diagram.ensures.read c.in_err-commands.field-0.0
-    (subst (λ (told : Option ToldFiles). StopsAt (ReadsFile told c.args.script.now most_script_bytes never middle new) c.in_err-commands.field-0.0) c.read_diagram.ensures.files_kept c.in_err-commands.ensures.stopped))
+    (subst (λ (exposed : Option ExposedFiles). StopsAt (ReadsFile exposed c.args.script.now most_script_bytes never middle new) c.in_err-commands.field-0.0) c.read_diagram.ensures.files_kept c.in_err-commands.ensures.stopped))
     c.from_residual-in_err-commands.ensures.1
 
 pub returns-in_err-commands-clause-notes : goal.returns-in_err-commands-clause-notes
@@ -44,7 +44,7 @@ returns-clause-read g c = record {
   middle = g.F.Folder.notes c.read_diagram.new.folder;
   has_diagram = c.in_ok-diagram.ensures.read;
   has_commands =
-      subst (λ (told : Option ToldFiles). HasCommands told c.args.script.now (g.F.Folder.notes c.read_diagram.new.folder) (g.F.Folder.notes c.read_commands.new.folder) c.in_ok-commands.commands.items)
+      subst (λ (exposed : Option ExposedFiles). HasCommands exposed c.args.script.now (g.F.Folder.notes c.read_diagram.new.folder) (g.F.Folder.notes c.read_commands.new.folder) c.in_ok-commands.commands.items)
       c.read_diagram.ensures.files_kept c.in_ok-commands.ensures.read;
 }
 

@@ -27,10 +27,10 @@ returns-in_default-solid c =
     let x = c.args.solid in
     let n = c.in-Some.node.now in
     let same : x.node ≡ to_z w64 (of_z w64 x.node) = omega (arith, ints) in
-    let tells = solid_of_found s x n None c.settings-settings.ensures.valid (ap (node_with s) same ∙ sym c.in-Some.ensures)
+    let means = solid_of_found s x n None c.settings-settings.ensures.valid (ap (node_with s) same ∙ sym c.in-Some.ensures)
     (c.in_default-solid.ensures ∙ ap (λ (t : Settings). solid_of t.buffer n) c.settings-settings.ensures.value) in (
       λ h. absurd (true≢false (sym h)),
-      λ has. let none = tells.1 has in absurd (cc),
+      λ has. let none = means.1 has in absurd (cc),
     )
 
 pub returns : goal.returns
@@ -40,9 +40,9 @@ returns c =
     let n = c.in-Some.node.now in
     let own = c.in-Some-solid.own in
     let same : x.node ≡ to_z w64 (of_z w64 x.node) = omega (arith, ints) in
-    let tells = solid_of_found s x n (Some own) c.settings-settings.ensures.valid (ap (node_with s) same ∙ sym c.in-Some.ensures)
+    let means = solid_of_found s x n (Some own) c.settings-settings.ensures.valid (ap (node_with s) same ∙ sym c.in-Some.ensures)
     (c.in-Some-solid.ensures ∙ ap (λ (t : Settings). solid_of t.buffer n) c.settings-settings.ensures.value) in
     let test = Decides-at c.eq.result _ c.eq.ensures (solid_same own x) in (
-      λ h. tells.0 (ap (λ z. Some z) (test.0 h)),
-      λ has. let is = tells.1 has in test.1 (cc),
+      λ h. means.0 (ap (λ z. Some z) (test.0 h)),
+      λ has. let is = means.1 has in test.1 (cc),
     )

@@ -9,9 +9,9 @@ returns g c =
     let old = c.args.session.now in
     let new = c.commit-answer.new.self in
     let made = c.commit-answer.ensures in
-    let told = c.reply_of.ensures in
+    let replied = c.reply_of.ensures in
     let searched = c.searched.result - c.searched-before.result in
     let valid : IsValid new.world.present = subst IsValid c.scene.ensures.scene c.valid.ensures in
     let counted : searched ≡ new.searched - old.searched = omega (arith, c.searched.ensures, c.searched-before.ensures) in
     commit_replied old new c.commit-answer.result searched c.reply_of.result c.right.ensures valid c.requires.countable counted made.ok made.searched made.fault made.err made.refused_searched
-    told.done told.memory told.refused
+    replied.done replied.memory replied.refused

@@ -4,7 +4,7 @@ use Rattle.std.specs.Prelude.{filter, int_lt}
 use Rattle.std.proofs.lemmas.List.{get_or-drop, get_or-take}
 use Rattle.plane_geom.specs.declared.floor.Line.{Line}
 use Rattle.visibility_graph.specs.Meeting.{meets, reaches, sorted_out}
-use Rattle.visibility_graph.proofs.Counts.{filter_before, filter_behind, nothing}
+use Rattle.visibility_graph.proofs.Counts.{filter_before, filter_after, nothing}
 use Rattle.visibility_graph.proofs.Parted.{met_across, not_met_before, not_met_behind}
 use Rattle.visibility_graph.proofs.meeting.beside.Goals as goal
 
@@ -17,7 +17,7 @@ returns-clause-met c =
     let others = c.args.others.now in
     let front = c.split_at.result.0.now in
     ap (filter (meets line)) c.split_at-2.ensures.back
-    ∙ filter_behind (meets line) front c.count_before-before.result (λ k d low high. not_met_before line (get_or front k d) (c.count_before-before.ensures.point.0 k d low high))
+    ∙ filter_after (meets line) front c.count_before-before.result (λ k d low high. not_met_before line (get_or front k d) (c.count_before-before.ensures.point.0 k d low high))
     ∙ ap (filter (meets line)) c.split_at.ensures.front
     ∙ filter_before (meets line) others c.count_upto_end.result (λ k d low high. not_met_behind line (get_or others k d) (c.count_upto_end.ensures.point.1 k d low high))
 

@@ -10,8 +10,8 @@ use Rattle.channel_bundles.proofs.limits.Limits.kept_out.Goals as goal
 use Rattle.channel_bundles.proofs.limits.Limits.kept_out.Goals.{Start, In-Vertical, In-Horizontal}
 
 -- a number as the argument of a call
-abbrev handed : ℤ → ℤ
-handed x = to_z w64 (of_z w64 x)
+abbrev passed : ℤ → ℤ
+passed x = to_z w64 (of_z w64 x)
 
 -- the numbers of the rectangle, and the coordinate of the run, fit their width
 record Fit (rect : Rect) (run : Run) : Type 0 where
@@ -27,7 +27,7 @@ fit_here c = record { left = search rules; right = search rules; top = search ru
 
 -- what a vertical run sweeps on its way to a coordinate, in the numbers that the calls get
 swept_upright : (c : In-Vertical) (z : ℤ) → Sweeps c.args.run.now.way c.args.solid.now.rect c.args.run.now.at z c.args.run.now.lo c.args.run.now.hi
-    ↔ (Overlaps (handed c.args.solid.now.rect.left) (handed c.args.solid.now.rect.right) (handed c.args.run.now.at) z × Overlaps (handed c.args.solid.now.rect.top) (handed c.args.solid.now.rect.bottom) c.args.run.now.lo c.args.run.now.hi)
+    ↔ (Overlaps (passed c.args.solid.now.rect.left) (passed c.args.solid.now.rect.right) (passed c.args.run.now.at) z × Overlaps (passed c.args.solid.now.rect.top) (passed c.args.solid.now.rect.bottom) c.args.run.now.lo c.args.run.now.hi)
 swept_upright c z =
     let fit = fit_here (goal.at.In-Vertical c).Start in
     rw (to_z-of_z _ _ fit.left, to_z-of_z _ _ fit.right, to_z-of_z _ _ fit.top, to_z-of_z _ _ fit.bottom, to_z-of_z _ _ fit.at)
@@ -35,14 +35,14 @@ swept_upright c z =
 
 -- and what a horizontal one does
 swept_level : (c : In-Horizontal) (z : ℤ) → Sweeps c.args.run.now.way c.args.solid.now.rect c.args.run.now.at z c.args.run.now.lo c.args.run.now.hi
-    ↔ (Overlaps (handed c.args.solid.now.rect.top) (handed c.args.solid.now.rect.bottom) (handed c.args.run.now.at) z × Overlaps (handed c.args.solid.now.rect.left) (handed c.args.solid.now.rect.right) c.args.run.now.lo c.args.run.now.hi)
+    ↔ (Overlaps (passed c.args.solid.now.rect.top) (passed c.args.solid.now.rect.bottom) (passed c.args.run.now.at) z × Overlaps (passed c.args.solid.now.rect.left) (passed c.args.solid.now.rect.right) c.args.run.now.lo c.args.run.now.hi)
 swept_level c z =
     let fit = fit_here (goal.at.In-Horizontal c).Start in
     rw (to_z-of_z _ _ fit.left, to_z-of_z _ _ fit.right, to_z-of_z _ _ fit.top, to_z-of_z _ _ fit.bottom, to_z-of_z _ _ fit.at)
     (swept_horizontal c.args.run.now.way c.args.solid.now.rect c.args.run.now.at z c.args.run.now.lo c.args.run.now.hi c.in-Horizontal.is)
 
 -- the run has swept nothing where it stands, in those numbers too
-clear_here : (c : Start) → Sweeps c.args.run.now.way c.args.solid.now.rect c.args.run.now.at (handed c.args.run.now.at) c.args.run.now.lo c.args.run.now.hi → ⊥
+clear_here : (c : Start) → Sweeps c.args.run.now.way c.args.solid.now.rect c.args.run.now.at (passed c.args.run.now.at) c.args.run.now.lo c.args.run.now.hi → ⊥
 clear_here c = rw (to_z-of_z _ _ (fit_here c).at) c.requires.clear
 
 pub kept_beside-requires-clause-clear : goal.kept_beside-requires-clause-clear

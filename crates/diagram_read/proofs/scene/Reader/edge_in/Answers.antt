@@ -6,7 +6,7 @@ use Rattle.gml_text.specs.View.{pairs}
 use Rattle.diagram_read.specs.Edges.{end_node}
 use Rattle.diagram_read.specs.Faults.{IsRead}
 use Rattle.diagram_read.specs.Values.{value_at}
-use Rattle.diagram_read.proofs.EdgesRead.{edge_told, other_ends}
+use Rattle.diagram_read.proofs.EdgesRead.{edge_read_as, other_ends}
 use Rattle.diagram_read.proofs.scene.Reader.edge_in.Goals as goal
 
 pub returns : goal.returns
@@ -18,6 +18,6 @@ returns c =
     let source : end_node r.scene (value_at (codes "source") list) ≡ Some from = sym c.end_at.ensures ∙ ap option_copied c.in_ok-from.ensures.ok_part in
     let target : end_node r.scene (value_at (codes "target") list) ≡ Some to = sym c.end_at-2.ensures ∙ ap option_copied c.in_ok-to.ensures.ok_part in
     let counted = r.edges_counted in
-    let told = edge_told r.scene (c.args.origin, list) from to (r.edges + 1) r.via (omega (arith, counted)) r.via_counted (omega (arith, counted, c.if-self-ge-MOST_EDGES.false)) source target
+    let is = edge_read_as r.scene (c.args.origin, list) from to (r.edges + 1) r.via (omega (arith, counted)) r.via_counted (omega (arith, counted, c.if-self-ge-MOST_EDGES.false)) source target
     (other_ends from.id to.id (λ e. c.if-from-to.false (ap (of_z w64) e))) in
-    subst (λ t. IsRead t c.connector_in.result) (sym told) c.connector_in.ensures
+    subst (λ t. IsRead t c.connector_in.result) (sym is) c.connector_in.ensures

@@ -7,7 +7,7 @@ use Rattle.diagram_read.specs.Values.{ListEntry}
 use Rattle.diagram_read.specs.Edges.{edge_in}
 use Rattle.diagram_read.proofs.Counts.{via_counted}
 use Rattle.diagram_read.proofs.EdgesRead.{IsRoomyEdge, edge_roomy}
-use Rattle.diagram_read.proofs.Steps.{ok_told}
+use Rattle.diagram_read.proofs.Steps.{ok_holds}
 use Rattle.diagram_read.proofs.scene.Reader.load_edge.Goals as goal
 
 pub load_edge-requires : goal.load_edge-requires
@@ -17,7 +17,7 @@ load_edge-requires c =
     let few = r.few_via in
     let counted = r.via_counted in
     let entry : ListEntry = (c.args.origin, pairs c.args.list.now) in
-    let roomy = ok_told (edge_in s entry) c.in_ok-edge.edge (IsRoomyEdge s) c.in_ok-edge.ensures (edge_roomy s entry r.numbered (omega (arith, few, counted))) in
+    let roomy = ok_holds (edge_in s entry) c.in_ok-edge.edge (IsRoomyEdge s) c.in_ok-edge.ensures (edge_roomy s entry r.numbered (omega (arith, few, counted))) in
     roomy.loadable
 
 pub invariant_of-self : goal.invariant_of-self
@@ -28,7 +28,7 @@ invariant_of-self c =
     let entry : ListEntry = (c.args.origin, pairs c.args.list.now) in
     let few = r.few_via in
     let counted = r.via_counted in
-    let roomy = ok_told (edge_in s entry) edge (IsRoomyEdge s) c.in_ok-edge.ensures (edge_roomy s entry r.numbered (omega (arith, few, counted))) in
+    let roomy = ok_holds (edge_in s entry) edge (IsRoomyEdge s) c.in_ok-edge.ensures (edge_roomy s entry r.numbered (omega (arith, few, counted))) in
     let room = roomy.few in
     let number = roomy.number in
     let new : c.load_edge.new.self ≡ with_edge edge s = c.in-Ok.ensures.1 in

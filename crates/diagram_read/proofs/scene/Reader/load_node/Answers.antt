@@ -7,7 +7,7 @@ use Rattle.diagram_read.specs.Values.{ListEntry}
 use Rattle.diagram_read.specs.Nodes.{node_in}
 use Rattle.diagram_read.proofs.Counts.{pins_counted}
 use Rattle.diagram_read.proofs.NodesRead.{IsRoomy, node_roomy}
-use Rattle.diagram_read.proofs.Steps.{ok_told}
+use Rattle.diagram_read.proofs.Steps.{ok_holds}
 use Rattle.diagram_read.proofs.scene.Reader.load_node.Goals as goal
 
 pub load_node-requires : goal.load_node-requires
@@ -15,7 +15,7 @@ load_node-requires c =
     let s = c.args.self.now.scene in
     let few = c.args.self.now.few_pins in
     let counted = c.args.self.now.pins_counted in
-    let roomy = ok_told (node_in s (c.args.origin, pairs c.args.list.now)) c.in_ok-node.node (IsRoomy (pin_count s)) c.in_ok-node.ensures (node_roomy s (c.args.origin, pairs c.args.list.now) (omega (arith, few, counted))) in
+    let roomy = ok_holds (node_in s (c.args.origin, pairs c.args.list.now)) c.in_ok-node.node (IsRoomy (pin_count s)) c.in_ok-node.ensures (node_roomy s (c.args.origin, pairs c.args.list.now) (omega (arith, few, counted))) in
     roomy.loadable
 
 pub invariant_of-self : goal.invariant_of-self
@@ -26,7 +26,7 @@ invariant_of-self c =
     let entry : ListEntry = (c.args.origin, pairs c.args.list.now) in
     let few = r.few_pins in
     let counted = r.pins_counted in
-    let roomy = ok_told (node_in s entry) node (IsRoomy (pin_count s)) c.in_ok-node.ensures (node_roomy s entry (omega (arith, few, counted))) in
+    let roomy = ok_holds (node_in s entry) node (IsRoomy (pin_count s)) c.in_ok-node.ensures (node_roomy s entry (omega (arith, few, counted))) in
     let room = roomy.few in
     let new : c.load_node.new.self ≡ with_node node s = c.in-Ok.ensures.1 in
     let pins = ap length c.as_slice-pins.ensures in

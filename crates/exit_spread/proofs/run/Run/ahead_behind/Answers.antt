@@ -1,4 +1,4 @@
--- The point is on the whole line of the run's end, and the exit tells what is ahead where it counts.
+-- The point is on the whole line of the run's end, and the exit gives what is ahead where it counts.
 use Rattle.std.proofs.Common.{◌≡◌, ℤ, Option, None, Some, sym, ap, subst, ◌∙◌, rules, to_z, w64, FitsSigned}
 use Rattle.std.specs.Prelude.{IfSome}
 use Rattle.std.proofs.lemmas.Int.{to_z-of_z}

@@ -16,7 +16,7 @@ use Rattle.line_lists.specs.declared.stop.Stop.{Stop}
 use Rattle.move_model.specs.Places.{ComesTo}
 use Rattle.exit_rows.specs.Exits.{ahead_at}
 use Rattle.exit_rows.specs.declared.exit.Exit.{Exit}
-use Rattle.exit_spread.specs.Handing.{Adds, IsBehind, IsFurtherAhead, IsMet, IsOfferable}
+use Rattle.exit_spread.specs.Propagating.{Adds, IsBehind, IsFurtherAhead, IsMet, IsOfferable}
 use Rattle.exit_spread.specs.Offers.{IsOffered, exit_of}
 use Rattle.exit_spread.specs.Ways.{IsWayAhead, place_at, turned}
 use Rattle.exit_spread.proofs.Spreading.Adding.{adds_both, adds_more, offered_on}

@@ -4,7 +4,7 @@ use Rattle.std.proofs.lemmas.List.{take_all}
 use Rattle.std.proofs.lemmas.List.Elements.{All-more}
 use Rattle.plane_geom.specs.declared.point.Point.{Point}
 use Rattle.line_lists.specs.Lists.{number_of}
-use Rattle.exit_spread.specs.Handing.{IsMetAt}
+use Rattle.exit_spread.specs.Propagating.{IsMetAt}
 use Rattle.exit_spread.proofs.Spreading.Adding.{adds_both, adds_more, met_on}
 use Rattle.exit_spread.proofs.spread.Spread.meet_checkpoints.Goals as goal
 

@@ -1,7 +1,7 @@
 -- The checkpoints so far were met.
 use Rattle.std.proofs.Common.{◌≡◌, ◌*◌, take, All}
 use Rattle.line_lists.specs.Lists.{number_of}
-use Rattle.exit_spread.specs.Handing.{Adds, IsMetAt}
+use Rattle.exit_spread.specs.Propagating.{Adds, IsMetAt}
 use Rattle.exit_spread.proofs.spread.Spread.meet_checkpoints.Given as goal
 
 abbrev pub invariant-loop-at : goal.invariant-loop-at

@@ -1,6 +1,6 @@
 -- No candidate was added.
 use Rattle.line_lists.specs.Lists.{number_of}
-use Rattle.exit_spread.specs.Handing.{Adds}
+use Rattle.exit_spread.specs.Propagating.{Adds}
 use Rattle.std.proofs.Common.{◌≡◌}
 use Rattle.exit_spread.proofs.spread.Spread.meet_entries.Given as goal
 

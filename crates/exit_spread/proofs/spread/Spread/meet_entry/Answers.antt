@@ -9,7 +9,7 @@ use Rattle.move_model.specs.declared.ahead.Ahead.{Ahead}
 use Rattle.move_model.specs.declared.place.Place.{Place}
 use Rattle.search_labels.proofs.Choices.{entries_small}
 use Rattle.exit_rows.specs.Exits.{ahead_at}
-use Rattle.exit_spread.specs.Handing.{IsBehind, IsFurtherAhead}
+use Rattle.exit_spread.specs.Propagating.{IsBehind, IsFurtherAhead}
 use Rattle.exit_spread.specs.Ways.{IsBest, IsWayAhead, place_at, turned}
 use Rattle.exit_spread.proofs.Sizes.{crossing_within}
 use Rattle.exit_spread.proofs.Spreading.Behind.{entered, entry_here, further, run_small, turned_offerable, way_turned}

@@ -1,7 +1,7 @@
 -- The stubs of the endings so far were offered.
 use Rattle.std.proofs.Common.{◌≡◌, ◌*◌, None, take, All}
 use Rattle.line_lists.specs.Lists.{number_of}
-use Rattle.exit_spread.specs.Handing.{Adds}
+use Rattle.exit_spread.specs.Propagating.{Adds}
 use Rattle.exit_spread.specs.Searching.{IsStubOffered}
 use Rattle.exit_spread.proofs.spread.Spread.offer_endings.Given as goal
 

@@ -4,7 +4,7 @@ use Rattle.std.proofs.Common.{◌≡◌, ◌≤◌, List, None, length, sym, ap,
 use Rattle.plane_geom.specs.Along.{across, way_of}
 use Rattle.plane_geom.specs.declared.point.Point.{Point}
 use Rattle.line_lists.specs.Lists.{number_of}
-use Rattle.exit_spread.specs.Handing.{IsOfferable}
+use Rattle.exit_spread.specs.Propagating.{IsOfferable}
 use Rattle.exit_spread.specs.Offers.{IsOffered}
 use Rattle.exit_spread.specs.Ways.{IsWayAhead, place_at}
 use Rattle.exit_spread.proofs.Sizes.{across_small, small_ending}

@@ -8,7 +8,7 @@ use Rattle.line_arena.proofs.Arenas.ArenaLaws.{one_point}
 use Rattle.line_lists.specs.Lists.{number_of}
 use Rattle.exit_rows.specs.Exits.{ahead_at}
 use Rattle.exit_rows.specs.declared.exit.Exit.{Exit}
-use Rattle.exit_spread.specs.Handing.{IsBehind, IsOfferable, IsTurnOffered, reach_along}
+use Rattle.exit_spread.specs.Propagating.{IsBehind, IsOfferable, IsTurnOffered, reach_along}
 use Rattle.exit_spread.specs.Offers.{IsOffered, MayBegin, exit_of}
 use Rattle.exit_spread.specs.Ways.{IsWayAhead, place_at, turned}
 use Rattle.exit_spread.proofs.Holding.Runs.{line_within}

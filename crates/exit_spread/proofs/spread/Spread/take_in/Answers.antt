@@ -1,4 +1,4 @@
--- The exit is late, or its line keeps it and it is handed on.
+-- The exit is late, or its line keeps it and it is propagated.
 use Rattle.std.proofs.Common.{◌≡◌, ◌≤ℤ◌, ◌<ℤ◌, ℤ, ℕ, List, Some, None, refl, sym, ap, subst, ◌∙◌, arith, w64, to_z, of_z}
 use Rattle.std.specs.Prelude.{All}
 use Rattle.std.proofs.lemmas.Bool.{false≢true}
@@ -10,8 +10,8 @@ use Rattle.exit_rows.specs.Exits.{IsLate, IsSmallKept, IsUndercut}
 use Rattle.exit_rows.specs.Rows.{HasRow, Keeps, kept_in}
 use Rattle.exit_rows.specs.declared.exit.Kept.{Kept}
 use Rattle.exit_spread.specs.declared.run.Run.{Run}
-use Rattle.exit_spread.specs.Handing.{IsBehind, IsRun}
-use Rattle.exit_spread.specs.Offers.{IsHandedAt, from_of, kept_of}
+use Rattle.exit_spread.specs.Propagating.{IsBehind, IsRun}
+use Rattle.exit_spread.specs.Offers.{IsPropagatedAt, from_of, kept_of}
 use Rattle.exit_spread.specs.Searching.{IsSearching}
 use Rattle.exit_spread.specs.Taking.{Grows}
 use Rattle.exit_spread.proofs.Known.Numbers.{lists_number}
@@ -93,7 +93,7 @@ may_run c =
     is_run c.args.problem.now c.requires.ready c.args.lists.now (number_of c.args.lists.now) c.args.exit.now c.args.at c.requires.exit c.args.stage c.requires.comes c.args.self.now (Some c.args.exit.now) c.requires.searching
     c.stop-from.result (stops c).0 (stops c).1
 
--- the run as it is handed on
+-- the run as it is propagated
 run_is : (c : After-stop-from) → ◌≡◌ {A = Run}
     (record { stage = c.args.stage; line = c.args.exit.now.line; heading = c.args.exit.now.place.heading; end = c.args.at; kept = record { crossing = c.args.exit.now.place.crossing; from = to_z w64 (of_z w64 c.stop-from.result); at = to_z w64 (of_z w64 (to_z w64 (of_z w64 c.reach.result))); next = c.args.exit.now.next; ahead = c.args.exit.now.ahead } })
     (run c)
@@ -105,26 +105,26 @@ run_is c =
     (subst IsCoordinate (sym (stored c.reach.result c.reach.result refl c.reach.ensures.within)) c.reach.ensures.within) in
     (λ i. record { stage = c.args.stage; line = x.line; heading = x.place.heading; end = c.args.at; kept = record { crossing = x.place.crossing; from = from i; at = at i; next = x.next; ahead = x.ahead } })
 
-pub hand_on-requires-clause-run : goal.hand_on-requires-clause-run
-hand_on-requires-clause-run c =
-    let past = (goal.at.hand_on-requires-clause-run c).After-stop-from in
+pub propagate-requires-clause-run : goal.propagate-requires-clause-run
+propagate-requires-clause-run c =
+    let past = (goal.at.propagate-requires-clause-run c).After-stop-from in
     subst (IsRun c.args.problem.now (number_of c.args.lists.now)) (sym (run_is past)) (may_run past)
 
-keeps : (c : goal.In_ok-hand_on) → Keeps c.args.self.now.rows c.keep.new.self c.args.stage c.args.exit.now.line c.args.exit.now.place.heading (kept_of c.args.problem.now c.args.stage c.args.at c.args.exit.now)
+keeps : (c : goal.In_ok-propagate) → Keeps c.args.self.now.rows c.keep.new.self c.args.stage c.args.exit.now.line c.args.exit.now.place.heading (kept_of c.args.problem.now c.args.stage c.args.at c.args.exit.now)
 keeps c =
     let x = c.args.exit.now in
     subst (Keeps c.args.self.now.rows c.keep.new.self c.args.stage x.line x.place.heading) (kept_is (goal.at.returns-clause-searching c).After-reach) c.in_ok-keep.ensures.ok
 
-handed : (c : goal.In_ok-hand_on) → (z : ℕ) (q : Point) → IsBehind c.args.problem.now (number_of c.args.lists.now) (run (goal.at.returns-clause-searching c).After-stop-from) z q →
-    IsHandedAt c.args.problem.now (number_of c.args.lists.now) c.hand_on.new.self None c.args.stage c.args.exit.now.place.heading (run (goal.at.returns-clause-searching c).After-stop-from).kept z q
-handed c =
-    subst (λ (r : Run). (z : ℕ) (q : Point) → IsBehind c.args.problem.now (number_of c.args.lists.now) r z q → IsHandedAt c.args.problem.now (number_of c.args.lists.now) c.hand_on.new.self None r.stage r.heading r.kept z q)
-    (run_is (goal.at.returns-clause-searching c).After-stop-from) c.in_ok-hand_on.ensures.handed
+propagated : (c : goal.In_ok-propagate) → (z : ℕ) (q : Point) → IsBehind c.args.problem.now (number_of c.args.lists.now) (run (goal.at.returns-clause-searching c).After-stop-from) z q →
+    IsPropagatedAt c.args.problem.now (number_of c.args.lists.now) c.propagate.new.self None c.args.stage c.args.exit.now.place.heading (run (goal.at.returns-clause-searching c).After-stop-from).kept z q
+propagated c =
+    subst (λ (r : Run). (z : ℕ) (q : Point) → IsBehind c.args.problem.now (number_of c.args.lists.now) r z q → IsPropagatedAt c.args.problem.now (number_of c.args.lists.now) c.propagate.new.self None r.stage r.heading r.kept z q)
+    (run_is (goal.at.returns-clause-searching c).After-stop-from) c.in_ok-propagate.ensures.propagated
 
 -- the search goes on, nothing is lost, and the exit is late
-all : (c : goal.In_ok-hand_on) → IsSearching c.args.problem.now (number_of c.args.lists.now) c.hand_on.new.self (Some c.args.exit.now) None
-    × Grows c.args.problem.now c.args.lists.now c.args.self.now c.hand_on.new.self
-    × IsLate (kept_in c.hand_on.new.self.rows c.args.stage c.args.exit.now.line c.args.exit.now.place.heading)
+all : (c : goal.In_ok-propagate) → IsSearching c.args.problem.now (number_of c.args.lists.now) c.propagate.new.self (Some c.args.exit.now) None
+    × Grows c.args.problem.now c.args.lists.now c.args.self.now c.propagate.new.self
+    × IsLate (kept_in c.propagate.new.self.rows c.args.stage c.args.exit.now.line c.args.exit.now.place.heading)
     (kept_of c.args.problem.now c.args.stage c.args.at c.args.exit.now)
 all c =
     let p = c.args.problem.now in
@@ -136,7 +136,7 @@ all c =
     taken_in p c.requires.ready lists (number_of lists) x c.args.at c.requires.exit c.args.stage c.requires.comes c.args.self.now (Some x) c.requires.searching
     c.stop-from.result (stops past).0 (stops past).1 (lists_number p.arena.now lists arena are)
     (crossing_below p.arena.now arena lists are x.place.crossing c.args.at c.requires.exit.way.here) (not_late past)
-    c.keep.new.self (keeps c) c.in_ok-keep.ensures.marked c.hand_on.new.self c.in_ok-hand_on.ensures.rows c.in_ok-hand_on.ensures.adds (handed c)
+    c.keep.new.self (keeps c) c.in_ok-keep.ensures.marked c.propagate.new.self c.in_ok-propagate.ensures.rows c.in_ok-propagate.ensures.adds (propagated c)
 
 pub returns-clause-searching : goal.returns-clause-searching
 returns-clause-searching c = (all c).0

@@ -1,4 +1,4 @@
--- Stop by stop; what is further back is not held, costs too much, or was handed on already.
+-- Stop by stop; what is further back is not held, costs too much, or was propagated already.
 use Rattle.std.proofs.Common.{◌≡◌, ◌≤ℤ◌, ◌<ℤ◌, ℕ, List, All, get_or, length, take, sym, ap, subst, ◌∙◌, inl, inr, FitsSigned, w64, rules, arith}
 use Rattle.std.specs.Prelude.{AllPairs, Contains, IsSomeAnd}
 use Rattle.std.proofs.lemmas.Int.{ints, to_z-of_z}
@@ -9,7 +9,7 @@ use Rattle.plane_geom.specs.Along.{reach}
 use Rattle.line_arena.specs.Arena.{StandsAt}
 use Rattle.line_lists.specs.Lists.{number_of}
 use Rattle.line_lists.specs.declared.stop.Stop.{Stop}
-use Rattle.exit_spread.specs.Handing.{IsBehind, IsTurnOffered, IsTurnedAt, reach_along}
+use Rattle.exit_spread.specs.Propagating.{IsBehind, IsTurnOffered, IsTurnedAt, reach_along}
 use Rattle.exit_spread.specs.Offers.{IsHeldUpTo, MayBegin}
 use Rattle.exit_spread.specs.Searching.{most_stops}
 use Rattle.exit_spread.proofs.Spreading.Adding.{adds_both, adds_more, turned_on}

@@ -1,7 +1,7 @@
 -- The turns at the stops so far were offered.
 use Rattle.std.proofs.Common.{◌≡◌, take, All}
 use Rattle.line_lists.specs.Lists.{number_of}
-use Rattle.exit_spread.specs.Handing.{Adds, IsTurnedAt}
+use Rattle.exit_spread.specs.Propagating.{Adds, IsTurnedAt}
 use Rattle.exit_spread.proofs.spread.Spread.turn_off.Given as goal
 
 abbrev pub invariant-loop-stop : goal.invariant-loop-stop

@@ -7,10 +7,10 @@ use Rattle.gml_scene.specs.Changes.{all_of}
 use Rattle.gml_scene.specs.Forms.{edge_pair}
 use Rattle.gml_scene.specs.Tree.{line_for}
 use Rattle.gml_scene.proofs.KeptParts.{not_new}
-use Rattle.gml_scene.proofs.Walks.{nothing_behind}
+use Rattle.gml_scene.proofs.Walks.{nothing_after}
 use Rattle.gml_scene.proofs.tree.Change.push_new_edge.Goals as goal
 
 pub returns-then-is_some : goal.returns-then-is_some
 returns-then-is_some c =
     let n = c.args.edge.now in
-    nothing_behind (pairs c.args.out.now.items) _ (ap (λ b. all_of (λ (e : Edge). edge_pair (line_for c.args.self.now.routes.now e.number) e) (cond b (n ∷ []) [])) (not_new n.origin (sym c.is_some.ensures ∙ c.if-is_some.true)))
+    nothing_after (pairs c.args.out.now.items) _ (ap (λ b. all_of (λ (e : Edge). edge_pair (line_for c.args.self.now.routes.now e.number) e) (cond b (n ∷ []) [])) (not_new n.origin (sym c.is_some.ensures ∙ c.if-is_some.true)))

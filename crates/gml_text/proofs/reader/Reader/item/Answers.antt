@@ -2,7 +2,7 @@
 use Rattle.std.proofs.Common.{◌≡◌, ◌<◌, false, length, get_or, slice_range, sym, ◌∙◌, subst, arith}
 use Rattle.gml_text.specs.Bytes.{is_word_byte}
 use Rattle.gml_text.specs.Reader.{frames}
-use Rattle.gml_text.specs.Reading.{behind}
+use Rattle.gml_text.specs.Reading.{following}
 use Rattle.gml_text.specs.Standing.{Stands, gap_state}
 use Rattle.gml_text.specs.View.{pairs}
 use Rattle.gml_text.proofs.Standing.{no_pair, key_begins, key_touches, key_stops}
@@ -37,4 +37,4 @@ value-requires-clause-stands c =
       | else-end-bytes-via-else-end-bytes w ↦ λ h. absurd (omega (arith, h, w.if-end-bytes.false))
     ] in
     let ended = key_stops bytes end key fs ps c.key_end-end.ensures.stops apart (c.key_end-end.ensures.ends fs ps first) in
-    subst (λ k. Stands bytes c.gap_end-from.result (gap_state (behind k) fs ps)) (sym c.in_ok-key.ensures.ok) (c.gap_end-from.ensures.ends (behind key) fs ps ended)
+    subst (λ k. Stands bytes c.gap_end-from.result (gap_state (following k) fs ps)) (sym c.in_ok-key.ensures.ok) (c.gap_end-from.ensures.ends (following key) fs ps ended)

@@ -64,7 +64,7 @@ returns-clause-goes c =
       | else-end-bytes v ↦ λ h. absurd (omega (arith, h, v.if-end-bytes.false))
     ] in
     let ended = number_stops bytes end key digits part fs ps c.number_end-end.ensures.stops apart (sym c.is_complete.ensures ∙ c.if-not-is_complete.false) stands in
-    let behind = put_number new.pairs.items c.args.self.now.pairs.items key c.in_ok-digits.digits.items digits c.in_ok-put.ensures.ok c.in_ok-digits.ensures.ok in
+    let following = put_number new.pairs.items c.args.self.now.pairs.items key c.in_ok-digits.digits.items digits c.in_ok-put.ensures.ok c.in_ok-digits.ensures.ok in
     let same : state_of new ≡ gap_state between fs (ps then pair key (number digits) no_pairs) =
-    same_gap (frames new.lists.items) fs (pairs new.pairs.items) (ps then pair key (number digits) no_pairs) (ap (λ v. frames v.items) c.put.ensures.lists) behind in
+    same_gap (frames new.lists.items) fs (pairs new.pairs.items) (ps then pair key (number digits) no_pairs) (ap (λ v. frames v.items) c.put.ensures.lists) following in
     (c.number_end-end.ensures.within, subst (Stands bytes end) (sym same) ended)

@@ -1,7 +1,7 @@
 -- No document ends after a key.
 use Rattle.std.proofs.Common.{refl}
 use Rattle.gml_text.specs.Reader.{frames}
-use Rattle.gml_text.specs.Reading.{behind}
+use Rattle.gml_text.specs.Reading.{following}
 use Rattle.gml_text.specs.Standing.{gap_state}
 use Rattle.gml_text.specs.View.{pairs}
 use Rattle.gml_text.proofs.Standing.{unfinished_there}
@@ -9,5 +9,5 @@ use Rattle.gml_text.proofs.reader.Reader.value.Goals as goal
 
 pub returns-then-at-bytes-clause-goes : goal.returns-then-at-bytes-clause-goes
 returns-then-at-bytes-clause-goes c =
-    unfinished_there c.args.bytes.now c.args.at (gap_state (behind c.args.key.items) (frames c.args.self.now.lists.items) (pairs c.args.self.now.pairs.items))
+    unfinished_there c.args.bytes.now c.args.at (gap_state (following c.args.key.items) (frames c.args.self.now.lists.items) (pairs c.args.self.now.pairs.items))
     c.if-at-bytes.true c.requires.stands refl

@@ -5,7 +5,7 @@ use Rattle.proof_search.specs.declared.labels.Labels.{Labels}
 use Rattle.proof_search.specs.Search.{IsReachedAt, IsSearching, cost_in, label_at}
 use Rattle.proof_search.proofs.Offers.Offering.{falls_both}
 use Rattle.proof_search.proofs.Offers.Scopes.{coming_by, small_label}
-use Rattle.proof_search.proofs.Searching.Taking.{closed_searching, closing_falls, handed_searching, none_open}
+use Rattle.proof_search.proofs.Searching.Taking.{closed_searching, closing_falls, propagated_searching, none_open}
 use Rattle.proof_search.proofs.labels.Labels.take.Goals as goal
 use Rattle.proof_search.proofs.labels.Labels.take.Goals.{In-Open, In_ok-put}
 
@@ -35,24 +35,24 @@ closed_one c =
     (sym c.label.ensures ∙ c.in-Open.is)
     c.in_ok-put.ensures.ok c.in_ok-put.ensures.marked refl
 
-pub hand_on-requires-clause-searching : goal.hand_on-requires-clause-searching
-hand_on-requires-clause-searching c = (Some c.args.place.now, closed_one (goal.at.hand_on-requires-clause-searching c).In_ok-put)
+pub propagate-requires-clause-searching : goal.propagate-requires-clause-searching
+propagate-requires-clause-searching c = (Some c.args.place.now, closed_one (goal.at.propagate-requires-clause-searching c).In_ok-put)
 
-pub hand_on-requires-clause-coming : goal.hand_on-requires-clause-coming
-hand_on-requires-clause-coming c =
-    coming_by c.args.problem.now c.args.scope c.args.place.now c.in-Open.known.cost (reached (goal.at.hand_on-requires-clause-coming c).In-Open)
+pub propagate-requires-clause-coming : goal.propagate-requires-clause-coming
+propagate-requires-clause-coming c =
+    coming_by c.args.problem.now c.args.scope c.args.place.now c.in-Open.known.cost (reached (goal.at.propagate-requires-clause-coming c).In-Open)
 
-pub hand_on-requires-clause-small : goal.hand_on-requires-clause-small
-hand_on-requires-clause-small c =
+pub propagate-requires-clause-small : goal.propagate-requires-clause-small
+propagate-requires-clause-small c =
     small_label c.args.problem.now c.args.scope c.args.place.now c.requires.ready c.in-Open.known.cost
-    (reached (goal.at.hand_on-requires-clause-small c).In-Open)
+    (reached (goal.at.propagate-requires-clause-small c).In-Open)
 
 pub returns-clause-searching : goal.returns-clause-searching
 returns-clause-searching c =
     let x = c.args.place.now in
     let put = (goal.at.returns-clause-searching c).In_ok-put in
-    handed_searching c.args.problem.now c.args.scope (closed put) c.hand_on.new.self x c.in-Open.known c.in_ok-put.ensures.ok.changed
-    (c.in_ok-hand_on.ensures.searching (Some x) (closed_one put)) c.in_ok-hand_on.ensures.spreads c.in_ok-hand_on.ensures.handed
+    propagated_searching c.args.problem.now c.args.scope (closed put) c.propagate.new.self x c.in-Open.known c.in_ok-put.ensures.ok.changed
+    (c.in_ok-propagate.ensures.searching (Some x) (closed_one put)) c.in_ok-propagate.ensures.spreads c.in_ok-propagate.ensures.propagated
 
 pub returns-clause-falls : goal.returns-clause-falls
 returns-clause-falls c =
@@ -60,7 +60,7 @@ returns-clause-falls c =
     let s = c.args.scope in
     let old = c.args.self.now in
     let mid = closed (goal.at.returns-clause-falls c).In_ok-put in
-    falls_both s old mid c.hand_on.new.self
+    falls_both s old mid c.propagate.new.self
     (closing_falls c.args.problem.now s old mid x c.in-Open.known c.requires.searching (sym c.label.ensures ∙ c.in-Open.is) c.in_ok-put.ensures.ok
     c.in_ok-put.ensures.marked refl)
-    c.in_ok-hand_on.ensures.spreads.falls
+    c.in_ok-propagate.ensures.spreads.falls

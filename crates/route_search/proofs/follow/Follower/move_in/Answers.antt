@@ -69,7 +69,7 @@ returns-then-not-makes-clause-none c none m is =
     let steps : m.steps ≡ c.distance.result = only.0 in
     let fits : with_stretch p.task.now.penalty s.place.heading (record { from = c.point-from.result; dir = c.args.dir; steps = c.distance.result }) c.in_ok-ahead.ahead ≡ s.ahead =
     (λ i. with_stretch p.task.now.penalty s.place.heading (record { from = sym begin i; dir = c.args.dir; steps = sym steps i }) (ahead i)) ∙ is.fits in
-    let told = c.makes.ensures.1 fits in
+    let made = c.makes.ensures.1 fits in
     let test = c.if-not-makes.true in
     absurd (cc)
 

@@ -1,4 +1,4 @@
--- The hull of the row tells whether one comes to an extent.
+-- The hull of the row shows whether one who goes on reaches an extent.
 use Rattle.std.proofs.Common.{◌≡◌, ◌↔◌, ◌≤ℤ◌, All, sym, subst, w64, to_z, of_z}
 use Rattle.std.specs.Prelude.{Any}
 use Rattle.std.proofs.lemmas.Int.{to_z-of_z}

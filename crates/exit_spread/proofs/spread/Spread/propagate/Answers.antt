@@ -7,11 +7,11 @@ use Rattle.plane_geom.specs.declared.point.Point.{Point}
 use Rattle.plane_geom.specs.Point.{opposite}
 use Rattle.move_model.specs.Places.{ComesTo}
 use Rattle.line_lists.specs.Lists.{number_of}
-use Rattle.exit_spread.specs.Handing.{IsMet, IsMetAt, IsTurnOffered, IsTurnedOff, crosswise}
+use Rattle.exit_spread.specs.Propagating.{IsMet, IsMetAt, IsTurnOffered, IsTurnedOff, crosswise}
 use Rattle.exit_spread.specs.Searching.{most_stops}
 use Rattle.exit_spread.proofs.Holding.Runs.{two_across}
 use Rattle.exit_spread.proofs.Spreading.Adding.{adds_both, adds_more, met_on, off_on}
-use Rattle.exit_spread.proofs.spread.Spread.hand_on.Goals as goal
+use Rattle.exit_spread.proofs.spread.Spread.propagate.Goals as goal
 
 -- the checkpoint that a walk passes at the point is there
 passed_here : (via : _) (j k : ℕ) (q : Point) → j < k → ComesTo via j q k → Contains via q
@@ -38,8 +38,8 @@ returns-clause-adds c =
     c.in_ok-turn_off.ensures.adds)
     c.in_ok-turn_off-2.ensures.adds)
 
-pub returns-clause-handed : goal.returns-clause-handed
-returns-clause-handed c = λ k q b.
+pub returns-clause-propagated : goal.returns-clause-propagated
+returns-clause-propagated c = λ k q b.
     let p = c.args.problem.now in
     let n = number_of c.args.lists.now in
     let r = c.args.run.now in

@@ -1,4 +1,4 @@
--- What calls of spreading need and give while an exit is handed on. No public clause cites this module.
+-- What calls of spreading need and give while an exit is propagated. No public clause cites this module.
 use Rattle.std.specs.Prelude.{ℕ, ◌≡◌, ◌+◌, ◌*◌, ◌<◌, ◌≤◌, ◌≤ℤ◌, ℤ, pos, ◌-ℤ◌, unsigned_abs, length, Contains, All, List, None, Some}
 use Rattle.std.specs.BinaryHeap.{heap_items}
 use Rattle.std.specs.declared.cmp.Reverse.{Reverse}

@@ -4,11 +4,11 @@ use Rattle.line_arena.proofs.Arenas.ArenaLaws.{one_point}
 use Rattle.route_search.proofs.Moving.Directions.{directions}
 use Rattle.proof_search.specs.Scopes.{ComesBy}
 use Rattle.proof_search.specs.Search.{OnFloors, place_at}
-use Rattle.proof_search.proofs.Offers.Handing.{all_handed, handing_begins, handing_more}
-use Rattle.proof_search.proofs.labels.Labels.hand_on.Goals as goal
+use Rattle.proof_search.proofs.Offers.Propagating.{all_propagated, propagating_begins, propagating_more}
+use Rattle.proof_search.proofs.labels.Labels.propagate.Goals as goal
 
 pub loop-dir-init : goal.loop-dir-init
-loop-dir-init c = handing_begins c.args.problem.now c.args.scope c.args.self.now c.args.place.now c.point-at.result c.args.cost directions
+loop-dir-init c = propagating_begins c.args.problem.now c.args.scope c.args.self.now c.args.place.now c.point-at.result c.args.cost directions
 
 pub offer_move-requires-clause-searching : goal.offer_move-requires-clause-searching
 offer_move-requires-clause-searching c =
@@ -25,13 +25,13 @@ offer_move-requires-clause-comes c =
 
 pub loop-dir-preserved : goal.loop-dir-preserved
 loop-dir-preserved c =
-    handing_more c.args.problem.now c.args.scope c.args.self.now c.loop-dir.self c.offer_move.new.self c.args.place.now c.point-at.result c.args.cost
+    propagating_more c.args.problem.now c.args.scope c.args.self.now c.loop-dir.self c.offer_move.new.self c.args.place.now c.point-at.result c.args.cost
     directions c.loop-dir.dir-index
     c.loop-dir.invariant c.in_ok-offer_move.ensures.searching c.in_ok-offer_move.ensures.spreads c.in_ok-offer_move.ensures.lighter
-    c.in_ok-offer_move.ensures.handed
+    c.in_ok-offer_move.ensures.propagated
 
-pub returns-clause-handed : goal.returns-clause-handed
-returns-clause-handed c =
-    all_handed c.args.problem.now c.requires.ready c.args.scope c.args.self.now c.loop-dir.self c.args.place.now c.point-at.result c.args.cost
+pub returns-clause-propagated : goal.returns-clause-propagated
+returns-clause-propagated c =
+    all_propagated c.args.problem.now c.requires.ready c.args.scope c.args.self.now c.loop-dir.self c.args.place.now c.point-at.result c.args.cost
     c.loop-dir.dir-index
     c.point-at.ensures c.loop-dir.invariant c.loop-dir-test.false

@@ -1,4 +1,4 @@
--- What a walk that came to a place was offered on to, direction by direction.
+-- What a walk that reached a place was offered on to, direction by direction.
 use Rattle.std.proofs.Common.{◌≡◌, ℕ, ◌+◌, ◌*◌, ◌<◌, ◌≤◌, Option, None, List, ◌∷◌, get_or, length, refl, subst, inl, inr, arith}
 use Rattle.std.proofs.lemmas.Bool.{cases_lt}
 use Rattle.plane_geom.specs.declared.point.Point.{Point}
@@ -19,10 +19,10 @@ use Rattle.proof_search.specs.declared.labels.Labels.{Labels}
 use Rattle.proof_search.specs.declared.scope.Scope.{Scope}
 use Rattle.proof_search.specs.declared.scope.Scope.TheVariants.{Below, Every}
 use Rattle.proof_search.specs.Scopes.{ComesBy}
-use Rattle.proof_search.specs.Search.{IsComing, IsHandedIn, IsHandedOn, IsSearching, OnFloors, Spreads, place_at, weight}
+use Rattle.proof_search.specs.Search.{IsComing, IsPropagatedIn, IsPropagated, IsSearching, OnFloors, Spreads, place_at, weight}
 use Rattle.proof_search.proofs.Offers.Offering.{in_still, spreads_both, spreads_none}
 
--- a walk that came to the place goes on by the move
+-- a walk that reached the place goes on by the move
 moved_by : (s : Scope) (floor : Floor) (task : Task) (stage : ℕ) (at : Point) (h d : Dir) (cost : ℕ) (n : Next) → IsNext floor task stage at d n
     → ComesBy s floor task (record { stage = stage; at = at; heading = h }) cost
     → ComesBy s floor task (place_of n) (cost + (n.steps + task.penalty * turn h d))
@@ -48,39 +48,39 @@ moved p s x at cost d n comes next there stage = record {
 }
 
 -- the moves in the first of the directions were offered
-pub record Handing (p : Problem) (s : Scope) (old now : Labels) (x : Place) (at : Point) (cost : ℕ) (dirs : List Dir) (count : ℕ) : Type 0 where
+pub record Propagating (p : Problem) (s : Scope) (old now : Labels) (x : Place) (at : Point) (cost : ℕ) (dirs : List Dir) (count : ℕ) : Type 0 where
   pub searching : (but : Option Place) → IsSearching p s old None but → IsSearching p s now None but
   pub spreads : Spreads s old now
   pub lighter : weight s now ≤ weight s old
-  pub handed : (k : ℕ) → k < count → IsHandedIn p s now x at cost (get_or dirs k East)
+  pub propagated : (k : ℕ) → k < count → IsPropagatedIn p s now x at cost (get_or dirs k East)
 
-pub handing_begins : (p : Problem) (s : Scope) (l : Labels) (x : Place) (at : Point) (cost : ℕ) (dirs : List Dir) → Handing p s l l x at cost dirs 0
-handing_begins p s l x at cost dirs = record {
+pub propagating_begins : (p : Problem) (s : Scope) (l : Labels) (x : Place) (at : Point) (cost : ℕ) (dirs : List Dir) → Propagating p s l l x at cost dirs 0
+propagating_begins p s l x at cost dirs = record {
   searching = λ but h. h;
   spreads = spreads_none s l;
   lighter = omega arith;
-  handed = λ k less. absurd (omega (arith, less));
+  propagated = λ k less. absurd (omega (arith, less));
 }
 
-pub handing_more : (p : Problem) (s : Scope) (old mid new : Labels) (x : Place) (at : Point) (cost : ℕ) (dirs : List Dir) (k : ℕ)
-    → Handing p s old mid x at cost dirs k
+pub propagating_more : (p : Problem) (s : Scope) (old mid new : Labels) (x : Place) (at : Point) (cost : ℕ) (dirs : List Dir) (k : ℕ)
+    → Propagating p s old mid x at cost dirs k
     → ((but : Option Place) → IsSearching p s mid None but → IsSearching p s new None but) → Spreads s mid new → weight s new ≤ weight s mid
-    → IsHandedIn p s new x at cost (get_or dirs k East) → Handing p s old new x at cost dirs (k + 1)
-handing_more p s old mid new x at cost dirs k h searching spreads lighter handed = record {
+    → IsPropagatedIn p s new x at cost (get_or dirs k East) → Propagating p s old new x at cost dirs (k + 1)
+propagating_more p s old mid new x at cost dirs k h searching spreads lighter propagated = record {
   searching = λ but was. searching but (h.searching but was);
   spreads = spreads_both s old mid new h.spreads spreads;
   lighter = omega (arith, lighter, h.lighter);
-  handed = λ j less. elim (cases_lt j k) as (λ _. IsHandedIn p s new x at cost (get_or dirs j East)) [
-    | inl before ↦ in_still p s mid new spreads.falls x at cost (get_or dirs j East) (h.handed j before)
+  propagated = λ j less. elim (cases_lt j k) as (λ _. IsPropagatedIn p s new x at cost (get_or dirs j East)) [
+    | inl before ↦ in_still p s mid new spreads.falls x at cost (get_or dirs j East) (h.propagated j before)
     | inr upto ↦ (
         let same : k ≡ j = omega (arith, upto, less) in
-        subst (λ (i : ℕ). IsHandedIn p s new x at cost (get_or dirs i East)) same handed)
+        subst (λ (i : ℕ). IsPropagatedIn p s new x at cost (get_or dirs i East)) same propagated)
   ];
 }
 
 -- in all directions, from wherever the place stands
-pub all_handed : (p : Problem) → IsReady p → (s : Scope) (old now : Labels) (x : Place) (at : Point) (cost count : ℕ) → StandsAt p.arena.now x.crossing at
-    → Handing p s old now x at cost directions count → 4 ≤ count → IsHandedOn p s now x cost
-all_handed p ready s old now x at cost count here h all q there d =
+pub all_propagated : (p : Problem) → IsReady p → (s : Scope) (old now : Labels) (x : Place) (at : Point) (cost count : ℕ) → StandsAt p.arena.now x.crossing at
+    → Propagating p s old now x at cost directions count → 4 ≤ count → IsPropagated p s now x cost
+all_propagated p ready s old now x at cost count here h all q there d =
     let same : at ≡ q = one_point p.arena.now x.crossing at q ready.arena here there in
-    subst (λ (z : Point). IsHandedIn p s now x z cost d) same (each (λ e. IsHandedIn p s now x at cost e) count h.handed all d)
+    subst (λ (z : Point). IsPropagatedIn p s now x z cost d) same (each (λ e. IsPropagatedIn p s now x at cost e) count h.propagated all d)

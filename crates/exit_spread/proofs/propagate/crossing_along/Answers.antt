@@ -4,7 +4,7 @@ use Rattle.std.proofs.lemmas.Int.{to_z-of_z}
 use Rattle.std.proofs.lemmas.List.{take_all}
 use Rattle.std.proofs.lemmas.List.Elements.{All-more}
 use Rattle.line_lists.specs.declared.stop.Stop.{Stop}
-use Rattle.exit_spread.proofs.hand_on.crossing_along.Goals as goal
+use Rattle.exit_spread.proofs.propagate.crossing_along.Goals as goal
 
 pub loop-stop-preserved : goal.loop-stop-preserved
 loop-stop-preserved c =

@@ -1,4 +1,4 @@
-//! Hands on an exit that a line keeps, to all places behind it.
+//! Propagates an exit that a line keeps to all places behind it.
 ghost use Rattle.std.specs.Prelude.{◌≡◌, ◌≢◌, ◌+◌, ◌*◌, ◌<◌, ◌≤◌, ◌≤ℤ◌, ◌<ℤ◌, ◌^◌, ℕ, None, Some, All, Any, Contains, IfSome, IsNone, IsTrue, OnOk, length};
 ghost use Rattle.line_lists.specs.Lists.{AreListsOf, number_of, stops_of};
 ghost use Rattle.move_model.specs.Ahead.{with_stretch};
@@ -9,8 +9,8 @@ ghost use Rattle.plane_geom.specs.declared.point.Point.{Point as PointOf};
 ghost use Rattle.search_labels.specs.Problems.{IsReady};
 ghost use Rattle.walk_model.specs.Cost.{turn};
 ghost use Rattle.exit_rows.specs.Exits.{CountsAt, IsSmallKept, ahead_at};
-ghost use Rattle.exit_spread.specs.Handing.{Adds, AreOf, IsBehind, IsFurtherAhead, IsMetAt, IsRun, IsSound, IsTurnedAt, IsTurnedOff, reach_along};
-ghost use Rattle.exit_spread.specs.Offers.{IsHandedAt};
+ghost use Rattle.exit_spread.specs.Propagating.{Adds, AreOf, IsBehind, IsFurtherAhead, IsMetAt, IsRun, IsSound, IsTurnedAt, IsTurnedOff, reach_along};
+ghost use Rattle.exit_spread.specs.Offers.{IsPropagatedAt};
 ghost use Rattle.exit_spread.specs.Searching.{most_stops};
 
 use crate::held::{held_from, may_begin};
@@ -38,7 +38,7 @@ fn crossing_along(stops: &[Stop], along: i64) -> Option<CrossId>
     None
 }
 
-/// Whether a walk that comes to the point may pass checkpoints there and then has passed `stage`,
+/// Whether a walk that reaches the point may pass checkpoints there and then has passed `stage`,
 /// where the next one is not there.
 fn rises_to(via: &[Point], stage: u32, at: Point) -> bool
     ensures { (j : ℕ) → j < stage → ComesTo via.now j at stage → IsTrue result }
@@ -276,7 +276,7 @@ impl Spread {
         Ok(())
     }
 
-    /// Offers to turn into the run, wherever it is held for a walk that comes to it with the
+    /// Offers to turn into the run, wherever it is held for a walk that reaches it with the
     /// heading `before`.
     fn turn_off(
         &mut self,
@@ -310,8 +310,8 @@ impl Spread {
         Ok(())
     }
 
-    /// Hands on the exit of the run.
-    pub fn hand_on(
+    /// Propagates the exit of the run.
+    pub fn propagate(
         &mut self,
         problem: &Problem<'_>,
         lists: &LineLists,
@@ -324,8 +324,8 @@ impl Spread {
         requires sound { IsSound problem.now (number_of lists.now) self.old }
         ensures rows { self.new.rows ≡ self.old.rows }
         ensures adds { OnOk result (Adds problem.now (number_of lists.now) self.old self.new (2 * most_stops lists.now + 8)) }
-        ensures handed { OnOk result ((c : ℕ) (q : PointOf) → IsBehind problem.now (number_of lists.now) run.now c q →
-            IsHandedAt problem.now (number_of lists.now) self.new None run.now.stage run.now.heading run.now.kept c q) }
+        ensures propagated { OnOk result ((c : ℕ) (q : PointOf) → IsBehind problem.now (number_of lists.now) run.now c q →
+            IsPropagatedAt problem.now (number_of lists.now) self.new None run.now.stage run.now.heading run.now.kept c q) }
     {
         let before = crosswise(run.heading);
         self.meet_entries(problem, lists, run);
