@@ -30,9 +30,9 @@ pub extern "C" fn reroute_open(alloc: Global, handle: &mut Handle) -> Fault
     ensures there { result.code ≡ 0 → IsSome handle.new.drawing }
     ensures memory { result.code ≡ 99 → IsNone handle.new.drawing }
 {
-    match handle.replace(None) {
+    match handle.take() {
         Some(drawing) => {
-            handle.replace(Some(drawing));
+            handle.put(drawing);
             Fault::of(Err(SessionFault::AlreadyOpen))
         }
         None => open_in(alloc, handle),
@@ -49,7 +49,7 @@ fn open_in(alloc: Global, handle: &mut Handle) -> Fault
 {
     match Drawing::new(alloc) {
         Ok(drawing) => {
-            handle.replace(Some(drawing));
+            handle.put(drawing);
             Fault::none()
         }
         Err(AllocError) => Fault::memory(),
@@ -61,7 +61,7 @@ fn open_in(alloc: Global, handle: &mut Handle) -> Fault
 pub extern "C" fn reroute_close(handle: &mut Handle)
     ensures { handle.new.drawing ≡ None }
 {
-    drop(handle.replace(None));
+    drop(handle.take());
 }
 
 /// Calls the session as a command says.
@@ -72,11 +72,11 @@ pub(crate) fn call(handle: &mut Handle, command: &Command) -> Fault
     ensures open { IsSome handle.old.drawing → IsSome handle.new.drawing }
     ensures call { IfOpen handle.old.drawing handle.new.drawing (IsAnswered command.now result) }
 {
-    let Some(mut drawing) = handle.replace(None) else {
+    let Some(mut drawing) = handle.take() else {
         return Fault::closed();
     };
     let answer = drawing.call(command);
-    handle.replace(Some(drawing));
+    handle.put(drawing);
     Fault::of(answer)
 }
 

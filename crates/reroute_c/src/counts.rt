@@ -12,11 +12,11 @@ pub extern "C" fn reroute_box_count(handle: &mut Handle) -> usize
     ensures count { IfSome handle.old.drawing (λ s. result ≡ length s.session.world.present.nodes) }
     ensures kept { handle.new.drawing ≡ handle.old.drawing }
 {
-    let Some(drawing) = handle.replace(None) else {
+    let Some(drawing) = handle.take() else {
         return 0;
     };
     let count = drawing.editor().session.scene().nodes().len();
-    handle.replace(Some(drawing));
+    handle.put(drawing);
     count
 }
 
@@ -35,10 +35,10 @@ pub extern "C" fn reroute_connector_count(handle: &mut Handle) -> usize
     ensures count { IfSome handle.old.drawing (λ s. result ≡ length (connectors s.session.world.present)) }
     ensures kept { handle.new.drawing ≡ handle.old.drawing }
 {
-    let Some(drawing) = handle.replace(None) else {
+    let Some(drawing) = handle.take() else {
         return 0;
     };
     let count = connector_count(&drawing);
-    handle.replace(Some(drawing));
+    handle.put(drawing);
     count
 }

@@ -133,11 +133,11 @@ fn roll_back(handle: &mut Handle) -> Fault
     ensures open { IsSome handle.old.drawing → IsSome handle.new.drawing }
     ensures rolled_back { IfOpen handle.old.drawing handle.new.drawing (IsRolledBack result) }
 {
-    let Some(mut drawing) = handle.replace(None) else {
+    let Some(mut drawing) = handle.take() else {
         return Fault::closed();
     };
     drawing.roll_back();
-    handle.replace(Some(drawing));
+    handle.put(drawing);
     Fault::syntax()
 }
 
@@ -203,11 +203,11 @@ pub extern "C" fn reroute_next(handle: &mut Handle) -> u32
     ensures next { IfSome handle.old.drawing (λ s. result ≡ next_edge s.session.world) }
     ensures kept { handle.new.drawing ≡ handle.old.drawing }
 {
-    let Some(drawing) = handle.replace(None) else {
+    let Some(drawing) = handle.take() else {
         return 0;
     };
     let next = next_edge(&drawing);
-    handle.replace(Some(drawing));
+    handle.put(drawing);
     next
 }
 

@@ -22,9 +22,9 @@ pub extern "C" fn reroute_open_gml(alloc: Global, handle: &mut Handle, text: &[u
     ensures fault { IsNone handle.old.drawing → result.code ≢ 0 → IsUnopened text.now result }
     ensures closed { IsNone handle.old.drawing → result.code ≢ 0 → IsNone handle.new.drawing }
 {
-    match handle.replace(None) {
+    match handle.take() {
         Some(drawing) => {
-            handle.replace(Some(drawing));
+            handle.put(drawing);
             Fault::of(Err(SessionFault::AlreadyOpen))
         }
         None => open_text(alloc, handle, text),
@@ -40,7 +40,7 @@ fn open_text(alloc: Global, handle: &mut Handle, text: &[u8]) -> Fault
 {
     match Drawing::open(alloc, text) {
         Ok(drawing) => {
-            handle.replace(Some(drawing));
+            handle.put(drawing);
             Fault::none()
         }
         Err(fault) => of_open(fault),
@@ -72,11 +72,11 @@ pub extern "C" fn reroute_write_gml(
     ensures kept_length { result.code ≢ 0 → length.new ≡ length.old }
     ensures kept { handle.new.drawing ≡ handle.old.drawing }
 {
-    let Some(drawing) = handle.replace(None) else {
+    let Some(drawing) = handle.take() else {
         return Fault::closed();
     };
     let answer = drawing.text(alloc);
-    handle.replace(Some(drawing));
+    handle.put(drawing);
     match answer {
         Ok(text) => {
             write_front(&text, out);
@@ -102,11 +102,11 @@ pub extern "C" fn reroute_play(
     ensures open { IsSome handle.old.drawing → IsSome handle.new.drawing }
     ensures played { IfOpen handle.old.drawing handle.new.drawing (ReportsScript (commands script.now) result line.new) }
 {
-    let Some(mut drawing) = handle.replace(None) else {
+    let Some(mut drawing) = handle.take() else {
         return Fault::closed();
     };
     let answer = drawing.play(alloc, script);
-    handle.replace(Some(drawing));
+    handle.put(drawing);
     match answer {
         Ok(None) => {
             *line = 0;

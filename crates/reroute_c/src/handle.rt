@@ -1,5 +1,5 @@
 //! The handle: the place of a session in its caller's room.
-ghost use Rattle.std.specs.Prelude.{◌≡◌, None, Option};
+ghost use Rattle.std.specs.Prelude.{◌≡◌, None, Option, Some};
 ghost use Rattle.std.specs.Borrow.{sem};
 ghost use Rattle.editor_files.specs.Drawing.{DrawingState};
 ghost use Rattle.reroute_c.specs.Owned.{Held, owned, room};
@@ -20,7 +20,7 @@ impl Model for Handle {
 
 impl Handle {
     /// What was there, with this in its place.
-    pub(crate) fn replace(&mut self, drawing: Option<Drawing>) -> Option<Drawing>
+    fn replace(&mut self, drawing: Option<Drawing>) -> Option<Drawing>
         ensures was { result ≡ self.old.drawing }
         ensures now { self.new.drawing ≡ drawing }
     {
@@ -30,6 +30,21 @@ impl Handle {
             at.write(drawing);
             old
         }
+    }
+
+    /// What was there, with nothing in its place.
+    pub(crate) fn take(&mut self) -> Option<Drawing>
+        ensures was { result ≡ self.old.drawing }
+        ensures now { self.new.drawing ≡ None }
+    {
+        self.replace(None)
+    }
+
+    /// Puts a session into the place. What was there is dropped.
+    pub(crate) fn put(&mut self, drawing: Drawing)
+        ensures { self.new.drawing ≡ Some drawing }
+    {
+        drop(self.replace(Some(drawing)));
     }
 }
 

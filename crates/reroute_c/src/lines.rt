@@ -46,12 +46,12 @@ pub extern "C" fn reroute_lines(handle: &mut Handle, count: &mut usize) -> Fault
     ensures kept { result.code ≢ 0 → count.new ≡ count.old }
     ensures memory { IsSome handle.old.drawing → result.code ≢ 0 → result ≡ memory_fault }
 {
-    let Some(mut drawing) = handle.replace(None) else {
+    let Some(mut drawing) = handle.take() else {
         return Fault::closed();
     };
     let answer = drawing.update_lines();
     let there = drawing.editor().lines.len();
-    handle.replace(Some(drawing));
+    handle.put(drawing);
     match answer {
         Ok(()) => {
             *count = there;
@@ -78,14 +78,14 @@ pub extern "C" fn reroute_preview(alloc: Global, handle: &mut Handle, count: &mu
     ensures refused { result.code ≢ 0 → IfOpen handle.old.drawing handle.new.drawing Keeps }
     ensures kept { result.code ≢ 0 → count.new ≡ count.old }
 {
-    let Some(mut drawing) = handle.replace(None) else {
+    let Some(mut drawing) = handle.take() else {
         return Fault::closed();
     };
     let answer = drawing.update_proposed(alloc);
     if answer.is_ok() {
         *count = drawing.editor().lines.len();
     }
-    handle.replace(Some(drawing));
+    handle.put(drawing);
     Fault::of(answer)
 }
 
@@ -115,7 +115,7 @@ pub extern "C" fn reroute_line(handle: &mut Handle, place: usize) -> Line
     ensures line { IfSome handle.old.drawing (λ s. result ≡ line_at s place) }
     ensures kept { handle.new.drawing ≡ handle.old.drawing }
 {
-    let Some(drawing) = handle.replace(None) else {
+    let Some(drawing) = handle.take() else {
         return Line {
             connector: 0,
             corners: 0,
@@ -123,7 +123,7 @@ pub extern "C" fn reroute_line(handle: &mut Handle, place: usize) -> Line
         };
     };
     let line = line_of(&drawing, place);
-    handle.replace(Some(drawing));
+    handle.put(drawing);
     line
 }
 
@@ -155,11 +155,11 @@ pub extern "C" fn reroute_corner(
     ensures corner { IfSome handle.old.drawing (λ s. IsWritten (corner_at s place at) result corner.old corner.new) }
     ensures kept { handle.new.drawing ≡ handle.old.drawing }
 {
-    let Some(drawing) = handle.replace(None) else {
+    let Some(drawing) = handle.take() else {
         return false;
     };
     let there = write_corner(&drawing, place, at, corner);
-    handle.replace(Some(drawing));
+    handle.put(drawing);
     there
 }
 
@@ -185,11 +185,11 @@ pub extern "C" fn reroute_cost(handle: &mut Handle, connector: u32, cost: &mut u
     ensures cost { IfSome handle.old.drawing (λ s. IsCost (cost_of (answer_of s.session.book connector)) result cost.old cost.new) }
     ensures kept { handle.new.drawing ≡ handle.old.drawing }
 {
-    let Some(drawing) = handle.replace(None) else {
+    let Some(drawing) = handle.take() else {
         return false;
     };
     let there = write_cost(&drawing, connector, cost);
-    handle.replace(Some(drawing));
+    handle.put(drawing);
     there
 }
 
@@ -200,10 +200,10 @@ pub extern "C" fn reroute_searched(handle: &mut Handle) -> u64
     ensures searched { IfSome handle.old.drawing (λ s. result ≡ s.session.searched) }
     ensures kept { handle.new.drawing ≡ handle.old.drawing }
 {
-    let Some(drawing) = handle.replace(None) else {
+    let Some(drawing) = handle.take() else {
         return 0;
     };
     let searched = drawing.editor().session.searched();
-    handle.replace(Some(drawing));
+    handle.put(drawing);
     searched
 }
