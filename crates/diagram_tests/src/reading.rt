@@ -531,7 +531,7 @@ fn length_in(
 
 /// The first row whose line has another length.
 fn first_wrong_line(alloc: Global) -> Option<&'static str> {
-    for (graphics, length) in LINES {
+    for &(graphics, length) in &LINES {
         if length_in(alloc, LINE_FRONT, graphics, 1, LINE_BACK) != length {
             return Some(graphics);
         }

@@ -447,7 +447,7 @@ fn is_routed(alloc: Global, text: &str, want: &str) -> bool {
 
 /// The first row whose text is different with its route.
 fn first_unrouted(alloc: Global) -> Option<&'static str> {
-    for (text, want) in ROUTES {
+    for &(text, want) in &ROUTES {
         if !is_routed(alloc, text, want) {
             return Some(text);
         }

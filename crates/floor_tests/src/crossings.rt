@@ -252,7 +252,7 @@ fn walks_line(
 /// Whether every line of the grid is walked along as expected, in both directions.
 fn stands(alloc: Global, arena: &LineArena, half: bool) -> Result<bool, AllocError> {
     for at in 0..SIDE {
-        for dir in [Dir::East, Dir::South, Dir::West, Dir::North] {
+        for &dir in &[Dir::East, Dir::South, Dir::West, Dir::North] {
             if !walks_line(alloc, arena, at, dir, half)? {
                 return Ok(false);
             }
@@ -296,7 +296,7 @@ fn toggle_all(arena: &mut LineArena, step: u16) -> Result<(), AllocError> {
 /// Whether the grid is as expected each time: filled, halved and filled again.
 fn stands_each_time(alloc: Global, arena: &mut LineArena, step: u16) -> Result<bool, AllocError> {
     put_grid(arena)?;
-    for half in [false, true, false] {
+    for &half in &[false, true, false] {
         toggle_all(arena, step)?;
         if !stands(alloc, arena, half)? || !finds_just_these(arena, half) {
             return Ok(false);
@@ -314,7 +314,7 @@ fn written(alloc: Global, step: u16) -> Result<Option<u64>, AllocError> {
 
 #[test]
 fn walks_along_every_line(rt: HostRuntime) -> Result<(), Fail> {
-    for step in [1, 899, 7] {
+    for &step in &[1, 899, 7] {
         assert_eq!(rt;
             written(rt.alloc(), step)?,
             Some(60 + 900 + 450),

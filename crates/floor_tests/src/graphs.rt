@@ -42,7 +42,7 @@ const COUNTED: [Counted; 6] = [
 
 #[test]
 fn counts_lines_and_crossings(rt: HostRuntime) -> Result<(), Fail> {
-    for (rects, anchors, want) in COUNTED {
+    for &(rects, anchors, want) in &COUNTED {
         assert_eq!(rt; size(rt.alloc(), rects, anchors)?, want);
     }
     Ok(())

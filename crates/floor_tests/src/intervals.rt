@@ -109,7 +109,7 @@ fn keeps_in_order(alloc: Global, step: u16) -> Result<bool, AllocError> {
 
 #[test]
 fn keeps_a_thousand_spans(rt: HostRuntime) -> Result<(), Fail> {
-    for step in [1, 999, 7] {
+    for &step in &[1, 999, 7] {
         assert!(rt; keeps_in_order(rt.alloc(), step)?, "step {step}");
     }
     Ok(())

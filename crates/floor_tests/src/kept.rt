@@ -149,7 +149,7 @@ fn push_lines_at(
 fn push_each_line(alloc: Global, floor: &Floor, lines: &mut Vec<Line>) -> Result<(), AllocError>
     requires { IsFloor floor.now }
 {
-    for way in [Way::Vertical, Way::Horizontal] {
+    for &way in &[Way::Vertical, Way::Horizontal] {
         for at in -8..48i16 {
             push_lines_at(alloc, floor, way, at, lines)?;
         }
@@ -227,7 +227,7 @@ const PLACES: [Sides; 10] = [
 fn are_among_all(alloc: Global, floor: &Floor, all: &[Line]) -> Result<bool, AllocError>
     requires { IsFloor floor.now }
 {
-    for sides in PLACES {
+    for &sides in &PLACES {
         if !is_among_all(alloc, floor, all, &rect_of(sides))? {
             return Ok(false);
         }

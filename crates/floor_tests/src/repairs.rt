@@ -84,7 +84,7 @@ const TURNED: [Turned; 6] = [
 
 #[test]
 fn writes_what_is_new(rt: HostRuntime) -> Result<(), Fail> {
-    for (old, new, want) in TURNED {
+    for &(old, new, want) in &TURNED {
         assert_eq!(rt; turns_between(rt.alloc(), old, new)?, want);
     }
     Ok(())
@@ -238,7 +238,7 @@ const HULLS: [([Shift; 5], Sides); 9] = [
 
 #[test]
 fn finds_lines_near_what_changes(rt: HostRuntime) -> Result<(), Fail> {
-    for (shifts, want) in HULLS {
+    for &(shifts, want) in &HULLS {
         assert_eq!(rt; hull_of_nodes(rt.alloc(), shifts)?, Some(want));
     }
     Ok(())

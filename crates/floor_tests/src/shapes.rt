@@ -29,7 +29,7 @@ fn are_along(way: Way, to: Point) -> bool {
 
 #[test]
 fn leads_from_point_to_point(rt: HostRuntime) {
-    for (dir, to) in AROUND {
+    for &(dir, to) in &AROUND {
         assert!(rt; FROM.distance(to) == 12 && leads(dir, to));
         assert!(rt; FROM.forward(dir, 12) == to);
         assert!(rt; dir.way() == dir.opposite().way() && are_along(dir.way(), to));
@@ -91,7 +91,7 @@ fn has_inside_what_is_on_no_side(rt: HostRuntime) {
         right: 2,
         bottom: 4,
     };
-    for (x, y, want) in [
+    for &(x, y, want) in &[
         (1, 1, true),
         (1, 3, true),
         (0, 1, false),

@@ -1,12 +1,13 @@
-//! The outside of a program: files that are read by name, input line by line, and output.
+//! The outside of a program: files that are read by name, input line by line, output, and arguments.
 //!
 //! Contracts describe the outside through three traits. A `Folder` adds a note of each read, a
 //! `LineSource` has the bytes that are still to be read, and a `Sink` counts its faults; only some
 //! of them expose their bytes. `MemFolder`, `MemLines` and `MemSink` are in memory and expose all of
 //! them. `DiskFolder`, `StdSink` and `ReaderLines` over standard input stand for the real machine,
-//! and are opaque.
+//! and are opaque. `all_arguments` reads those of the program, of which nothing is stated.
 #![tactic(auto)]
 
+mod arguments;
 mod disk_folder;
 mod folder;
 mod line_source;
@@ -18,6 +19,7 @@ mod reader_lines;
 mod sink;
 mod std_sink;
 
+pub use arguments::all_arguments;
 pub use disk_folder::DiskFolder;
 pub use folder::{Folder, FolderFault};
 pub use line_source::{LineRead, LineSource, ReadFailed};

@@ -148,16 +148,25 @@ impl Present {
         }
     }
 
-    /// Replaces the present scene by the other one, and puts its answers into the book.
-    pub(crate) fn exchange(&mut self, other: Scene, changes: &mut Changes)
-        requires { self.old.book ≡ changes.old.here }
+    /// Replaces the present scene by the other one. The book stays.
+    pub(crate) fn replace_scene(&mut self, other: Scene)
         ensures scene { self.new.scene ≡ other }
+        ensures book { self.new.book ≡ self.old.book }
+        ensures graph { self.new.graph ≡ self.old.graph }
+        ensures tally { self.new.tally ≡ self.old.tally }
+    {
+        self.scene = other;
+    }
+
+    /// Exchanges the book's answers with those of the changes. The scene stays.
+    pub(crate) fn exchange(&mut self, changes: &mut Changes)
+        requires { self.old.book ≡ changes.old.here }
+        ensures scene { self.new.scene ≡ self.old.scene }
         ensures book { self.new.book ≡ changes.old.there }
         ensures changes { changes.new ≡ turned changes.old }
         ensures graph { self.new.graph ≡ self.old.graph }
         ensures tally { self.new.tally ≡ self.old.tally }
     {
         self.book.swap(changes);
-        self.scene = other;
     }
 }

@@ -503,7 +503,8 @@ fn exchange_on(log: &mut UndoLog<Changes>, present: &mut Present, txn: Txn, mut 
     ensures tally { present.new.tally ≡ present.old.tally }
 {
     let TxnParts { scene, back, forth } = txn.into_parts();
-    present.exchange(scene, &mut changes);
+    present.replace_scene(scene);
+    present.exchange(&mut changes);
     log.push(Step {
         back,
         forth,
@@ -522,8 +523,9 @@ fn exchange_back(log: &mut UndoLog<Changes>, present: &mut Present, scene: Scene
     ensures graph { present.new.graph ≡ present.old.graph }
     ensures tally { present.new.tally ≡ present.old.tally }
 {
+    present.replace_scene(scene);
     if let Some(step) = log.go_back() {
-        present.exchange(scene, &mut step.changes);
+        present.exchange(&mut step.changes);
     }
 }
 
@@ -538,8 +540,9 @@ fn exchange_forth(log: &mut UndoLog<Changes>, present: &mut Present, scene: Scen
     ensures graph { present.new.graph ≡ present.old.graph }
     ensures tally { present.new.tally ≡ present.old.tally }
 {
+    present.replace_scene(scene);
     if let Some(step) = log.go_forth() {
-        present.exchange(scene, &mut step.changes);
+        present.exchange(&mut step.changes);
     }
 }
 

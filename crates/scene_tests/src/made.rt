@@ -59,7 +59,7 @@ fn places(scene: &Scene) -> [Option<Place>; 4] {
 
 /// The ends of the edges are those of the rows.
 fn has_ends(scene: &Scene) -> bool {
-    for (number, ends) in ENDS {
+    for &(number, ends) in &ENDS {
         if ends_of(scene, number) != Some(ends) {
             return false;
         }

@@ -353,7 +353,7 @@ const ROWS: [Row; 5] = [
 
 #[test]
 fn answers_calls(rt: HostRuntime) {
-    for row in ROWS {
+    for &row in &ROWS {
         let wanted = Outcome {
             wrong: None,
             lines: row.lines,

@@ -255,7 +255,7 @@ fn answers_proposals(rt: HostRuntime) {
         stays: true,
         wrong: 0,
     });
-    for row in ROWS {
+    for &row in &ROWS {
         let reported = reported(&rt, rt.alloc(), row.drawing, &Question::Answers(row));
         assert_eq!(rt; reported, right, "{}", row.name);
     }

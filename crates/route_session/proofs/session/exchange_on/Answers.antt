@@ -20,9 +20,10 @@ went c =
     let t = c.args.txn in
     let old = c.args.present.now in
     let new = c.exchange.new.self in
-    let is : new.scene ≡ t.working = c.exchange.ensures.scene ∙ c.into_parts-scene.ensures.scene in
-    let floor : new.graph.floor ≡ floor_of t.working = ap (λ (d : Drawing). d.floor) c.exchange.ensures.graph ∙ c.requires.floor in
-    let fits : IsFloor new.graph.floor = subst (λ (d : Drawing). IsFloor d.floor) (sym c.exchange.ensures.graph) c.requires.fits in
+    let is : new.scene ≡ t.working = c.exchange.ensures.scene ∙ c.replace_scene.ensures.scene ∙ c.into_parts-scene.ensures.scene in
+    let graph : new.graph ≡ old.graph = c.exchange.ensures.graph ∙ c.replace_scene.ensures.graph in
+    let floor : new.graph.floor ≡ floor_of t.working = ap (λ (d : Drawing). d.floor) graph ∙ c.requires.floor in
+    let fits : IsFloor new.graph.floor = subst (λ (d : Drawing). IsFloor d.floor) (sym graph) c.requires.fits in
     let put : Step Exchange = record { back = t.back; forth = t.forth; changes = turned c.args.changes } in
     let past : c.push.new.self.past ≡ take 100 (put ∷ c.args.log.now.past) =
     c.push.ensures.past ∙ ap (λ (s : Step Exchange). take 100 (s ∷ c.args.log.now.past))

@@ -40,7 +40,7 @@ fn make_row(
 
 #[test]
 fn makes_seeds(rt: HostRuntime) -> Result<(), Fail> {
-    for row in ROWS {
+    for &row in &ROWS {
         make_row(&rt, rt.alloc(), row)?;
     }
     seeds_come_to_one();

@@ -517,7 +517,7 @@ fn row_reported<R: Threads + Sync>(
 
 #[test]
 fn searches_what_may_change(rt: HostRuntime) {
-    for row in ROWS {
+    for &row in &ROWS {
         let (stale, searches) = if row.is_stale { (1, 2) } else { (0, 1) };
         let [before, after] = row.costs;
         let wanted = Outcome {
