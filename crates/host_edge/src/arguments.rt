@@ -22,6 +22,7 @@ fn argument(rt: &impl Env, alloc: Global, number: usize) -> Result<Option<String
             Err(FillError::TooLong) => size = size.saturating_mul(2),
         }
     }
+    // No memory holds an argument that is too long for the last size, of half the address space.
     Err(AllocError)
 }
 

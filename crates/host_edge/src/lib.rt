@@ -4,7 +4,7 @@
 //! `LineSource` has the bytes that are still to be read, and a `Sink` counts its faults; only some
 //! of them expose their bytes. `MemFolder`, `MemLines` and `MemSink` are in memory and expose all of
 //! them. `DiskFolder`, `StdSink` and `ReaderLines` over standard input stand for the real machine,
-//! and are opaque. `all_arguments` reads those of the program, of which nothing is stated.
+//! and are opaque. `all_arguments` reads the program's arguments, of which nothing is stated.
 #![tactic(auto)]
 
 mod arguments;
