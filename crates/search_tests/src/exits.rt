@@ -2,7 +2,7 @@
 //! far they are undercut.
 ghost use Rattle.std.specs.Prelude.{All, IfOk, OnOk};
 ghost use Rattle.exit_rows.specs.Exits.{IsSmallKept};
-ghost use Rattle.exit_rows.specs.Rows.{HasRow, IsMarked, kept_in};
+ghost use Rattle.exit_rows.specs.Rows.{HasRow, IsClear, IsMarked, kept_in};
 ghost use Rattle.plane_geom.specs.declared.point.Dir.TheVariants.{East};
 
 use crate::labels::crossed;
@@ -60,6 +60,17 @@ fn keep_each(rows: &mut Rows, crossing: CrossId, table: &[Row]) -> Result<(), Fa
     Ok(())
 }
 
+/// Keeps these exits of the third line after one checkpoint.
+fn fill(alloc: Global, rows: &mut Rows, crossing: CrossId) -> Result<(), Fail>
+    requires { IsClear rows.old }
+    ensures room { OnOk result (HasRow rows.new 1 2) }
+    ensures marked { OnOk result (IsMarked rows.new) }
+    ensures small { OnOk result (All IsSmallKept (kept_in rows.new 1 2 East)) }
+{
+    rows.fit(alloc, 3, 2)?;
+    keep_each(rows, crossing, &KEPT)
+}
+
 /// Rows in which the third line keeps these exits after one checkpoint.
 fn filled(alloc: Global, crossing: CrossId) -> Result<Rows, Fail>
     ensures room { IfOk result (λ rows. HasRow rows 1 2) }
@@ -67,8 +78,7 @@ fn filled(alloc: Global, crossing: CrossId) -> Result<Rows, Fail>
     ensures small { IfOk result (λ rows. All IsSmallKept (kept_in rows 1 2 East)) }
 {
     let mut rows = Rows::new(alloc);
-    rows.fit(alloc, 3, 2)?;
-    keep_each(&mut rows, crossing, &KEPT)?;
+    fill(alloc, &mut rows, crossing)?;
     Ok(rows)
 }
 
@@ -79,6 +89,15 @@ fn least(rows: &Rows, reach: i8) -> Option<(u64, u32)>
 {
     let ahead = rows.ahead_along(1, 2, Dir::East, i64::from(reach))?;
     Some((ahead.cost, ahead.runs))
+}
+
+/// The same once the rows are cleared.
+fn least_once_cleared(mut rows: Rows, reach: i8) -> Option<(u64, u32)>
+    requires room { HasRow rows 1 2 }
+    requires marked { IsMarked rows }
+{
+    rows.clear();
+    least(&rows, reach)
 }
 
 /// Whether the exit is late, and where it stops.
@@ -93,20 +112,26 @@ fn judged(rows: &Rows, crossing: CrossId, row: Row) -> (bool, i64)
     )
 }
 
+/// Reaches, with the cost and the number of runs that are ahead.
+const REACHED: [(i8, Option<(u64, u32)>); 8] = [
+    (-101, None),
+    (-100, Some((160, 1))),
+    (10, Some((50, 1))),
+    (49, Some((11, 1))),
+    (50, Some((40, 1))),
+    (89, Some((1, 1))),
+    (90, None),
+    (95, Some((45, 1))),
+];
+
 #[test]
 fn the_least_that_is_ahead(rt: HostRuntime) -> Result<(), Fail> {
     let crossing = crossed(rt.alloc())?.crossing;
-    let mut rows = filled(rt.alloc(), crossing)?;
-    assert_eq!(rt; least(&rows, -101), None);
-    assert_eq!(rt; least(&rows, -100), Some((160, 1)));
-    assert_eq!(rt; least(&rows, 10), Some((50, 1)));
-    assert_eq!(rt; least(&rows, 49), Some((11, 1)));
-    assert_eq!(rt; least(&rows, 50), Some((40, 1)));
-    assert_eq!(rt; least(&rows, 89), Some((1, 1)));
-    assert_eq!(rt; least(&rows, 90), None);
-    assert_eq!(rt; least(&rows, 95), Some((45, 1)));
-    rows.clear();
-    assert_eq!(rt; least(&rows, 10), None);
+    let rows = filled(rt.alloc(), crossing)?;
+    for &(reach, want) in &REACHED {
+        assert_eq!(rt; least(&rows, reach), want, "at {reach}");
+    }
+    assert_eq!(rt; least_once_cleared(rows, 10), None);
     Ok(())
 }
 

@@ -23,9 +23,9 @@ pub struct Found {
 }
 
 impl Found {
-    /// Whether it is a route with these corners, or no route if there are none.
-    pub fn is_along(&self, corners: &[Corner]) -> bool {
-        self.corners.as_slice() == corners
+    /// Whether it is a route with this cost and these corners, or no route if there are none.
+    pub fn is_along(&self, cost: Option<u64>, corners: &[Corner]) -> bool {
+        self.cost == cost && self.corners.as_slice() == corners
     }
 }
 

@@ -79,20 +79,33 @@ fn fitted(alloc: Global, places: usize) -> Result<Table, AllocError>
     Ok(table)
 }
 
+/// What is ahead by a label.
+const AHEAD: Ahead = Ahead {
+    cost: 3,
+    runs: 1,
+    lean: -2,
+};
+
+/// What is ahead at the crossing once a label is put there, and once the table is cleared.
+fn kept(table: &mut Table, at: Numbered) -> Result<[Option<Ahead>; 2], AllocError>
+    requires number { at.number ≡ at.crossing }
+    requires within { at.number < at.places }
+    requires marked { IsMarked table.old }
+    requires places { table.old.places ≡ at.places }
+    requires rows { 2 * at.places ≤ length table.old.rows.items }
+{
+    let place = place(at.crossing, Dir::West);
+    table.put(&place, at.number, Label::Open(AHEAD))?;
+    let before = table.label(&place, at.number).ahead();
+    table.clear();
+    Ok([before, table.label(&place, at.number).ahead()])
+}
+
 #[test]
 fn keeps_labels_until_they_are_cleared(rt: HostRuntime) -> Result<(), Fail> {
     let at = crossed(rt.alloc())?;
     let mut table = fitted(rt.alloc(), at.places)?;
-    let place = place(at.crossing, Dir::West);
-    let ahead = Ahead {
-        cost: 3,
-        runs: 1,
-        lean: -2,
-    };
-    table.put(&place, at.number, Label::Open(ahead))?;
-    assert_eq!(rt; table.label(&place, at.number).ahead(), Some(ahead));
-    table.clear();
-    assert_eq!(rt; table.label(&place, at.number).ahead(), None);
+    assert_eq!(rt; kept(&mut table, at)?, [Some(AHEAD), None]);
     Ok(())
 }
 
@@ -178,27 +191,39 @@ fn candidate(crossing: CrossId, bound: u64) -> Candidate<Place> {
 }
 
 /// Adds two candidates, and removes the first.
-fn first_of_two(queue: &mut Queue<Place>, crossing: CrossId) -> Result<Candidate<Place>, Fail> {
+fn first_of_two(
+    queue: &mut Queue<Place>,
+    crossing: CrossId,
+) -> Result<Option<Candidate<Place>>, AllocError> {
     queue.push(candidate(crossing, 7))?;
     queue.push(candidate(crossing, 3))?;
-    Ok(queue.pop().ok_or("no candidate")?)
+    Ok(queue.pop())
+}
+
+/// Whether the queue takes the lesser of two candidates first, and has none once it is cleared.
+fn takes_the_least(queue: &mut Queue<Place>, crossing: CrossId) -> Result<bool, AllocError> {
+    let Some(first) = first_of_two(queue, crossing)? else {
+        return Ok(false);
+    };
+    let is_least = first < candidate(crossing, 7) && first == candidate(crossing, 3);
+    queue.clear();
+    Ok(first.bound == 3 && is_least && queue.pop().is_none())
 }
 
 #[test]
 fn takes_the_least_candidate_first(rt: HostRuntime) -> Result<(), Fail> {
     let crossing = crossed(rt.alloc())?.crossing;
     let mut queue = Queue::new(rt.alloc());
-    let first = first_of_two(&mut queue, crossing)?;
-    assert_eq!(rt; first.bound, 3);
-    assert!(rt; first < candidate(crossing, 7) && first == candidate(crossing, 3));
-    queue.clear();
-    assert!(rt; queue.pop().is_none());
+    assert!(rt; takes_the_least(&mut queue, crossing)?);
     Ok(())
 }
 
 #[test]
 fn counts_checkpoints_behind(rt: HostRuntime) {
     let via = [point(1, 1), point(1, 1), point(2, 2)];
-    assert_eq!(rt; stage_at(&via, 0, point(1, 1)), 2);
-    assert_eq!(rt; stage_at(&via, 0, point(2, 2)), 0);
+    let counts = (
+        stage_at(&via, 0, point(1, 1)),
+        stage_at(&via, 0, point(2, 2)),
+    );
+    assert_eq!(rt; counts, (2, 0));
 }

@@ -99,7 +99,10 @@ fn stop_count_alone(alloc: Global, line: usize) -> Result<Option<usize>, AllocEr
 
 #[test]
 fn lists_a_line_without_crossings(rt: HostRuntime) -> Result<(), Fail> {
-    assert_eq!(rt; stop_count_alone(rt.alloc(), 0)?, Some(0));
-    assert_eq!(rt; stop_count_alone(rt.alloc(), 1)?, None);
+    let counts = (
+        stop_count_alone(rt.alloc(), 0)?,
+        stop_count_alone(rt.alloc(), 1)?,
+    );
+    assert_eq!(rt; counts, (Some(0), None));
     Ok(())
 }

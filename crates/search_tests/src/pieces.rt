@@ -25,13 +25,15 @@ fn idle_tasks(alloc: Global, count: u32) -> Result<Vec<Task>, AllocError>
     Ok(tasks)
 }
 
-/// The number of answers, and of those with a route.
-fn counts(answers: Vec<Option<Route>>) -> (usize, usize) {
+/// The number of answers, of those with a route, and of searches.
+type Counts = (usize, usize, u64);
+
+fn counts(answers: Vec<Option<Route>>, searches: u64) -> Counts {
     let routes = answers.iter().filter(|answer| answer.is_some()).count();
-    (answers.len(), routes)
+    (answers.len(), routes, searches)
 }
 
-/// The number of tasks that are answered, and of those with a route.
+/// What is counted when the tasks are answered.
 fn answered_on<R: Threads + Sync, G: Gate>(
     rt: &R,
     alloc: Global,
@@ -39,48 +41,58 @@ fn answered_on<R: Threads + Sync, G: Gate>(
     tasks: &[Task],
     workers: u32,
     gate: &G,
-    tally: &mut Tally,
-) -> Result<(usize, usize), AllocError>
+) -> Result<Counts, AllocError>
     requires some { 1 ≤ workers }
     requires few { workers ≤ 4 }
     requires tasks { All (MayBeSearched arena.now []) tasks.now }
 {
-    let answers = route_all(rt, alloc, arena, &[], tasks, workers, gate, tally)?;
-    Ok(counts(answers))
+    let mut tally = Tally::new();
+    let answers = route_all(rt, alloc, arena, &[], tasks, workers, gate, &mut tally)?;
+    Ok(counts(answers, tally.count()))
 }
 
-/// The number of idle tasks that are answered, and of those with a route.
+/// The same for idle tasks.
 fn answered<R: Threads + Sync, G: Gate>(
     rt: &R,
     alloc: Global,
     count: u32,
     workers: u32,
     gate: &G,
-    tally: &mut Tally,
-) -> Result<(usize, usize), AllocError>
+) -> Result<Counts, AllocError>
     requires some { 1 ≤ workers }
     requires few { workers ≤ 4 }
 {
     let tasks = idle_tasks(alloc, count)?;
     let graph = Graph::empty(alloc);
-    answered_on(rt, alloc, graph.arena(), &tasks, workers, gate, tally)
+    answered_on(rt, alloc, graph.arena(), &tasks, workers, gate)
 }
 
-/// The number of idle tasks that are answered without threads, and of those with a route.
-fn answered_alone(
-    alloc: Global,
-    count: u32,
-    tally: &mut Tally,
-) -> Result<(usize, usize), AllocError> {
+/// The same without threads.
+fn answered_alone(alloc: Global, count: u32) -> Result<Counts, AllocError> {
     let tasks = idle_tasks(alloc, count)?;
     let graph = Graph::empty(alloc);
-    let answers = route_each(alloc, graph.arena(), &[], &tasks, tally)?;
-    Ok(counts(answers))
+    let mut tally = Tally::new();
+    let answers = route_each(alloc, graph.arena(), &[], &tasks, &mut tally)?;
+    Ok(counts(answers, tally.count()))
+}
+
+/// What is counted, and the number of pieces that pass the gate with the sum of their numbers.
+fn cut<R: Threads + Sync>(
+    rt: &R,
+    alloc: Global,
+    count: u32,
+    workers: u32,
+) -> Result<(Counts, u32, u32), AllocError>
+    requires some { 1 ≤ workers }
+    requires few { workers ≤ 4 }
+{
+    let gate = CountGate::new();
+    let counts = answered(rt, alloc, count, workers, &gate)?;
+    Ok((counts, gate.pieces(), gate.numbers()))
 }
 
 #[test]
 fn cuts_tasks_into_pieces(rt: HostRuntime) -> Result<(), Fail> {
-    let alloc = rt.alloc();
     let rows: [(u32, u32, u32, u32); 6] = [
         (0, 2, 0, 0),
         (1, 4, 1, 1),
@@ -90,41 +102,32 @@ fn cuts_tasks_into_pieces(rt: HostRuntime) -> Result<(), Fail> {
         (5000, 4, 4, 10),
     ];
     for (count, workers, pieces, numbers) in rows {
-        let gate = CountGate::new();
-        let mut tally = Tally::new();
-        let answers = answered(&rt, alloc, count, workers, &gate, &mut tally)?;
-        assert_eq!(rt; answers, (count as usize, 0), "of {count} by {workers}");
-        assert_eq!(rt; tally.count(), u64::from(count));
-        assert_eq!(rt; gate.pieces(), pieces);
-        assert_eq!(rt; gate.numbers(), numbers);
+        let want = ((count as usize, 0, u64::from(count)), pieces, numbers);
+        assert_eq!(rt;
+            cut(&rt, rt.alloc(), count, workers)?,
+            want,
+            "of {count} by {workers}"
+        );
     }
     Ok(())
 }
 
 #[test]
 fn has_two_pieces_under_way(rt: HostRuntime) -> Result<(), Fail> {
-    let alloc = rt.alloc();
     let gate = HoldGate::new();
-    let mut tally = Tally::new();
-    answered(&rt, alloc, 3, 2, &gate, &mut tally)?;
+    answered(&rt, rt.alloc(), 3, 2, &gate)?;
     assert!(rt; gate.has_seen_both());
     Ok(())
 }
 
 #[test]
 fn passes_an_open_gate(rt: HostRuntime) -> Result<(), Fail> {
-    let mut tally = Tally::new();
-    let answers = answered(&rt, rt.alloc(), 4, 3, &OpenGate, &mut tally)?;
-    assert_eq!(rt; answers, (4, 0));
-    assert_eq!(rt; tally.count(), 4);
+    assert_eq!(rt; answered(&rt, rt.alloc(), 4, 3, &OpenGate)?, (4, 0, 4));
     Ok(())
 }
 
 #[test]
 fn searches_without_threads(rt: HostRuntime) -> Result<(), Fail> {
-    let mut tally = Tally::new();
-    let answers = answered_alone(rt.alloc(), 5, &mut tally)?;
-    assert_eq!(rt; answers, (5, 0));
-    assert_eq!(rt; tally.count(), 5);
+    assert_eq!(rt; answered_alone(rt.alloc(), 5)?, (5, 0, 5));
     Ok(())
 }

@@ -20,7 +20,7 @@ fn puts_a_stretch_in_front(rt: HostRuntime) {
         ("turn", Dir::South, 155, 3, 33),
         ("doubling back", Dir::West, 205, 3, 33),
     ];
-    for (case, heading, cost, runs, lean) in cases {
+    for &(case, heading, cost, runs, lean) in &cases {
         let whole = rest.behind(heading, stretch, 50);
         assert_eq!(rt; whole, Ahead { cost, runs, lean }, "{case}");
     }

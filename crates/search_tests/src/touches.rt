@@ -103,9 +103,8 @@ fn asked_anew(alloc: Global, row: Touched) -> Result<(Option<i64>, bool), Fail> 
 #[test]
 fn says_from_where_runs_touch(rt: HostRuntime) -> Result<(), Fail> {
     for (place, &row) in TOUCHED.iter().enumerate() {
-        let (from, may) = asked_anew(rt.alloc(), row)?;
-        assert_eq!(rt; from, row.4, "in row {place}");
-        assert_eq!(rt; may, row.4.is_some(), "in row {place}");
+        let want = (row.4, row.4.is_some());
+        assert_eq!(rt; asked_anew(rt.alloc(), row)?, want, "in row {place}");
     }
     Ok(())
 }
@@ -119,7 +118,7 @@ fn measures_how_far_on_points_lie(rt: HostRuntime) {
         (Dir::West, -3),
         (Dir::North, 7),
     ];
-    for (dir, far) in reaches {
+    for &(dir, far) in &reaches {
         assert_eq!(rt; reach(dir, at), far);
     }
 }

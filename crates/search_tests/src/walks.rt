@@ -12,8 +12,15 @@ use walk_model::{
     passes, run_count,
 };
 
-#[test]
-fn counts_steps_and_bends(rt: HostRuntime) {
+const PIN: Point = Point { x: 0, y: 0 };
+
+const PORT: Point = Point { x: 14, y: 0 };
+
+/// A short line that doubles back.
+const BACK: [Point; 3] = [PIN, Point { x: 2, y: 0 }, Point { x: 1, y: 0 }];
+
+/// The costs of a line straight on, of one that turns, of one that doubles back, and of no line.
+fn costs() -> (u64, u64, u64, u64) {
     let straight = [
         Point { x: 0, y: 0 },
         Point { x: 100, y: 0 },
@@ -31,52 +38,80 @@ fn counts_steps_and_bends(rt: HostRuntime) {
         Point { x: 100, y: 0 },
         Point { x: 40, y: 0 },
     ];
-    assert_eq!(rt; cost_of(&straight, 50), 150);
-    assert_eq!(rt; cost_of(&turned, 50), 180);
-    assert_eq!(rt; cost_of(&doubled_back, 50), 260);
-    assert_eq!(rt; cost_of(&[], 50), 0);
+    (
+        cost_of(&straight, 50),
+        cost_of(&turned, 50),
+        cost_of(&doubled_back, 50),
+        cost_of(&[], 50),
+    )
 }
+
+#[test]
+fn counts_steps_bends_and_runs(rt: HostRuntime) {
+    assert_eq!(rt; (costs(), run_count(&BACK)), ((150, 180, 260, 0), 2));
+}
+
+/// A line to the East and then to the South.
+const LINE: [Point; 3] = [
+    Point { x: 0, y: 0 },
+    Point { x: 100, y: 0 },
+    Point { x: 100, y: 30 },
+];
+
+/// Two checkpoints, and whether the line passes them in order.
+const IN_ORDER: [(&str, [Point; 2], bool); 5] = [
+    (
+        "ends",
+        [Point { x: 0, y: 0 }, Point { x: 100, y: 30 }],
+        true,
+    ),
+    (
+        "equal",
+        [Point { x: 40, y: 0 }, Point { x: 40, y: 0 }],
+        true,
+    ),
+    (
+        "wrong order",
+        [Point { x: 60, y: 0 }, Point { x: 40, y: 0 }],
+        false,
+    ),
+    (
+        "corner",
+        [Point { x: 100, y: 0 }, Point { x: 100, y: 10 }],
+        true,
+    ),
+    (
+        "off the line",
+        [Point { x: 40, y: 0 }, Point { x: 40, y: 1 }],
+        false,
+    ),
+];
 
 #[test]
 fn passes_in_order(rt: HostRuntime) {
-    let line = [
-        Point { x: 0, y: 0 },
-        Point { x: 100, y: 0 },
-        Point { x: 100, y: 30 },
-    ];
-    let cases = [
-        ("ends", (0, 0), (100, 30), true),
-        ("equal", (40, 0), (40, 0), true),
-        ("wrong order", (60, 0), (40, 0), false),
-        ("corner", (100, 0), (100, 10), true),
-        ("off the line", (40, 0), (40, 1), false),
-    ];
-    for (case, first, second, passed) in cases {
-        let via = [first, second].map(|(x, y)| Point { x, y });
-        assert_eq!(rt; passes(&line, &via), passed, "{case}");
+    for (case, via, passed) in &IN_ORDER {
+        assert_eq!(rt; passes(&LINE, via), *passed, "{case}");
     }
 }
 
-#[test]
-fn passes_between_two_points(rt: HostRuntime) {
-    let line = [
-        Point { x: 0, y: 0 },
-        Point { x: 100, y: 0 },
-        Point { x: 100, y: 30 },
-    ];
+/// The checkpoints that the line passes between three pairs of its points.
+fn passed() -> (usize, usize, usize) {
     let via = [
         Point { x: 40, y: 0 },
         Point { x: 100, y: 0 },
         Point { x: 100, y: 10 },
     ];
-    for (from, to, passed) in [(40, 110, 3), (41, 110, 0), (40, 109, 2)] {
-        assert_eq!(rt; passed_between(&line, from, to, &via), passed, "{from}");
-    }
+    (
+        passed_between(&LINE, 40, 110, &via),
+        passed_between(&LINE, 41, 110, &via),
+        passed_between(&LINE, 40, 109, &via),
+    )
 }
 
-const PIN: Point = Point { x: 0, y: 0 };
-
-const PORT: Point = Point { x: 14, y: 0 };
+#[test]
+fn passes_between_two_points(rt: HostRuntime) {
+    assert_eq!(rt; passed(), (3, 0, 2));
+}
 
 fn route(alloc: Global, end: u32, points: [Point; 3]) -> Result<Route, AllocError>
     ensures { IfOk result (λ r. r.points ≡ points) }
@@ -105,21 +140,35 @@ fn compared(
     Ok(compare_routes(&first, &second))
 }
 
-#[test]
-fn orders_routes_of_one_cost(rt: HostRuntime) -> Result<(), Fail> {
-    let alloc = rt.alloc();
+/// The orders of routes of one cost.
+fn orders(alloc: Global) -> Result<(Ordering, Ordering, Ordering, Ordering), AllocError> {
     let short = [PIN, Point { x: 2, y: 0 }, Point { x: 2, y: 1 }];
     let long = [PIN, Point { x: 2, y: 0 }, Point { x: 2, y: 2 }];
     let later = [PIN, Point { x: 0, y: 2 }, Point { x: 2, y: 2 }];
-    let back = [PIN, Point { x: 2, y: 0 }, Point { x: 1, y: 0 }];
-    // A list of steps that is the beginning of another comes first, whatever the end choices are.
-    assert_eq!(rt; compared(alloc, 1, short, 0, long)?, Ordering::Less);
-    // Both have two runs and the sum of run coordinates 2, and East comes before South.
-    assert_eq!(rt; compared(alloc, 0, long, 0, later)?, Ordering::Less);
-    // The lower sum of run coordinates comes first.
-    assert_eq!(rt; compared(alloc, 0, long, 0, back)?, Ordering::Greater);
-    assert_eq!(rt; compared(alloc, 0, back, 0, back)?, Ordering::Equal);
-    assert_eq!(rt; run_count(&back), 2);
+    Ok((
+        // A list of steps that is the beginning of another comes first, whatever the end choices are.
+        compared(alloc, 1, short, 0, long)?,
+        // Both have two runs and the sum of run coordinates 2, and East comes before South.
+        compared(alloc, 0, long, 0, later)?,
+        // The lower sum of run coordinates comes first.
+        compared(alloc, 0, long, 0, BACK)?,
+        compared(alloc, 0, BACK, 0, BACK)?,
+    ))
+}
+
+#[test]
+fn orders_routes_of_one_cost(rt: HostRuntime) -> Result<(), Fail> {
+    let orders = orders(rt.alloc())?;
+    assert!(rt;
+        orders
+            == (
+                Ordering::Less,
+                Ordering::Less,
+                Ordering::Greater,
+                Ordering::Equal
+            ),
+        "{orders:?}"
+    );
     Ok(())
 }
 
@@ -145,12 +194,17 @@ fn copied_task(alloc: Global) -> Result<Task, AllocError> {
     task.copy(alloc)
 }
 
+/// Whether it is the task above.
+fn is_task(task: &Task) -> bool {
+    let starts = task.starts.as_slice() == [CHOICE].as_slice();
+    let via = task.via.as_slice() == [PORT].as_slice();
+    starts && via && task.ends.as_slice().is_empty() && task.penalty == 50
+}
+
 #[test]
 fn copies_a_task(rt: HostRuntime) -> Result<(), Fail> {
     let task = copied_task(rt.alloc())?;
-    assert!(rt; task.starts.as_slice() == [CHOICE].as_slice());
-    assert!(rt; task.via.as_slice() == [PORT].as_slice());
-    assert!(rt; task.ends.as_slice().is_empty() && task.penalty == 50);
+    assert!(rt; is_task(&task));
     Ok(())
 }
 
@@ -172,24 +226,31 @@ fn copied_answer(alloc: Global) -> Result<Answer, AllocError> {
     answer.copy(alloc)
 }
 
+/// Whether it is the answer above.
+fn is_answer(answer: &Answer) -> bool {
+    match &answer.route {
+        Some(route) => route.cost == 14 && route.points.as_slice() == [PIN, PORT].as_slice(),
+        None => false,
+    }
+}
+
 #[test]
 fn copies_an_answer(rt: HostRuntime) -> Result<(), Fail> {
     let answer = copied_answer(rt.alloc())?;
-    let line = [PIN, PORT];
-    assert!(rt;
-        answer
-            .route
-            .is_some_and(|r| r.cost == 14 && r.points.as_slice() == line.as_slice())
-    );
+    assert!(rt; is_answer(&answer));
     Ok(())
+}
+
+fn written(alloc: Global) -> Result<WrittenRoute, AllocError> {
+    Ok(WrittenRoute {
+        edge: 1,
+        points: Points(Vec::from_slice(alloc, &[PIN, PORT])?),
+    })
 }
 
 #[test]
 fn writes_a_line(rt: HostRuntime) -> Result<(), Fail> {
-    let written = WrittenRoute {
-        edge: 1,
-        points: Points(Vec::from_slice(rt.alloc(), &[PIN, PORT])?),
-    };
-    assert_eq!(rt; written.points.as_slice().len(), 2);
+    let written = written(rt.alloc())?;
+    assert!(rt; written.points.as_slice().len() == 2);
     Ok(())
 }
