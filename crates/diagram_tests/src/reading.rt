@@ -300,18 +300,18 @@ fn first_wrong(alloc: Global, front: &str, rows: &[Row], back: &str) -> Option<&
     None
 }
 
-#[test]
-fn refuses_settings_and_nodes(rt: HostRuntime) {
-    assert_eq!(rt; first_wrong(rt.alloc(), "", &DIAGRAMS, ""), None);
-}
+/// The texts before and after the rows' texts, and the rows.
+const TABLES: [(&str, &[Row], &str); 3] = [
+    ("", &DIAGRAMS, ""),
+    (PIN_FRONT, &PINS, PIN_BACK),
+    (EDGE_FRONT, &EDGES, EDGE_BACK),
+];
 
 #[test]
-fn refuses_pins_and_edges(rt: HostRuntime) {
-    assert_eq!(rt; first_wrong(rt.alloc(), PIN_FRONT, &PINS, PIN_BACK), None);
-    assert_eq!(rt;
-        first_wrong(rt.alloc(), EDGE_FRONT, &EDGES, EDGE_BACK),
-        None
-    );
+fn refuses_what_is_not_right(rt: HostRuntime) {
+    for &(front, rows, back) in &TABLES {
+        assert_eq!(rt; first_wrong(rt.alloc(), front, rows, back), None);
+    }
 }
 
 /// A graph of `count` nodes.
@@ -334,58 +334,74 @@ fn fault_of_nodes(alloc: Global, count: usize) -> Option<DiagramFault> {
     }
 }
 
+/// Of what there are many.
+#[derive(Clone, Copy)]
+enum Many {
+    Nodes,
+    /// Pins of one node, and one more that is invalid.
+    Pins,
+    /// Edges, and one more that is invalid.
+    Edges,
+    /// Checkpoints of one edge.
+    Checkpoints,
+    /// Edges that are full of checkpoints, and one more checkpoint that is invalid.
+    FullEdges,
+}
+
+/// The fault of a graph with `count` of these.
+fn fault_of_many(alloc: Global, many: Many, count: usize) -> Option<DiagramFault> {
+    let (front, part, back) = match many {
+        Many::Nodes => return fault_of_nodes(alloc, count),
+        Many::Pins => (PIN_FRONT, "pin [ class 1 x 0 y 0 ] ", "pin 5 ] ]"),
+        Many::Edges => (EDGE_FRONT, "edge [ source 1 target 2 ] ", "edge [ ] ]"),
+        Many::Checkpoints => (LINE_FRONT, "via [ x 1 y 1 ] ", LINE_BACK),
+        Many::FullEdges => (EDGE_FRONT, FULL_EDGE, "edge [ source 1 target 2 via 1 ] ]"),
+    };
+    fault_of(alloc, front, part, count, back)
+}
+
+const LIMITS: [(Many, usize, Option<DiagramFault>); 6] = [
+    (Many::Nodes, 256, None),
+    (
+        Many::Nodes,
+        257,
+        Some(DiagramFault::TooMany { part: Part::Node }),
+    ),
+    (
+        Many::Pins,
+        256,
+        Some(DiagramFault::TooMany { part: Part::Pin }),
+    ),
+    (
+        Many::Edges,
+        512,
+        Some(DiagramFault::TooMany { part: Part::Edge }),
+    ),
+    (
+        Many::Checkpoints,
+        5,
+        Some(DiagramFault::TooMany { part: Part::Via }),
+    ),
+    (
+        Many::FullEdges,
+        64,
+        Some(DiagramFault::TooMany { part: Part::Via }),
+    ),
+];
+
+/// The place of the first row with another fault.
+fn first_unlimited(alloc: Global) -> Option<usize> {
+    for (place, &(many, count, fault)) in LIMITS.iter().enumerate() {
+        if fault_of_many(alloc, many, count) != fault {
+            return Some(place);
+        }
+    }
+    None
+}
+
 #[test]
-fn stops_at_nodes(rt: HostRuntime) {
-    assert_eq!(rt; fault_of_nodes(rt.alloc(), 256), None);
-    assert_eq!(rt;
-        fault_of_nodes(rt.alloc(), 257),
-        Some(DiagramFault::TooMany { part: Part::Node })
-    );
-}
-
-/// The fault of a node with `count` pins, and one more that is invalid.
-fn fault_of_pins(alloc: Global, count: usize) -> Option<DiagramFault> {
-    let back = "pin 5 ] ]";
-    fault_of(alloc, PIN_FRONT, "pin [ class 1 x 0 y 0 ] ", count, back)
-}
-
-/// The fault of `count` edges, and one more that is invalid.
-fn fault_of_edges(alloc: Global, count: usize) -> Option<DiagramFault> {
-    let back = "edge [ ] ]";
-    fault_of(
-        alloc,
-        EDGE_FRONT,
-        "edge [ source 1 target 2 ] ",
-        count,
-        back,
-    )
-}
-
-/// The fault of an edge with `count` checkpoints.
-fn fault_of_checkpoints(alloc: Global, count: usize) -> Option<DiagramFault> {
-    fault_of(alloc, LINE_FRONT, "via [ x 1 y 1 ] ", count, LINE_BACK)
-}
-
-/// The fault of `count` edges that are full of checkpoints, and one more checkpoint that is
-/// invalid.
-fn fault_of_full_edges(alloc: Global, count: usize) -> Option<DiagramFault> {
-    let back = "edge [ source 1 target 2 via 1 ] ]";
-    fault_of(alloc, EDGE_FRONT, FULL_EDGE, count, back)
-}
-
-#[test]
-fn stops_at_parts(rt: HostRuntime) {
-    let via = Some(DiagramFault::TooMany { part: Part::Via });
-    assert_eq!(rt;
-        fault_of_pins(rt.alloc(), 256),
-        Some(DiagramFault::TooMany { part: Part::Pin })
-    );
-    assert_eq!(rt;
-        fault_of_edges(rt.alloc(), 512),
-        Some(DiagramFault::TooMany { part: Part::Edge })
-    );
-    assert_eq!(rt; fault_of_checkpoints(rt.alloc(), 5), via);
-    assert_eq!(rt; fault_of_full_edges(rt.alloc(), 64), via);
+fn stops_at_limits(rt: HostRuntime) {
+    assert_eq!(rt; first_unlimited(rt.alloc()), None);
 }
 
 /// The centre of a node of the scene, and the halves of its size.
@@ -529,6 +545,12 @@ fn length_in(
     }
 }
 
+/// Whether a line of 20,000 points is read.
+fn reads_a_long_line(alloc: Global) -> bool {
+    let back = "] ] ] ]";
+    length_in(alloc, LONG_FRONT, "point [ x 1 y 2 ] ", 20_000, back) == Ok(Some(20_000))
+}
+
 /// The first row whose line has another length.
 fn first_wrong_line(alloc: Global) -> Option<&'static str> {
     for &(graphics, length) in &LINES {
@@ -542,9 +564,5 @@ fn first_wrong_line(alloc: Global) -> Option<&'static str> {
 #[test]
 fn reads_lines(rt: HostRuntime) {
     assert_eq!(rt; first_wrong_line(rt.alloc()), None);
-    let point = "point [ x 1 y 2 ] ";
-    assert_eq!(rt;
-        length_in(rt.alloc(), LONG_FRONT, point, 20_000, "] ] ] ]"),
-        Ok(Some(20_000))
-    );
+    assert!(rt; reads_a_long_line(rt.alloc()));
 }

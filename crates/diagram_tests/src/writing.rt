@@ -423,10 +423,14 @@ fn first_wrong(alloc: Global, front: &str, rows: &[Row], back: &str) -> Option<&
     None
 }
 
+/// The texts before and after the rows' texts, and the rows.
+const TABLES: [(&str, &[Row], &str); 2] = [("", &DIAGRAMS, ""), (FRONT, &EDGES, BACK)];
+
 #[test]
 fn writes_edits(rt: HostRuntime) {
-    assert_eq!(rt; first_wrong(rt.alloc(), "", &DIAGRAMS, ""), None);
-    assert_eq!(rt; first_wrong(rt.alloc(), FRONT, &EDGES, BACK), None);
+    for &(front, rows, back) in &TABLES {
+        assert_eq!(rt; first_wrong(rt.alloc(), front, rows, back), None);
+    }
 }
 
 /// The text, between the two others, with a route of one point.
