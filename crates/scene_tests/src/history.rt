@@ -46,40 +46,80 @@ fn forth(log: &mut UndoLog<u32>) -> Option<u32> {
     Some(lent.changes)
 }
 
-/// Adds the steps 1 to 100 to the past; none is dropped.
-fn push_hundred(log: &mut UndoLog<u32>, alloc: Global) -> bool {
+/// Adds the steps 1 to 100 to the past, and returns the first of them that drops another.
+fn push_hundred(log: &mut UndoLog<u32>, alloc: Global) -> Option<u32> {
     for number in 1..101 {
         if pushed(log, alloc, number).is_some() {
-            return false;
+            return Some(number);
         }
     }
-    true
+    None
 }
 
-/// Goes back over the steps 101 to 2, and numbers them 1002 to 1101.
-fn back_over_hundred(log: &mut UndoLog<u32>) -> bool {
-    for number in 2..102 {
-        if back(log, 1000 + number) != Some(103 - number) {
-            return false;
+/// Goes back over the steps 101 to 2, numbers them 1002 to 1101, and returns the first of these
+/// numbers whose step was another.
+fn back_over_hundred(log: &mut UndoLog<u32>) -> Option<u32> {
+    for number in 1002..1102 {
+        if back(log, number) != Some(1103 - number) {
+            return Some(number);
         }
     }
-    true
+    None
+}
+
+/// What is done with the history.
+#[derive(Clone, Copy)]
+enum Act {
+    Look,
+    /// Back, where the step is given the number.
+    Back(u32),
+    Forth,
+    Push(u32),
+    PushHundred,
+    BackOverHundred,
+}
+
+/// Does this with the history, and returns the number that comes of it.
+fn done(log: &mut UndoLog<u32>, alloc: Global, act: Act) -> Option<u32> {
+    match act {
+        Act::Look => None,
+        Act::Back(number) => back(log, number),
+        Act::Forth => forth(log),
+        Act::Push(number) => pushed(log, alloc, number),
+        Act::PushHundred => push_hundred(log, alloc),
+        Act::BackOverHundred => back_over_hundred(log),
+    }
+}
+
+/// What is done, the number that comes of it, and the latest past step and the next future step
+/// after it.
+type Row = (Act, Option<u32>, (Option<u32>, Option<u32>));
+
+const ROWS: [Row; 10] = [
+    (Act::Look, None, (None, None)),
+    (Act::Back(1), None, (None, None)),
+    (Act::Forth, None, (None, None)),
+    (Act::PushHundred, None, (Some(100), None)),
+    (Act::Push(101), Some(1), (Some(101), None)),
+    (Act::BackOverHundred, None, (None, Some(1101))),
+    (Act::Back(1), None, (None, Some(1101))),
+    (Act::Forth, Some(1101), (Some(1101), Some(1100))),
+    (Act::Push(7), None, (Some(7), None)),
+    (Act::Forth, None, (Some(7), None)),
+];
+
+/// The place of the first row that goes otherwise.
+fn first_wrong(log: &mut UndoLog<u32>, alloc: Global) -> Option<usize> {
+    for (place, &(act, number, next)) in ROWS.iter().enumerate() {
+        if done(log, alloc, act) != number || next_steps(log) != next {
+            return Some(place);
+        }
+    }
+    None
 }
 
 #[test]
 fn keeps_a_hundred_steps(rt: HostRuntime) {
-    let alloc = rt.alloc();
-    let mut log = UndoLog::new(alloc).expect(&rt, "no memory for the history");
-    assert_eq!(rt; next_steps(&log), (None, None));
-    assert_eq!(rt; (back(&mut log, 1), forth(&mut log)), (None, None));
-    assert!(rt; push_hundred(&mut log, alloc));
-    assert_eq!(rt; pushed(&mut log, alloc, 101), Some(1));
-    assert!(rt; back_over_hundred(&mut log));
-    assert_eq!(rt; next_steps(&log), (None, Some(1101)));
-    assert_eq!(rt; back(&mut log, 1), None);
-    assert_eq!(rt; forth(&mut log), Some(1101));
-    assert_eq!(rt; next_steps(&log).1, Some(1100));
-    assert_eq!(rt; pushed(&mut log, alloc, 7), None);
-    assert_eq!(rt; next_steps(&log), (Some(7), None));
-    assert_eq!(rt; forth(&mut log), None);
+    let mut log = UndoLog::new(rt.alloc()).expect(&rt, "no memory for the history");
+    assert_eq!(rt; first_wrong(&mut log, rt.alloc()), None);
 }

@@ -57,30 +57,34 @@ fn places(scene: &Scene) -> [Option<Place>; 4] {
     ]
 }
 
-/// The ends of the edges are those of the rows.
-fn has_ends(scene: &Scene) -> bool {
+/// Whether the ends of the edges are those of the rows, and no edge comes after them.
+fn has_edges(scene: &Scene) -> bool {
     for &(number, ends) in &ENDS {
         if ends_of(scene, number) != Some(ends) {
             return false;
         }
     }
-    true
+    scene.next_edge() == 49
 }
 
 #[test]
 fn makes_the_scene(rt: HostRuntime) {
     let scene = made_scene(rt.alloc(), 1).expect(&rt, "no memory for the scene");
     assert_eq!(rt; places(&scene), PLACES);
-    assert!(rt; has_ends(&scene));
-    assert_eq!(rt; scene.next_edge(), 49);
+    assert!(rt; has_edges(&scene));
+}
+
+/// Whether there are 40 commands, with the third transaction and the last command at their places.
+fn are_made(commands: &[Command]) -> bool {
+    commands.len() == 40
+        && commands.get(6..10) == Some(THIRD.as_slice())
+        && commands.get(37) == Some(&LAST)
 }
 
 #[test]
 fn makes_the_commands(rt: HostRuntime) {
     let commands = made_commands(rt.alloc(), 1).expect(&rt, "no memory for the commands");
-    assert_eq!(rt; commands.len(), 40);
-    assert_eq!(rt; commands.as_slice().get(6..10), Some(THIRD.as_slice()));
-    assert_eq!(rt; commands.as_slice().get(37), Some(&LAST));
+    assert!(rt; are_made(commands.as_slice()));
 }
 
 #[test]

@@ -558,14 +558,14 @@ const STARTS: [Choice; 2] = [
     },
 ];
 
-/// Whether each edit would be refused with its fault.
-fn are_refused(scene: &Scene, rows: &[(Edit, Option<SceneFault>)]) -> bool {
-    for (edit, fault) in rows {
+/// The place of the first edit that would not be refused with its fault.
+fn first_wrong(scene: &Scene, rows: &[(Edit, Option<SceneFault>)]) -> Option<usize> {
+    for (place, (edit, fault)) in rows.iter().enumerate() {
         if scene.refusal(edit) != *fault {
-            return false;
+            return Some(place);
         }
     }
-    true
+    None
 }
 
 /// Whether a pin that the edit adds leads to the east.
@@ -688,11 +688,11 @@ fn load(scene: &mut Scene, alloc: Global, number: u32) -> Result<(), SceneFault>
     load_edge(scene, alloc, number, 8)
 }
 
-/// Whether a copy of the scene would refuse each edit with its fault.
-fn copy_refuses(scene: &Scene, rows: &[(Edit, Option<SceneFault>)]) -> bool {
+/// The same of a copy of the scene, and a place beyond all without memory.
+fn first_wrong_in_copy(scene: &Scene, rows: &[(Edit, Option<SceneFault>)]) -> Option<usize> {
     match scene.copy() {
-        Ok(copied) => are_refused(&copied, rows),
-        Err(_) => false,
+        Ok(copied) => first_wrong(&copied, rows),
+        Err(_) => Some(rows.len()),
     }
 }
 
@@ -701,6 +701,23 @@ fn count_of_anchors(scene: &Scene) -> Option<usize> {
     match scene.floor() {
         Ok(floor) => Some(floor.anchors.as_slice().len()),
         Err(_) => None,
+    }
+}
+
+/// Whether a full scene loads neither a node nor an edge, and its floor stays full.
+fn loads_no_more(scene: &mut Scene, alloc: Global) -> bool {
+    load_group(scene, alloc, 256) == Err(SceneFault::TooMany { limit: 256 })
+        && load_edge(scene, alloc, 600, 0) == Err(SceneFault::TooMany { limit: 512 })
+        && count_of_anchors(scene) == Some(1536)
+}
+
+/// The place of the first edit that a copy of the full scene would not refuse with its fault, and
+/// the number of these edits where the scene itself loads more.
+fn first_beyond_limits(scene: &mut Scene, alloc: Global) -> Option<usize> {
+    if loads_no_more(scene, alloc) {
+        first_wrong_in_copy(scene, &LIMITS)
+    } else {
+        Some(LIMITS.len())
     }
 }
 
@@ -762,58 +779,128 @@ fn are_as_changed(scene: &Scene) -> bool {
         && second.id == 3
         && third.to_class == 8
         && only.weight == 4
+        && scene.settings().penalty == 9
+        && scene.next_edge() == 4
 }
 
-#[test]
-fn refuses_in_order(rt: HostRuntime) {
-    let mut scene = Scene::new(rt.alloc());
-    assert!(rt; edit_all(&mut scene, &SMALL).is_ok());
-    assert!(rt; are_refused(&scene, &REFUSALS));
+/// How a scene is made.
+#[derive(Clone, Copy)]
+enum Made {
+    /// By the edits of the small scene.
+    Small,
+    /// With the greatest numbers of all parts.
+    Full,
+    /// The small scene, with a group and an edge of the number loaded.
+    Loaded(u32),
+    /// By each edit, taken back and made again, and with a group and an edge loaded.
+    Changed,
 }
 
-#[test]
-fn keeps_limits(rt: HostRuntime) {
-    let mut scene = Scene::new(rt.alloc());
-    assert!(rt; add_nodes(&mut scene).is_ok());
-    assert!(rt; add_edges(&mut scene).is_ok());
-    assert!(rt; add_checkpoints(&mut scene).is_ok());
-    assert_eq!(rt;
-        load_group(&mut scene, rt.alloc(), 256),
-        Err(SceneFault::TooMany { limit: 256 })
-    );
-    assert_eq!(rt;
-        load_edge(&mut scene, rt.alloc(), 600, 0),
-        Err(SceneFault::TooMany { limit: 512 })
-    );
-    assert!(rt; copy_refuses(&scene, &LIMITS));
-    assert_eq!(rt; count_of_anchors(&scene), Some(1536));
+fn add_all(scene: &mut Scene) -> Result<(), SceneFault> {
+    add_nodes(scene)?;
+    add_edges(scene)?;
+    add_checkpoints(scene)
 }
 
-#[test]
-fn ends_with_the_last_number(rt: HostRuntime) {
-    let mut scene = Scene::new(rt.alloc());
-    assert!(rt; edit_all(&mut scene, &SMALL).is_ok());
-    assert!(rt; load(&mut scene, rt.alloc(), 4294967294).is_ok());
-    assert_eq!(rt; scene.next_edge(), 4294967295);
-    assert!(rt; are_refused(&scene, &NO_NUMBER_LEFT));
+fn edit_and_load(scene: &mut Scene, alloc: Global, number: u32) -> Result<(), SceneFault> {
+    edit_all(scene, &SMALL)?;
+    load(scene, alloc, number)
 }
 
-#[test]
-fn does_each_edit_and_takes_it_back(rt: HostRuntime) {
-    let mut scene = Scene::new(rt.alloc());
-    assert!(rt; edit_all_twice(&mut scene, &SMALL).is_ok());
-    assert!(rt; edit_all_twice(&mut scene, &CHANGES).is_ok());
-    assert!(rt; load(&mut scene, rt.alloc(), 3).is_ok());
-    assert!(rt; scene.settings().penalty == 9 && scene.next_edge() == 4);
-    assert!(rt; are_as_changed(&scene));
+fn change_and_load(scene: &mut Scene, alloc: Global) -> Result<(), SceneFault> {
+    edit_all_twice(scene, &SMALL)?;
+    edit_all_twice(scene, &CHANGES)?;
+    load(scene, alloc, 3)
 }
 
+fn make(scene: &mut Scene, alloc: Global, made: Made) -> Result<(), SceneFault> {
+    match made {
+        Made::Small => edit_all(scene, &SMALL),
+        Made::Full => add_all(scene),
+        Made::Loaded(number) => edit_and_load(scene, alloc, number),
+        Made::Changed => change_and_load(scene, alloc),
+    }
+}
+
+/// What must be so in a scene.
+#[derive(Clone, Copy)]
+enum Claim {
+    RefusesInOrder,
+    KeepsLimits,
+    HasNextEdge(u32),
+    HasNoNumberLeft,
+    IsChanged,
+    HasFloor,
+    HasFirstTask,
+    /// The task of the edge has so many starts.
+    HasStarts(u32, usize),
+}
+
+/// The place of what is wrong, which is 0 for a claim without rows.
+fn first_if_not(so: bool) -> Option<usize> {
+    if so { None } else { Some(0) }
+}
+
+/// The place of the first row that is wrong, if the claim does not hold.
+fn wrong_in(scene: &mut Scene, alloc: Global, claim: Claim) -> Option<usize> {
+    match claim {
+        Claim::RefusesInOrder => first_wrong(scene, &REFUSALS),
+        Claim::KeepsLimits => first_beyond_limits(scene, alloc),
+        Claim::HasNextEdge(number) => first_if_not(scene.next_edge() == number),
+        Claim::HasNoNumberLeft => first_wrong(scene, &NO_NUMBER_LEFT),
+        Claim::IsChanged => first_if_not(are_as_changed(scene)),
+        Claim::HasFloor => first_if_not(has_floor(scene)),
+        Claim::HasFirstTask => first_if_not(has_first_task(scene)),
+        Claim::HasStarts(number, count) => {
+            first_if_not(count_of_starts(scene, number) == Some(count))
+        }
+    }
+}
+
+fn made_and_wrong_in(
+    scene: &mut Scene,
+    alloc: Global,
+    made: Made,
+    claim: Claim,
+) -> Result<Option<usize>, SceneFault> {
+    make(scene, alloc, made)?;
+    Ok(wrong_in(scene, alloc, claim))
+}
+
+/// The same of a new scene that is made so.
+fn wrong(alloc: Global, made: Made, claim: Claim) -> Result<Option<usize>, SceneFault> {
+    let mut scene = Scene::new(alloc);
+    made_and_wrong_in(&mut scene, alloc, made, claim)
+}
+
+const LAST: u32 = 4_294_967_294;
+
+const CLAIMS: [(Made, Claim, &str); 8] = [
+    (Made::Small, Claim::RefusesInOrder, "refusals in order"),
+    (Made::Full, Claim::KeepsLimits, "limits"),
+    (
+        Made::Loaded(LAST),
+        Claim::HasNextEdge(u32::MAX),
+        "the last number",
+    ),
+    (Made::Loaded(LAST), Claim::HasNoNumberLeft, "no number left"),
+    (
+        Made::Changed,
+        Claim::IsChanged,
+        "each edit, also taken back",
+    ),
+    (Made::Loaded(3), Claim::HasFloor, "the floor"),
+    (Made::Loaded(3), Claim::HasFirstTask, "the first task"),
+    (
+        Made::Loaded(3),
+        Claim::HasStarts(3, 4),
+        "the task of a loaded edge",
+    ),
+];
+
 #[test]
-fn sees_floor_and_tasks(rt: HostRuntime) {
-    let mut scene = Scene::new(rt.alloc());
-    assert!(rt; edit_all(&mut scene, &SMALL).is_ok());
-    assert!(rt; load(&mut scene, rt.alloc(), 3).is_ok());
-    assert!(rt; has_floor(&scene));
-    assert!(rt; has_first_task(&scene));
-    assert_eq!(rt; count_of_starts(&scene, 3), Some(4));
+fn is_as_claimed(rt: HostRuntime) {
+    for &(made, claim, name) in &CLAIMS {
+        assert_eq!(rt; wrong(rt.alloc(), made, claim), Ok(None), "{name}");
+    }
 }

@@ -35,17 +35,23 @@ fn are_all(parts: &TxnParts) -> bool {
         && parts.scene.node(255).is_some()
 }
 
+/// The faults of all nodes, of one more, and of an edge.
+fn faults(txn: &mut Txn) -> [Option<SceneFault>; 3] {
+    [
+        add_nodes(txn).err(),
+        add_node(txn, 256).err(),
+        connect(txn, 3, 200).err(),
+    ]
+}
+
 #[test]
 fn keeps_edits_and_inverses(rt: HostRuntime) {
     let scene = Scene::new(rt.alloc());
     let mut txn = Txn::begin(rt.alloc(), &scene).expect(&rt, "no memory for the transaction");
-    assert_eq!(rt; add_nodes(&mut txn), Ok(()));
     assert_eq!(rt;
-        add_node(&mut txn, 256),
-        Err(SceneFault::TooMany { limit: 256 })
+        faults(&mut txn),
+        [None, Some(SceneFault::TooMany { limit: 256 }), None]
     );
-    assert_eq!(rt; connect(&mut txn, 3, 200), Ok(()));
     assert!(rt; txn.working().edge(1).is_some() && scene.edge(1).is_none());
-    let parts = txn.into_parts();
-    assert!(rt; are_all(&parts));
+    assert!(rt; are_all(&txn.into_parts()));
 }
