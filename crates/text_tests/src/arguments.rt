@@ -67,8 +67,8 @@ fn is_long_one_taken(alloc: Global) -> Result<bool, AllocError> {
 fn takes_every_argument(rt: HostRuntime) -> Result<(), Fail> {
     let alloc = rt.alloc();
     for &(lines, want) in &ROWS {
-        assert_eq!(rt; are_taken(alloc, lines, want)?, true);
+        assert!(rt; are_taken(alloc, lines, want)?, "{want}");
     }
-    assert_eq!(rt; is_long_one_taken(alloc)?, true);
+    assert!(rt; is_long_one_taken(alloc)?, "a long one");
     Ok(())
 }

@@ -113,45 +113,56 @@ fn repeated(alloc: Global, text: &[u8], times: usize) -> Result<Vec<u8>, AllocEr
     Ok(bytes)
 }
 
+/// Whether the bytes have this printed form.
+fn is_printed(alloc: Global, bytes: &[u8], want: &[u8]) -> Result<bool, Fail> {
+    Ok(printed(alloc, bytes)?.as_slice() == want)
+}
+
+/// Documents, and their printed forms.
+const PRINTED: [(&str, &str); 9] = [
+    ("", ""),
+    ("\r\n# nothing", ""),
+    ("a 1#c", "a 1\n"),
+    ("a 1#c\nb#d\n-.5E+07", "a 1\nb -.5E+07\n"),
+    ("a \"x\"b 2", "a \"x\"\nb 2\n"),
+    ("a[b 1]c 2", "a [\n  b 1\n]\nc 2\n"),
+    ("a\"#\r\n&quot;\"_b\r+1.", "a \"#\r\n&quot;\"\n_b +1.\n"),
+    ("a[]", "a [\n]\n"),
+    (EDITOR_FILE, EDITOR_FILE_PRINTED),
+];
+
 #[test]
 fn reads_documents(rt: HostRuntime) -> Result<(), Fail> {
-    let rows = [
-        ("", ""),
-        ("\r\n# nothing", ""),
-        ("a 1#c", "a 1\n"),
-        ("a 1#c\nb#d\n-.5E+07", "a 1\nb -.5E+07\n"),
-        ("a \"x\"b 2", "a \"x\"\nb 2\n"),
-        ("a[b 1]c 2", "a [\n  b 1\n]\nc 2\n"),
-        ("a\"#\r\n&quot;\"_b\r+1.", "a \"#\r\n&quot;\"\n_b +1.\n"),
-        ("a[]", "a [\n]\n"),
-        (EDITOR_FILE, EDITOR_FILE_PRINTED),
-    ];
-    for (text, want) in rows {
-        let out = printed(rt.alloc(), text.as_bytes())?;
-        assert_eq!(rt; out.as_slice(), want.as_bytes(), "{text}");
+    for &(text, want) in &PRINTED {
+        assert!(rt;
+            is_printed(rt.alloc(), text.as_bytes(), want.as_bytes())?,
+            "{text}"
+        );
     }
     Ok(())
 }
 
+/// Texts, and the first byte that no document has there.
+const REFUSED: [(&str, u64); 12] = [
+    ("graph [ label \"ab", 17),
+    ("graph 1a", 7),
+    ("graph 1e", 8),
+    ("graph [", 7),
+    ("x 1 2", 4),
+    ("\0", 0),
+    ("a 1b 2", 3),
+    ("a+1", 1),
+    ("a .e1", 3),
+    ("a #c", 4),
+    ("]", 0),
+    ("a[]]", 3),
+];
+
 #[test]
 fn refuses_the_first_byte_that_no_document_has_there(rt: HostRuntime) {
-    let rows = [
-        ("graph [ label \"ab", 17),
-        ("graph 1a", 7),
-        ("graph 1e", 8),
-        ("graph [", 7),
-        ("x 1 2", 4),
-        ("\0", 0),
-        ("a 1b 2", 3),
-        ("a+1", 1),
-        ("a .e1", 3),
-        ("a #c", 4),
-        ("]", 0),
-        ("a[]]", 3),
-    ];
-    for (text, at) in rows {
+    for &(text, at) in &REFUSED {
         let fault = parse(rt.alloc(), text.as_bytes()).err();
-        assert_eq!(rt; fault, Some(GmlFault::Syntax { at }), "{text}");
+        assert!(rt; fault == Some(GmlFault::Syntax { at }), "{text}");
     }
 }
 
@@ -170,16 +181,18 @@ fn fault_of(alloc: Global, opened: usize, closed: usize) -> Result<Option<GmlFau
     Ok(parse(alloc, &bytes).err())
 }
 
+/// Numbers of lists that are opened and of closing brackets, and the fault.
+const LISTS: [(usize, usize, Option<GmlFault>); 3] = [
+    (65, 0, Some(GmlFault::TooDeep { at: 129 })),
+    (64, 0, Some(GmlFault::Syntax { at: 128 })),
+    (64, 64, None),
+];
+
 #[test]
 fn reads_lists_up_to_the_limit(rt: HostRuntime) -> Result<(), Fail> {
-    let rows = [
-        (65, 0, Some(GmlFault::TooDeep { at: 129 })),
-        (64, 0, Some(GmlFault::Syntax { at: 128 })),
-        (64, 64, None),
-    ];
-    for (opened, closed, want) in rows {
+    for &(opened, closed, want) in &LISTS {
         let fault = fault_of(rt.alloc(), opened, closed)?;
-        assert_eq!(rt; fault, want, "{opened} and {closed}");
+        assert!(rt; fault == want, "{opened} and {closed}");
     }
     Ok(())
 }
@@ -204,21 +217,26 @@ fn found(alloc: Global, text: &[u8], key: &[u8]) -> Result<Option<usize>, GmlFau
     Ok(find(&doc.pairs, key))
 }
 
-#[test]
-fn reads_and_prints_a_megabyte(rt: HostRuntime) -> Result<(), Fail> {
-    let text = repeated(rt.alloc(), b"a 1\nb [\n  c \"x\"\n]\n", 60_000)?;
-    assert_eq!(rt; found(rt.alloc(), &text, b"c")?, None);
-    let out = printed(rt.alloc(), &text)?;
-    assert!(rt; out.as_slice() == text.as_slice());
-    Ok(())
+/// Whether the printed form of the bytes, which have no key `c` but in lists, is what they are.
+fn is_as_printed(alloc: Global, bytes: &[u8]) -> Result<bool, Fail> {
+    Ok(found(alloc, bytes, b"c")?.is_none() && is_printed(alloc, bytes, bytes)?)
 }
 
 #[test]
+fn reads_and_prints_a_megabyte(rt: HostRuntime) -> Result<(), Fail> {
+    let text = repeated(rt.alloc(), b"a 1\nb [\n  c \"x\"\n]\n", 60_000)?;
+    assert!(rt; is_as_printed(rt.alloc(), &text)?);
+    Ok(())
+}
+
+/// Keys, and the index of the first pair with each.
+const KEYS: [(&str, Option<usize>); 3] = [("b", Some(1)), ("c", Some(3)), ("d", None)];
+
+#[test]
 fn finds_the_first_pair_with_the_key(rt: HostRuntime) -> Result<(), Fail> {
-    let rows: [(&str, Option<usize>); 3] = [("b", Some(1)), ("c", Some(3)), ("d", None)];
-    for (key, place) in rows {
+    for &(key, place) in &KEYS {
         let text = b"a 1 b [ c 2 ] b 3 c 4";
-        assert_eq!(rt; found(rt.alloc(), text, key.as_bytes())?, place, "{key}");
+        assert!(rt; found(rt.alloc(), text, key.as_bytes())? == place, "{key}");
     }
     Ok(())
 }

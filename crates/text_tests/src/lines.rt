@@ -9,7 +9,7 @@ use report_text::{
 };
 use route_check::Breach;
 use scene_model::{SceneFault, SessionFault};
-use std::alloc::AllocError;
+use std::alloc::{AllocError, Global};
 use std::test::Fail;
 
 /// The lines for arguments and files.
@@ -21,16 +21,7 @@ fn push_file_lines(out: &mut Vec<u8>) -> Result<(), AllocError> {
     push_gml_fault_line(out, &GmlFault::TooDeep { at: u64::MAX })
 }
 
-#[test]
-fn says_why_nothing_is_read(rt: HostRuntime) -> Result<(), Fail> {
-    let mut out = Vec::new(rt.alloc());
-    push_file_lines(&mut out)?;
-    let expected = "words: not understood\nread fault: d.gml\ntoo long: d.gml limit 16777216\n\
-        diagram: Syntax at 17\ndiagram: TooDeep at 18446744073709551615\n";
-    assert_eq!(rt; out.as_slice(), expected.as_bytes());
-    Ok(())
-}
-
+/// Each fault of a diagram.
 const FAULTS: [DiagramFault; 16] = [
     DiagramFault::NoGraph,
     DiagramFault::BadNumber {
@@ -62,18 +53,11 @@ const FAULTS: [DiagramFault; 16] = [
     DiagramFault::BadWeight { place: 7 },
 ];
 
-#[test]
-fn says_faults(rt: HostRuntime) -> Result<(), Fail> {
-    let mut out = Vec::new(rt.alloc());
+/// The lines for faults of diagrams.
+fn push_fault_lines(out: &mut Vec<u8>) -> Result<(), AllocError> {
     for fault in &FAULTS {
-        push_fault_line(&mut out, fault)?;
+        push_fault_line(out, fault)?;
     }
-    let expected = "diagram: NoGraph\ndiagram: BadNumber router\ndiagram: OutOfRange router\n\
-        diagram: TooMany node\ndiagram: BadId node 2\ndiagram: SameId node 256\ndiagram: NoPlace node 1\n\
-        diagram: BadNumber node 3\ndiagram: OutOfRange edge 512\ndiagram: TooMany pin\ndiagram: BadPin node 4\n\
-        diagram: TooMany edge\ndiagram: BadEnd edge 5\ndiagram: TooMany via\ndiagram: BadVia edge 6\n\
-        diagram: BadWeight edge 7\n";
-    assert_eq!(rt; out.as_slice(), expected.as_bytes());
     Ok(())
 }
 
@@ -82,9 +66,9 @@ fn found(edge: u32, finding: Finding) -> EdgeFinding {
     EdgeFinding { edge, finding }
 }
 
-#[test]
-fn says_findings(rt: HostRuntime) -> Result<(), Fail> {
-    let findings = [
+/// Each result of a check.
+fn findings() -> [EdgeFinding; 10] {
+    [
         found(1, Finding::Judged(Ok(248_000))),
         found(2, Finding::Judged(Ok(7))),
         found(3, Finding::Judged(Ok(u64::MAX))),
@@ -101,14 +85,7 @@ fn says_findings(rt: HostRuntime) -> Result<(), Fail> {
             })),
         ),
         found(10, Finding::Judged(Err(Breach::MissesVia { place: 4 }))),
-    ];
-    let mut out = Vec::new(rt.alloc());
-    push_finding_lines(&mut out, &findings)?;
-    let expected = "edge 1: cost 248.000\nedge 2: cost 0.007\nedge 3: cost 18446744073709551.615\n\
-        edge 4: no line\nedge 5: loop\nedge 6: Slanted 1\nedge 7: StartOff\nedge 8: EndOff\n\
-        edge 9: Hits 12 node -3\nedge 10: MissesVia 4\n";
-    assert_eq!(rt; out.as_slice(), expected.as_bytes());
-    Ok(())
+    ]
 }
 
 /// The line of a script on which an edit is refused.
@@ -120,9 +97,9 @@ fn refused(line: u64, fault: SceneFault) -> LineReply {
     }
 }
 
-#[test]
-fn says_refused_edits(rt: HostRuntime) -> Result<(), Fail> {
-    let replies = [
+/// Each refusal of an edit.
+fn refused_edits() -> [LineReply; 11] {
+    [
         refused(4, SceneFault::UnknownNode { id: -7 }),
         refused(5, SceneFault::UnknownEdge { number: 9 }),
         refused(6, SceneFault::NodeExists { id: 1 }),
@@ -139,16 +116,7 @@ fn says_refused_edits(rt: HostRuntime) -> Result<(), Fail> {
             },
         ),
         refused(17, SceneFault::PinInUse { edge: 2 }),
-    ];
-    let mut out = Vec::new(rt.alloc());
-    push_reply_lines(&mut out, false, &replies)?;
-    let expected =
-        "# line 4: X4 UnknownNode -7\n# line 5: X5 UnknownEdge 9\n# line 6: X6 NodeExists 1\n\
-        # line 7: X7 NodeInUse 1\n# line 8: X8 SameNode 1\n# line 9: X9 OutOfRange 3\n\
-        # line 10: X10 PinOutside 2\n# line 11: X11 UnknownPinClass 65536\n# line 12: X12 NoSuchPlace 0\n\
-        # line 13: X13 TooMany 4294967295\n# line 17: X17 PinInUse 2\n";
-    assert_eq!(rt; out.as_slice(), expected.as_bytes());
-    Ok(())
+    ]
 }
 
 /// The replies of a script.
@@ -210,25 +178,90 @@ fn push_report(out: &mut Vec<u8>, count: bool, open_still: bool) -> Result<(), A
     push_routed_lines(out, &ROUTED)
 }
 
-#[test]
-fn says_all_of_a_replay(rt: HostRuntime) -> Result<(), Fail> {
-    let mut out = Vec::new(rt.alloc());
-    push_report(&mut out, true, true)?;
-    let all = "# open: searched 12\n# line 1: X1 Syntax\n# line 2: X2 NoTransaction\n\
+/// What lines are about.
+#[derive(Clone, Copy)]
+enum About {
+    Files,
+    Faults,
+    Findings,
+    RefusedEdits,
+    /// A replay, with the numbers of searches, which leaves a transaction open.
+    All,
+    /// A replay, without them, which does not.
+    Some,
+}
+
+fn push_lines(out: &mut Vec<u8>, about: About) -> Result<(), AllocError> {
+    match about {
+        About::Files => push_file_lines(out),
+        About::Faults => push_fault_lines(out),
+        About::Findings => push_finding_lines(out, &findings()),
+        About::RefusedEdits => push_reply_lines(out, false, &refused_edits()),
+        About::All => push_report(out, true, true),
+        About::Some => push_report(out, false, false),
+    }
+}
+
+/// What lines are about, its name, and the lines.
+const ROWS: [(About, &str, &str); 6] = [
+    (
+        About::Files,
+        "arguments and files",
+        "words: not understood\nread fault: d.gml\ntoo long: d.gml limit 16777216\n\
+        diagram: Syntax at 17\ndiagram: TooDeep at 18446744073709551615\n",
+    ),
+    (
+        About::Faults,
+        "faults of diagrams",
+        "diagram: NoGraph\ndiagram: BadNumber router\ndiagram: OutOfRange router\n\
+        diagram: TooMany node\ndiagram: BadId node 2\ndiagram: SameId node 256\ndiagram: NoPlace node 1\n\
+        diagram: BadNumber node 3\ndiagram: OutOfRange edge 512\ndiagram: TooMany pin\ndiagram: BadPin node 4\n\
+        diagram: TooMany edge\ndiagram: BadEnd edge 5\ndiagram: TooMany via\ndiagram: BadVia edge 6\n\
+        diagram: BadWeight edge 7\n",
+    ),
+    (
+        About::Findings,
+        "findings",
+        "edge 1: cost 248.000\nedge 2: cost 0.007\nedge 3: cost 18446744073709551.615\n\
+        edge 4: no line\nedge 5: loop\nedge 6: Slanted 1\nedge 7: StartOff\nedge 8: EndOff\n\
+        edge 9: Hits 12 node -3\nedge 10: MissesVia 4\n",
+    ),
+    (
+        About::RefusedEdits,
+        "refused edits",
+        "# line 4: X4 UnknownNode -7\n# line 5: X5 UnknownEdge 9\n# line 6: X6 NodeExists 1\n\
+        # line 7: X7 NodeInUse 1\n# line 8: X8 SameNode 1\n# line 9: X9 OutOfRange 3\n\
+        # line 10: X10 PinOutside 2\n# line 11: X11 UnknownPinClass 65536\n# line 12: X12 NoSuchPlace 0\n\
+        # line 13: X13 TooMany 4294967295\n# line 17: X17 PinInUse 2\n",
+    ),
+    (
+        About::All,
+        "all of a replay",
+        "# open: searched 12\n# line 1: X1 Syntax\n# line 2: X2 NoTransaction\n\
         # line 4: X3 AlreadyOpen\n# line 6: searched 1\n# line 10: searched 0\n\
         # line 14: X14 NothingToUndo\n# line 404: X15 NothingToRedo\n# end: X16 Unfinished\n\
-        # edge 1: cost 248.000\n# edge 2: no route\n# edge 3: loop\n";
-    assert_eq!(rt; out.as_slice(), all.as_bytes());
-    Ok(())
+        # edge 1: cost 248.000\n# edge 2: no route\n# edge 3: loop\n",
+    ),
+    (
+        About::Some,
+        "some of a replay",
+        "# line 1: X1 Syntax\n# line 2: X2 NoTransaction\n# line 4: X3 AlreadyOpen\n\
+        # line 14: X14 NothingToUndo\n# line 404: X15 NothingToRedo\n\
+        # edge 1: cost 248.000\n# edge 2: no route\n# edge 3: loop\n",
+    ),
+];
+
+/// Whether these are the lines.
+fn are_lines(alloc: Global, about: About, want: &str) -> Result<bool, AllocError> {
+    let mut out = Vec::new(alloc);
+    push_lines(&mut out, about)?;
+    Ok(out.as_slice() == want.as_bytes())
 }
 
 #[test]
-fn says_some_of_a_replay(rt: HostRuntime) -> Result<(), Fail> {
-    let mut out = Vec::new(rt.alloc());
-    push_report(&mut out, false, false)?;
-    let some = "# line 1: X1 Syntax\n# line 2: X2 NoTransaction\n# line 4: X3 AlreadyOpen\n\
-        # line 14: X14 NothingToUndo\n# line 404: X15 NothingToRedo\n\
-        # edge 1: cost 248.000\n# edge 2: no route\n# edge 3: loop\n";
-    assert_eq!(rt; out.as_slice(), some.as_bytes());
+fn says_each_kind_of_line(rt: HostRuntime) -> Result<(), Fail> {
+    for &(about, name, want) in &ROWS {
+        assert!(rt; are_lines(rt.alloc(), about, want)?, "{name}");
+    }
     Ok(())
 }

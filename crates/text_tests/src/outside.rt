@@ -48,10 +48,13 @@ fn named(alloc: Global, name: &str, bytes: &str) -> Result<NamedFile, AllocError
     })
 }
 
+/// Names and bytes of files, of which two have one name.
+const FILES: [(&str, &str); 3] = [("a", "first"), ("b", "0123456789"), ("a", "second")];
+
 /// The files in memory.
 fn files(alloc: Global) -> Result<Vec<NamedFile>, AllocError> {
     let mut files = Vec::new(alloc);
-    for (name, bytes) in [("a", "first"), ("b", "0123456789"), ("a", "second")] {
+    for &(name, bytes) in &FILES {
         files.push(named(alloc, name, bytes)?)?;
     }
     Ok(files)
@@ -70,59 +73,80 @@ fn answers<F: Folder>(
     }
 }
 
+/// Reads one after the other, of which the fourth fails: the name, the limit and the result.
+const READS: [(&str, u64, Result<&str, FolderFault>); 5] = [
+    ("a", 5, Ok("first")),
+    ("b", 9, Err(FolderFault::TooLong { limit: 9 })),
+    ("c", 9, Err(FolderFault::Failed)),
+    ("b", 10, Err(FolderFault::Failed)),
+    ("b", 10, Ok("0123456789")),
+];
+
+/// The first of the reads with another result, from 1, or 0 where none has.
+fn wrong_read(folder: &mut MemFolder) -> usize {
+    for (place, &(name, limit, want)) in READS.iter().enumerate() {
+        let is_so = match want {
+            Ok(text) => answers(folder, name, limit, Ok(text.as_bytes())),
+            Err(fault) => answers(folder, name, limit, Err(fault)),
+        };
+        if !is_so {
+            return place.saturating_add(1);
+        }
+    }
+    0
+}
+
 #[test]
 fn reads_files_in_memory(rt: HostRuntime) -> Result<(), Fail> {
     let alloc = rt.alloc();
     let fails = vec![in alloc; 4]?;
     let mut folder = MemFolder::new(alloc, files(alloc)?, fails);
-    let reads = [
-        ("a", 5, Ok("first")),
-        ("b", 9, Err(FolderFault::TooLong { limit: 9 })),
-        ("c", 9, Err(FolderFault::Failed)),
-        ("b", 10, Err(FolderFault::Failed)),
-        ("b", 10, Ok("0123456789")),
-    ];
-    for (name, limit, want) in reads {
-        let want = want.map(|text: &str| text.as_bytes());
-        assert!(rt; answers(&mut folder, name, limit, want), "of {name}");
-    }
+    assert_eq!(rt; wrong_read(&mut folder), 0);
     Ok(())
 }
 
-/// Whether everything is written as expected, and held after it, by a sink that takes a given
-/// number of bytes at once and fails at the given call.
-fn writes(mut sink: MemSink, text: &str, want: Result<(), WriteFailed>, held: &str) -> bool {
+/// A text that is written.
+const TEXT: &str = "# edge 1: cost 100.000\n";
+
+/// How many bytes a sink takes at once and which of its calls fails, the result of writing the
+/// text, and what is held after it.
+const WRITES: [(usize, u64, Result<(), WriteFailed>, &str); 6] = [
+    (10, 0, Ok(()), TEXT),
+    (1, 0, Ok(()), TEXT),
+    (10, 1, Err(WriteFailed), ""),
+    (10, 2, Err(WriteFailed), "# edge 1: "),
+    (10, 3, Err(WriteFailed), "# edge 1: cost 100.0"),
+    (10, 4, Ok(()), TEXT),
+];
+
+/// Whether the text is written as expected by the sink, and held after it.
+fn writes(mut sink: MemSink, want: Result<(), WriteFailed>, held: &str) -> bool {
     let none = sink.write(b"");
-    let written = write_all_to(&mut sink, text.as_bytes());
+    let written = write_all_to(&mut sink, TEXT.as_bytes());
     none == Ok(0) && written == want && sink.held() == held.as_bytes()
 }
 
 #[test]
 fn writes_in_memory(rt: HostRuntime) -> Result<(), Fail> {
     let alloc = rt.alloc();
-    let text = "# edge 1: cost 100.000\n";
-    let rows = [
-        (10, 0, Ok(()), text),
-        (1, 0, Ok(()), text),
-        (10, 1, Err(WriteFailed), ""),
-        (10, 2, Err(WriteFailed), "# edge 1: "),
-        (10, 3, Err(WriteFailed), "# edge 1: cost 100.0"),
-        (10, 4, Ok(()), text),
-    ];
-    for (most, failing, want, held) in rows {
+    for &(most, failing, want, held) in &WRITES {
         let sink = MemSink::new(alloc, most, vec![in alloc; failing]?);
-        assert!(rt; writes(sink, text, want, held), "{most} at {failing}");
+        assert!(rt; writes(sink, want, held), "{most} at {failing}");
     }
     Ok(())
 }
 
+/// Whether the bytes are written at once and held after it.
+fn is_written(alloc: Global, bytes: &[u8]) -> bool {
+    let mut sink = MemSink::new(alloc, MEGABYTE, Vec::new(alloc));
+    let written = sink.write(bytes);
+    written == Ok(bytes.len()) && sink.held() == bytes
+}
+
 #[test]
 fn writes_a_megabyte_in_memory(rt: HostRuntime) -> Result<(), Fail> {
-    let alloc = rt.alloc();
-    let large = vec![in alloc; b'x'; MEGABYTE]?;
-    let mut sink = MemSink::new(alloc, MEGABYTE, Vec::new(alloc));
-    assert_eq!(rt; sink.write(&large), Ok(MEGABYTE));
-    assert!(rt; sink.held() == large.as_slice());
+    let large = vec![in rt.alloc(); b'x'; MEGABYTE]?;
+    assert!(rt; is_written(rt.alloc(), &large));
     Ok(())
 }
 
@@ -196,29 +220,32 @@ fn reads_a_real_megabyte(rt: HostRuntime) -> Result<(), Fail> {
     Ok(())
 }
 
-#[test]
-fn reads_no_missing_file_and_no_directory(rt: HostRuntime) -> Result<(), Fail> {
-    let name = file_name(&rt, "missing")?;
-    let directory = directory(&rt)?;
-    let mut folder = DiskFolder::new(rt.alloc(), &rt);
-    for name in [name.as_str(), directory.as_str()] {
-        assert!(rt;
-            answers(&mut folder, name, 10, Err(FolderFault::Failed)),
-            "{name}"
-        );
-    }
-    Ok(())
+/// Whether a read of what has this name fails.
+fn is_no_file(rt: &HostRuntime, name: String) -> bool {
+    let mut folder = DiskFolder::new(rt.alloc(), rt);
+    answers(&mut folder, name.as_str(), 10, Err(FolderFault::Failed))
 }
 
 #[test]
-fn writes_to_standard_output(rt: HostRuntime) -> Result<(), Fail> {
-    let mut sink = StdSink::new(&rt);
-    assert_eq!(rt; sink.write(b""), Ok(0));
-    assert_eq!(rt;
-        write_all_to(&mut sink, b"written to standard output\n"),
-        Ok(())
+fn reads_no_missing_file_and_no_directory(rt: HostRuntime) -> Result<(), Fail> {
+    assert!(rt;
+        is_no_file(&rt, file_name(&rt, "missing")?),
+        "a missing file"
     );
+    assert!(rt; is_no_file(&rt, directory(&rt)?), "a directory");
     Ok(())
+}
+
+/// Whether nothing, and then a line, is written to standard output.
+fn prints_a_line(rt: &HostRuntime) -> bool {
+    let mut sink = StdSink::new(rt);
+    let none = sink.write(b"");
+    none == Ok(0) && write_all_to(&mut sink, b"written to standard output\n") == Ok(())
+}
+
+#[test]
+fn writes_to_standard_output(rt: HostRuntime) {
+    assert!(rt; prints_a_line(&rt));
 }
 
 /// A standard output that takes at most three bytes of a piece and keeps what it took.
@@ -256,18 +283,29 @@ impl Print for Page {
     }
 }
 
+/// Pieces that are written one after the other.
+const PIECES: [&str; 5] = ["one", "", "two, three", "4", "five and six\n"];
+
+/// Whether each piece is written to the page.
+fn are_written(page: &Page) -> bool {
+    let mut sink = StdSink::new(page);
+    for piece in &PIECES {
+        if write_all_to(&mut sink, piece.as_bytes()) != Ok(()) {
+            return false;
+        }
+    }
+    true
+}
+
 #[test]
-fn writes_each_piece_once_and_in_order(rt: HostRuntime) -> Result<(), Fail> {
+fn writes_each_piece_once_and_in_order(rt: HostRuntime) {
     let page = Page {
         kept: RefCell::new(Vec::new(rt.alloc())),
     };
-    let mut sink = StdSink::new(&page);
-    for piece in ["one", "", "two, three", "4", "five and six\n"] {
-        assert_eq!(rt; write_all_to(&mut sink, piece.as_bytes()), Ok(()));
-    }
+    let written = are_written(&page);
     let kept = page.kept.into_inner();
+    assert!(rt; written);
     assert!(rt; kept.as_slice() == b"onetwo, three4five and six\n".as_slice());
-    Ok(())
 }
 
 /// A closed standard output.
@@ -290,5 +328,5 @@ impl Print for Closed {
 #[test]
 fn reports_a_closed_output(rt: HostRuntime) {
     let mut sink = StdSink::new(&Closed);
-    assert_eq!(rt; sink.write(b"lost"), Err(WriteFailed));
+    assert!(rt; sink.write(b"lost") == Err(WriteFailed));
 }
