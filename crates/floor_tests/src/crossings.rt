@@ -73,6 +73,22 @@ fn put(arena: &mut LineArena, line: Line) -> Option<LineId>
     Some(arena.put_line(line))
 }
 
+/// Whether the first line is vertical and the second horizontal.
+fn are_down_and_across(down: &Line, across: &Line) -> bool
+    ensures down_runs { IsTrue result → down.now.way ≡ Vertical }
+    ensures across_runs { IsTrue result → across.now.way ≡ Horizontal }
+{
+    matches!((down.way, across.way), (Way::Vertical, Way::Horizontal))
+}
+
+/// Whether the line reaches to the coordinate.
+fn reaches(line: &Line, at: i64) -> bool
+    ensures from { IsTrue result → line.now.lo ≤ℤ at }
+    ensures to { IsTrue result → at ≤ℤ line.now.hi }
+{
+    line.lo <= at && at <= line.hi
+}
+
 /// Whether these are a vertical and a horizontal line that share a point.
 fn do_cross(down: &Line, across: &Line) -> bool
     ensures down_runs { IsTrue result → down.now.way ≡ Vertical }
@@ -82,12 +98,7 @@ fn do_cross(down: &Line, across: &Line) -> bool
     ensures across_from { IsTrue result → across.now.lo ≤ℤ down.now.at }
     ensures across_to { IsTrue result → down.now.at ≤ℤ across.now.hi }
 {
-    down.way == Way::Vertical
-        && across.way == Way::Horizontal
-        && down.lo <= across.at
-        && across.at <= down.hi
-        && across.lo <= down.at
-        && down.at <= across.hi
+    are_down_and_across(down, across) && reaches(down, across.at) && reaches(across, down.at)
 }
 
 /// Where the whole lines meet.
@@ -232,8 +243,19 @@ fn first_of(arena: &LineArena, line: Line) -> Option<Point> {
     Some(arena.point(first))
 }
 
-/// Whether the line of the grid is walked along as expected, and begins at the start of a walk to
-/// the east or south.
+/// Whether the line of the grid begins at the point, if the direction is from its start.
+fn begins_at(arena: &LineArena, at: u8, dir: Dir, first: Option<&Point>) -> bool {
+    matches!(dir, Dir::West | Dir::North)
+        || first_of(arena, grid_line(dir.way(), at)) == first.copied()
+}
+
+/// Whether the line of the grid has just these points in the direction, and begins at the first of
+/// them in a walk to the east or south.
+fn has_just(arena: &LineArena, at: u8, dir: Dir, want: &[Point]) -> bool {
+    walks(arena, want, dir) && begins_at(arena, at, dir, want.first())
+}
+
+/// Whether the line of the grid is walked along as expected.
 fn walks_line(
     alloc: Global,
     arena: &LineArena,
@@ -242,11 +264,7 @@ fn walks_line(
     half: bool,
 ) -> Result<bool, AllocError> {
     let want = expected(alloc, at, dir, half)?;
-    let first = match dir {
-        Dir::East | Dir::South => first_of(arena, grid_line(dir.way(), at)),
-        Dir::West | Dir::North => want.first().copied(),
-    };
-    Ok(walks(arena, want.as_slice(), dir) && first == want.first().copied())
+    Ok(has_just(arena, at, dir, want.as_slice()))
 }
 
 /// Whether every line of the grid is walked along as expected, in both directions.
@@ -279,37 +297,55 @@ fn finds_just_these(arena: &LineArena, half: bool) -> bool {
     true
 }
 
+/// The number of crossings of the grid.
+const CROSSINGS: u32 = 900;
+
+/// Toggles the crossing of the number, unless there are enough and its place is odd.
+fn toggle_place(arena: &mut LineArena, number: u32) -> Result<(), AllocError>
+    requires { number < 900 }
+{
+    let (column, row) = ((number % 30) as u8, (number / 30) as u8);
+    if arena.written() >= 960 && is_odd(column, row) {
+        return Ok(());
+    }
+    toggle(arena, column, row)
+}
+
 /// Toggles each crossing of the grid once, in an order that the step determines: all of them until
 /// all are there, and then every other one.
 fn toggle_all(arena: &mut LineArena, step: u16) -> Result<(), AllocError> {
-    let all = u16::from(SIDE) * u16::from(SIDE);
-    for turn in 0..all {
-        let place = (u32::from(turn) * u32::from(step) % u32::from(all)) as u16;
-        let (column, row) = ((place % 30) as u8, (place / 30) as u8);
-        if arena.written() < 960 || !is_odd(column, row) {
-            toggle(arena, column, row)?;
-        }
+    for turn in 0..CROSSINGS {
+        toggle_place(arena, turn * u32::from(step) % CROSSINGS)?;
     }
     Ok(())
 }
 
-/// Whether the grid is as expected each time: filled, halved and filled again.
-fn stands_each_time(alloc: Global, arena: &mut LineArena, step: u16) -> Result<bool, AllocError> {
-    put_grid(arena)?;
-    for &half in &[false, true, false] {
-        toggle_all(arena, step)?;
-        if !stands(alloc, arena, half)? || !finds_just_these(arena, half) {
-            return Ok(false);
-        }
-    }
-    Ok(true)
+/// Toggles each crossing, and returns whether the grid is then as expected.
+fn stands_after(
+    alloc: Global,
+    arena: &mut LineArena,
+    step: u16,
+    half: bool,
+) -> Result<bool, AllocError> {
+    toggle_all(arena, step)?;
+    Ok(stands(alloc, arena, half)? && finds_just_these(arena, half))
 }
 
-/// The value of `written`, if the grid is as expected each time.
+/// The value of `written`, if the grid is as expected each time: filled, halved and filled again.
+fn written_in(alloc: Global, arena: &mut LineArena, step: u16) -> Result<Option<u64>, AllocError> {
+    put_grid(arena)?;
+    for &half in &[false, true, false] {
+        if !stands_after(alloc, arena, step, half)? {
+            return Ok(None);
+        }
+    }
+    Ok(Some(arena.written()))
+}
+
+/// The same in a new arena.
 fn written(alloc: Global, step: u16) -> Result<Option<u64>, AllocError> {
     let mut arena = LineArena::new(alloc);
-    let stands = stands_each_time(alloc, &mut arena, step);
-    stands.map(|stands| stands.then_some(arena.written()))
+    written_in(alloc, &mut arena, step)
 }
 
 #[test]
@@ -352,55 +388,41 @@ fn answers(arena: &mut LineArena) -> Result<bool, AllocError> {
     Ok(stands && first_of(arena, column).is_none())
 }
 
-#[test]
-fn answers_each_call(rt: HostRuntime) {
-    let mut arena = LineArena::new(rt.alloc());
-    let answered = answers(&mut arena);
-    assert!(rt; matches!(answered, Ok(true)));
-}
-
 /// Adds the crossings of the grid at these columns and rows, one after another.
 fn put_all(arena: &mut LineArena, places: &[(u8, u8)]) -> Result<(), AllocError> {
-    for (column, row) in places {
-        toggle(arena, *column % SIDE, *row % SIDE)?;
+    for &(column, row) in places {
+        toggle(arena, column, row)?;
     }
     Ok(())
 }
 
-/// The points of the grid at these columns and rows.
-fn points_at(alloc: Global, places: &[(u8, u8)]) -> Result<Vec<Point>, AllocError> {
-    let mut points = Vec::new(alloc);
-    for (column, row) in places {
-        points.push(grid_point(*column, *row))?;
-    }
-    Ok(points)
-}
-
-/// Whether a walk in the direction from the first of these columns and rows passes exactly these,
-/// and so does the walk back.
-fn joins(
-    alloc: Global,
-    arena: &LineArena,
-    places: &[(u8, u8)],
-    dir: Dir,
-) -> Result<bool, AllocError> {
-    let mut points = points_at(alloc, places)?;
-    let there = walks(arena, points.as_slice(), dir);
-    points.reverse();
-    Ok(there && walks(arena, points.as_slice(), dir.opposite()))
+/// Whether a walk in the direction from the first of the points passes exactly these, and so does
+/// the walk back.
+fn joins(alloc: Global, arena: &LineArena, points: &[Point], dir: Dir) -> Result<bool, AllocError> {
+    let mut back = Vec::from_slice(alloc, points)?;
+    back.reverse();
+    Ok(walks(arena, points, dir) && walks(arena, back.as_slice(), dir.opposite()))
 }
 
 /// The crossing to the north of (5, 12) has one to its west, which leads south to this row. That of
 /// (11, 12) leads to another row. (15, 12) has none to the north, and those of (16, 12) and (17,
 /// 12) lead nowhere.
-const ROW: [(u8, u8); 7] = [
-    (2, 12),
-    (5, 12),
-    (11, 12),
-    (15, 12),
-    (16, 12),
-    (17, 12),
-    (20, 12),
+const ROW: [Point; 7] = [
+    Point { x: 2, y: 12 },
+    Point { x: 5, y: 12 },
+    Point { x: 11, y: 12 },
+    Point { x: 15, y: 12 },
+    Point { x: 16, y: 12 },
+    Point { x: 17, y: 12 },
+    Point { x: 20, y: 12 },
+];
+
+/// A column that crosses the row, after more crossings were added.
+const COLUMN: [Point; 4] = [
+    Point { x: 5, y: 10 },
+    Point { x: 5, y: 12 },
+    Point { x: 5, y: 15 },
+    Point { x: 5, y: 20 },
 ];
 
 /// In the order in which they are added.
@@ -429,15 +451,7 @@ fn joins_between(alloc: Global, arena: &mut LineArena) -> Result<bool, AllocErro
     let row = joins(alloc, arena, &ROW, Dir::East)?;
     // The crossing to the west of (5, 15) has one to its north, which leads east to this column.
     put_all(arena, &[(5, 20), (2, 15), (5, 15)])?;
-    let column = [(5, 10), (5, 12), (5, 15), (5, 20)];
-    Ok(row && joins(alloc, arena, &column, Dir::South)?)
-}
-
-#[test]
-fn puts_between_others(rt: HostRuntime) {
-    let mut arena = LineArena::new(rt.alloc());
-    let joined = joins_between(rt.alloc(), &mut arena);
-    assert_eq!(rt; joined.ok(), Some(true));
+    Ok(row && joins(alloc, arena, &COLUMN, Dir::South)?)
 }
 
 const LEVEL: Line = Line {
@@ -480,21 +494,30 @@ fn has_dot(arena: &LineArena) -> bool {
 }
 
 fn has_none(arena: &LineArena, places: &[(u8, u8)]) -> bool {
-    places
-        .iter()
-        .all(|(column, row)| found(arena, *column, *row).is_none())
+    for &(column, row) in places {
+        if found(arena, column, row).is_some() {
+            return false;
+        }
+    }
+    true
 }
 
-/// Whether only the row is found, at the second place, whichever place is tried first.
+/// Whether only the row is found, at the second place, where this place is tried first.
+fn finds_row_near(arena: &LineArena, place: usize) -> bool {
+    let Some((id, at)) = arena.line_near(LEVEL, place) else {
+        return false;
+    };
+    at == 1 && arena.line_at(LEVEL) == Some(id) && arena.line_near(DOT, place).is_none()
+}
+
+/// Whether only the row is found, whichever place is tried first.
 fn finds_row(arena: &LineArena) -> bool {
-    let row = arena.line_at(LEVEL);
-    [0, 1, 2].iter().all(|place| {
-        arena.line_near(DOT, *place).is_none()
-            && arena
-                .line_near(LEVEL, *place)
-                .map(|(id, at)| (Some(id), at))
-                == Some((row, 1))
-    })
+    for place in 0..3 {
+        if !finds_row_near(arena, place) {
+            return false;
+        }
+    }
+    true
 }
 
 /// Whether the crossing on the dot, and then the dot, are removed, and the row stays.
@@ -511,9 +534,37 @@ fn fills_and_empties(arena: &mut LineArena) -> Result<bool, AllocError> {
     Ok(filled && stands && empties(arena) && arena.written() == 4)
 }
 
+/// What is done with a new arena.
+#[derive(Clone, Copy)]
+enum Trial {
+    EachCall,
+    BetweenOthers,
+    RoomTaken,
+}
+
+fn passes_in(alloc: Global, arena: &mut LineArena, trial: Trial) -> Result<bool, AllocError> {
+    match trial {
+        Trial::EachCall => answers(arena),
+        Trial::BetweenOthers => joins_between(alloc, arena),
+        Trial::RoomTaken => fills_and_empties(arena),
+    }
+}
+
+fn passes(alloc: Global, trial: Trial) -> Result<bool, AllocError> {
+    let mut arena = LineArena::new(alloc);
+    passes_in(alloc, &mut arena, trial)
+}
+
+const TRIALS: [(&str, Trial); 3] = [
+    ("answers each call", Trial::EachCall),
+    ("puts between others", Trial::BetweenOthers),
+    ("fills just the room taken", Trial::RoomTaken),
+];
+
 #[test]
-fn fills_just_the_room_taken(rt: HostRuntime) {
-    let mut arena = LineArena::new(rt.alloc());
-    let done = fills_and_empties(&mut arena);
-    assert!(rt; matches!(done, Ok(true)));
+fn keeps_lines_and_crossings(rt: HostRuntime) {
+    for &(name, trial) in &TRIALS {
+        let passed = passes(rt.alloc(), trial);
+        assert!(rt; matches!(passed, Ok(true)), "{name}");
+    }
 }

@@ -3,7 +3,7 @@ use crate::small::{Sides, small_floor, tile, tiles_behind};
 use plane_geom::{Line, Point, SHEET_END, SHEET_START, Way};
 use std::alloc::{AllocError, Global};
 use std::test::Fail;
-use visibility_graph::Graph;
+use visibility_graph::{Graph, GraphParts};
 
 fn graph(alloc: Global, rects: &[Sides], anchors: &[(i64, i64)]) -> Result<Graph, AllocError> {
     let floor = small_floor(alloc, rects, anchors)?;
@@ -42,8 +42,8 @@ const COUNTED: [Counted; 6] = [
 
 #[test]
 fn counts_lines_and_crossings(rt: HostRuntime) -> Result<(), Fail> {
-    for &(rects, anchors, want) in &COUNTED {
-        assert_eq!(rt; size(rt.alloc(), rects, anchors)?, want);
+    for (place, &(rects, anchors, want)) in COUNTED.iter().enumerate() {
+        assert_eq!(rt; size(rt.alloc(), rects, anchors)?, want, "in row {place}");
     }
     Ok(())
 }
@@ -88,25 +88,27 @@ fn ends_at_the_solid(graph: &Graph) -> bool {
         && graph.floor().solids.as_slice().len() == 2
 }
 
-#[test]
-fn ends_a_line_at_a_solid(rt: HostRuntime) -> Result<(), Fail> {
-    let graph = graph(rt.alloc(), &OVER, &[])?;
-    assert!(rt; ends_at_the_solid(&graph));
-    Ok(())
+/// Whether the parts are those of the graph of the two solids.
+fn are_its_parts(parts: &GraphParts) -> bool {
+    parts.arena.written() == 7 + 11 && parts.floor.anchors.as_slice().is_empty()
 }
 
 #[test]
-fn keeps_its_parts(rt: HostRuntime) -> Result<(), Fail> {
-    let parts = graph(rt.alloc(), &OVER, &[])?.into_parts();
-    assert_eq!(rt; parts.arena.written(), 7 + 11);
-    assert_eq!(rt; parts.floor.anchors.as_slice().len(), 0);
+fn ends_a_line_at_a_solid_and_keeps_its_parts(rt: HostRuntime) -> Result<(), Fail> {
+    let graph = graph(rt.alloc(), &OVER, &[])?;
+    assert!(rt; ends_at_the_solid(&graph));
+    assert!(rt; are_its_parts(&graph.into_parts()));
     Ok(())
+}
+
+fn is_empty(graph: &Graph) -> bool {
+    !has_line(graph, Way::Vertical, 0, SHEET_START, SHEET_END) && graph.arena().written() == 0
 }
 
 #[test]
 fn is_made_of_its_parts(rt: HostRuntime) {
     let empty = Graph::empty(rt.alloc());
-    assert!(rt; !has_line(&empty, Way::Vertical, 0, SHEET_START, SHEET_END));
+    assert!(rt; is_empty(&empty));
     let again = Graph::from_parts(empty.into_parts());
-    assert_eq!(rt; again.arena().written(), 0);
+    assert!(rt; is_empty(&again));
 }

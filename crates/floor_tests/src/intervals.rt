@@ -2,7 +2,6 @@
 use interval_index::{IntervalIndex, Span};
 use plane_geom::{SHEET_END, SHEET_START};
 use std::alloc::{AllocError, Global};
-use std::test::Fail;
 
 /// Replaces the span under its key.
 fn put(index: &mut IntervalIndex, key: u32, lo: i16, hi: i16) -> Result<(), AllocError> {
@@ -33,8 +32,12 @@ fn touches(index: &IntervalIndex, lo: i64, hi: i64, want: &[u32]) -> Result<bool
 
 /// Whether the free interval around each place is the expected one.
 fn is_free(index: &IntervalIndex, rows: &[(i16, Option<(i64, i64)>)]) -> bool {
-    rows.iter()
-        .all(|(at, want)| free_around(index, *at) == *want)
+    for &(at, want) in rows {
+        if free_around(index, at) != want {
+            return false;
+        }
+    }
+    true
 }
 
 fn finds_free(index: &mut IntervalIndex) -> Result<bool, AllocError> {
@@ -51,13 +54,6 @@ fn finds_free(index: &mut IntervalIndex) -> Result<bool, AllocError> {
     Ok(none && gone && is_free(index, &rows))
 }
 
-#[test]
-fn finds_free_intervals(rt: HostRuntime) {
-    let mut index = IntervalIndex::new(rt.alloc());
-    let found = finds_free(&mut index);
-    assert_eq!(rt; found.ok(), Some(true));
-}
-
 fn lists_touching(index: &mut IntervalIndex) -> Result<bool, AllocError> {
     fill(
         index,
@@ -66,13 +62,6 @@ fn lists_touching(index: &mut IntervalIndex) -> Result<bool, AllocError> {
     let inside = touches(index, 0, 10, &[4, 3, 7, 1])?;
     let beside = touches(index, 10, 11, &[4, 2])?;
     Ok(inside && beside && touches(index, 60, 70, &[])?)
-}
-
-#[test]
-fn lists_touching_spans(rt: HostRuntime) {
-    let mut index = IntervalIndex::new(rt.alloc());
-    let found = lists_touching(&mut index);
-    assert_eq!(rt; found.ok(), Some(true));
 }
 
 /// Adds a thousand spans, in an order that the step determines.
@@ -102,15 +91,40 @@ fn keeps_thousand(index: &mut IntervalIndex, step: u16) -> Result<bool, AllocErr
     Ok(all && two && behind && empties(index))
 }
 
-fn keeps_in_order(alloc: Global, step: u16) -> Result<bool, AllocError> {
-    let mut index = IntervalIndex::new(alloc);
-    keeps_thousand(&mut index, step)
+/// What is done with a new index.
+#[derive(Clone, Copy)]
+enum Trial {
+    FreeIntervals,
+    TouchingSpans,
+    /// The step determines the order in which a thousand spans are added.
+    Thousand(u16),
 }
 
-#[test]
-fn keeps_a_thousand_spans(rt: HostRuntime) -> Result<(), Fail> {
-    for &step in &[1, 999, 7] {
-        assert!(rt; keeps_in_order(rt.alloc(), step)?, "step {step}");
+fn passes_in(index: &mut IntervalIndex, trial: Trial) -> Result<bool, AllocError> {
+    match trial {
+        Trial::FreeIntervals => finds_free(index),
+        Trial::TouchingSpans => lists_touching(index),
+        Trial::Thousand(step) => keeps_thousand(index, step),
     }
-    Ok(())
+}
+
+fn passes(alloc: Global, trial: Trial) -> Result<bool, AllocError> {
+    let mut index = IntervalIndex::new(alloc);
+    passes_in(&mut index, trial)
+}
+
+const TRIALS: [(&str, Trial); 5] = [
+    ("finds free intervals", Trial::FreeIntervals),
+    ("lists touching spans", Trial::TouchingSpans),
+    ("keeps a thousand spans in order", Trial::Thousand(1)),
+    ("keeps a thousand spans in reverse", Trial::Thousand(999)),
+    ("keeps a thousand spans in steps of 7", Trial::Thousand(7)),
+];
+
+#[test]
+fn keeps_spans(rt: HostRuntime) {
+    for &(name, trial) in &TRIALS {
+        let passed = passes(rt.alloc(), trial);
+        assert!(rt; matches!(passed, Ok(true)), "{name}");
+    }
 }

@@ -8,128 +8,159 @@ use std::alloc::{AllocError, Global};
 use std::test::Fail;
 use sweep_lines::{all_lines, lines_at, lines_near};
 
-fn upright(at: i64, lo: i64, hi: i64) -> Line {
-    let way = Way::Vertical;
-    Line { way, at, lo, hi }
+/// The solids and the anchors of a floor.
+type Plain<'a> = (&'a [Sides], &'a [(i64, i64)]);
+
+/// The way of a line, its coordinate, and where it begins and ends.
+type Piece = (Way, i64, i64, i64);
+
+/// Which of the kept lines are looked for.
+#[derive(Clone, Copy)]
+enum Which {
+    All,
+    /// Those of this way at the coordinate.
+    At(Way, i16),
+    /// Those near the rectangle.
+    Near(Sides),
 }
 
-fn level(at: i64, lo: i64, hi: i64) -> Line {
-    let way = Way::Horizontal;
-    Line { way, at, lo, hi }
-}
+const UP: Way = Way::Vertical;
 
-fn kept(alloc: Global, rects: &[Sides], anchors: &[(i64, i64)]) -> Result<Vec<Line>, AllocError> {
-    let floor = small_floor(alloc, rects, anchors)?;
-    all_lines(alloc, &floor)
-}
+const LEVEL: Way = Way::Horizontal;
 
-fn count(alloc: Global, rects: &[Sides], anchors: &[(i64, i64)]) -> Result<usize, AllocError> {
-    let lines = kept(alloc, rects, anchors)?;
-    Ok(lines.len())
-}
+const START: i64 = SHEET_START;
 
-/// Whether the kept lines are these.
-fn keeps(
-    alloc: Global,
-    rects: &[Sides],
-    anchors: &[(i64, i64)],
-    want: &[Line],
-) -> Result<bool, AllocError> {
-    let lines = kept(alloc, rects, anchors)?;
-    Ok(lines.as_slice() == want)
-}
-
-/// Whether the kept lines of this way at the coordinate are these.
-fn keeps_at(
-    alloc: Global,
-    rects: &[Sides],
-    way: Way,
-    at: i16,
-    want: &[Line],
-) -> Result<bool, AllocError> {
-    let floor = small_floor(alloc, rects, &[])?;
-    let lines = lines_at(alloc, &floor, way, i64::from(at));
-    Ok(lines?.as_slice() == want)
-}
-
-#[test]
-fn finds_a_side_without_a_free_corner(rt: HostRuntime) -> Result<(), Fail> {
-    let rects = [
-        (0, 0, 40_000, 100_000),
-        (-40_000, -20_000, 30_000, 60_000),
-        (-50_000, 70_000, 30_000, 120_000),
-    ];
-    let want = [upright(0, 60_000, 70_000)];
-    assert!(rt; keeps_at(rt.alloc(), &rects, Way::Vertical, 0, &want)?);
-    assert_eq!(rt; count(rt.alloc(), &rects, &[])?, 12);
-    Ok(())
-}
-
-/// A corridor of width 0.
-const CORRIDOR: [Sides; 2] = [(0, 0, 10, 10), (0, 10, 10, 20)];
-
-#[test]
-fn keeps_pieces_in_a_corridor(rt: HostRuntime) -> Result<(), Fail> {
-    let (start, end) = (SHEET_START, SHEET_END);
-    // Without an anchor in it and with one.
-    assert_eq!(rt; count(rt.alloc(), &[], &[])?, 0);
-    assert_eq!(rt; count(rt.alloc(), &CORRIDOR, &[])?, 5);
-    let lines = [
-        upright(0, start, end),
-        upright(5, 10, 10),
-        upright(10, start, end),
-        level(0, start, end),
-        level(10, start, end),
-        level(20, start, end),
-    ];
-    assert!(rt; keeps(rt.alloc(), &CORRIDOR, &[(5, 10)], &lines)?);
-    Ok(())
-}
-
-#[test]
-fn keeps_pieces_for_sides(rt: HostRuntime) -> Result<(), Fail> {
-    let (start, end) = (SHEET_START, SHEET_END);
-    // Equal solids, one within them, and one that touches them.
-    let rects = [
-        (0, 0, 30, 30),
-        (0, 0, 30, 30),
-        (10, 10, 20, 20),
-        (30, 5, 40, 15),
-    ];
-    let lines = [
-        upright(0, start, end),
-        upright(30, start, end),
-        upright(40, start, end),
-        level(0, start, end),
-        level(5, 30, end),
-        level(15, 30, end),
-        level(30, start, end),
-    ];
-    assert!(rt; keeps(rt.alloc(), &rects, &[], &lines)?);
-    Ok(())
-}
-
-#[test]
-fn keeps_pieces_for_anchors(rt: HostRuntime) -> Result<(), Fail> {
-    let (start, end) = (SHEET_START, SHEET_END);
-    // Anchors inside a solid, on its corner, and at the sheet's corner.
-    let lines = [
-        upright(0, start, end),
-        upright(10, start, end),
-        upright(end, start, end),
-        level(start, start, end),
-        level(0, start, end),
-        level(10, start, end),
-    ];
-    let anchors = [(5, 5), (0, 0), (end, start)];
-    assert!(rt; keeps(rt.alloc(), &[(0, 0, 10, 10)], &anchors, &lines)?);
-    Ok(())
-}
+const END: i64 = SHEET_END;
 
 /// Two solids with sides on one whole line, and a third that stands between them.
 const ROW: [Sides; 3] = [(0, 0, 10, 10), (0, 20, 10, 30), (-5, 12, 20, 18)];
 
 const ROW_ANCHORS: [(i64, i64); 3] = [(5, 11), (7, 40), (3, 15)];
+
+/// A corridor of width 0.
+const CORRIDOR: [Sides; 2] = [(0, 0, 10, 10), (0, 10, 10, 20)];
+
+/// The left side of the first solid is free only between the two others.
+const BETWEEN: [Sides; 3] = [
+    (0, 0, 40_000, 100_000),
+    (-40_000, -20_000, 30_000, 60_000),
+    (-50_000, 70_000, 30_000, 120_000),
+];
+
+/// Equal solids, one within them, and one that touches them.
+const EQUAL: [Sides; 4] = [
+    (0, 0, 30, 30),
+    (0, 0, 30, 30),
+    (10, 10, 20, 20),
+    (30, 5, 40, 15),
+];
+
+/// A name, a floor, and which of its lines are these.
+type Kept = (&'static str, Plain<'static>, Which, &'static [Piece]);
+
+const KEPT: [Kept; 5] = [
+    (
+        "a side without a free corner",
+        (&BETWEEN, &[]),
+        Which::At(UP, 0),
+        &[(UP, 0, 60_000, 70_000)],
+    ),
+    (
+        "an anchor in a corridor",
+        (&CORRIDOR, &[(5, 10)]),
+        Which::All,
+        &[
+            (UP, 0, START, END),
+            (UP, 5, 10, 10),
+            (UP, 10, START, END),
+            (LEVEL, 0, START, END),
+            (LEVEL, 10, START, END),
+            (LEVEL, 20, START, END),
+        ],
+    ),
+    (
+        "equal solids",
+        (&EQUAL, &[]),
+        Which::All,
+        &[
+            (UP, 0, START, END),
+            (UP, 30, START, END),
+            (UP, 40, START, END),
+            (LEVEL, 0, START, END),
+            (LEVEL, 5, 30, END),
+            (LEVEL, 15, 30, END),
+            (LEVEL, 30, START, END),
+        ],
+    ),
+    (
+        "anchors inside a solid, on its corner, and at the sheet's corner",
+        (&[(0, 0, 10, 10)], &[(5, 5), (0, 0), (END, START)]),
+        Which::All,
+        &[
+            (UP, 0, START, END),
+            (UP, 10, START, END),
+            (UP, END, START, END),
+            (LEVEL, START, START, END),
+            (LEVEL, 0, START, END),
+            (LEVEL, 10, START, END),
+        ],
+    ),
+    (
+        "pieces near a rectangle",
+        (&ROW, &ROW_ANCHORS),
+        Which::Near((0, 12, 5, 12)),
+        &[
+            (UP, 0, START, 12),
+            (UP, 0, 18, END),
+            (UP, 5, 10, 12),
+            (LEVEL, 12, START, END),
+        ],
+    ),
+];
+
+fn is_piece(line: &Line, piece: &Piece) -> bool {
+    let (way, at, lo, hi) = *piece;
+    line.is_same(&Line { way, at, lo, hi })
+}
+
+/// Whether the lines are these.
+fn are_pieces(lines: &[Line], want: &[Piece]) -> bool {
+    for (line, piece) in lines.iter().zip(want) {
+        if !is_piece(line, piece) {
+            return false;
+        }
+    }
+    lines.len() == want.len()
+}
+
+fn lines_of(alloc: Global, floor: &Floor, which: Which) -> Result<Vec<Line>, AllocError>
+    requires { IsFloor floor.now }
+{
+    match which {
+        Which::All => all_lines(alloc, floor),
+        Which::At(way, at) => lines_at(alloc, floor, way, i64::from(at)),
+        Which::Near(sides) => lines_near(alloc, floor, &rect_of(sides)),
+    }
+}
+
+fn kept(alloc: Global, floor: Plain<'_>, which: Which) -> Result<Vec<Line>, AllocError> {
+    let floor = small_floor(alloc, floor.0, floor.1)?;
+    lines_of(alloc, &floor, which)
+}
+
+/// Whether these of the kept lines are the row's.
+fn keeps(alloc: Global, row: &Kept) -> Result<bool, AllocError> {
+    let lines = kept(alloc, row.1, row.2)?;
+    Ok(are_pieces(lines.as_slice(), row.3))
+}
+
+#[test]
+fn keeps_pieces(rt: HostRuntime) {
+    for row in &KEPT {
+        let found = keeps(rt.alloc(), row);
+        assert!(rt; matches!(found, Ok(true)), "{}", row.0);
+    }
+}
 
 /// Adds the kept lines of this way at the coordinate.
 fn push_lines_at(
@@ -165,13 +196,21 @@ fn line_by_line(alloc: Global) -> Result<Vec<Line>, AllocError> {
     pushed.map(|()| lines)
 }
 
+/// Whether all kept lines of the row are these.
+fn are_those_of_row(alloc: Global, lines: &[Line]) -> Result<bool, AllocError> {
+    let all = kept(alloc, (&ROW, &ROW_ANCHORS), Which::All)?;
+    Ok(all.as_slice() == lines)
+}
+
+fn finds_line_by_line(alloc: Global) -> Result<bool, AllocError> {
+    let lines = line_by_line(alloc)?;
+    are_those_of_row(alloc, lines.as_slice())
+}
+
 #[test]
-fn finds_on_one_line_what_is_among_all(rt: HostRuntime) -> Result<(), Fail> {
-    let lines = line_by_line(rt.alloc())?;
-    assert_eq!(rt; lines.len(), 16);
-    let same = keeps(rt.alloc(), &ROW, &ROW_ANCHORS, lines.as_slice());
-    assert_eq!(rt; same.ok(), Some(true));
-    Ok(())
+fn finds_on_one_line_what_is_among_all(rt: HostRuntime) {
+    let found = finds_line_by_line(rt.alloc());
+    assert!(rt; matches!(found, Ok(true)));
 }
 
 fn rect_of(sides: Sides) -> Rect {
@@ -235,56 +274,47 @@ fn are_among_all(alloc: Global, floor: &Floor, all: &[Line]) -> Result<bool, All
     Ok(true)
 }
 
-fn finds_near(alloc: Global, floor: &Floor) -> Result<bool, AllocError>
+/// Whether there are so many kept lines, and the lines near each of the places are those among
+/// them.
+fn counts(alloc: Global, floor: &Floor, want: usize) -> Result<bool, AllocError>
     requires { IsFloor floor.now }
 {
     let all = all_lines(alloc, floor)?;
-    are_among_all(alloc, floor, all.as_slice())
+    let among = are_among_all(alloc, floor, all.as_slice())?;
+    Ok(among && all.len() == want)
 }
 
-fn finds_near_places(
-    alloc: Global,
-    rects: &[Sides],
-    anchors: &[(i64, i64)],
-) -> Result<bool, AllocError> {
-    let floor = small_floor(alloc, rects, anchors)?;
-    finds_near(alloc, &floor)
+fn has_count(alloc: Global, floor: Plain<'_>, want: usize) -> Result<bool, AllocError> {
+    let floor = small_floor(alloc, floor.0, floor.1)?;
+    counts(alloc, &floor, want)
 }
+
+const COUNTED: [(Plain<'static>, usize); 5] = [
+    ((&[], &[]), 0),
+    // Without an anchor in it and with one.
+    ((&CORRIDOR, &[]), 5),
+    ((&CORRIDOR, &[(5, 10)]), 6),
+    ((&ROW, &ROW_ANCHORS), 16),
+    ((&BETWEEN, &[]), 12),
+];
 
 #[test]
 fn finds_near_a_rectangle_what_is_among_all(rt: HostRuntime) -> Result<(), Fail> {
-    let alloc = rt.alloc();
-    assert!(rt; finds_near_places(alloc, &[], &[])?);
-    assert!(rt; finds_near_places(alloc, &CORRIDOR, &[(5, 10)])?);
-    assert!(rt; finds_near_places(alloc, &ROW, &ROW_ANCHORS)?);
-    let rects = tiles_behind(alloc, tile(0))?;
-    let many = finds_near_places(alloc, rects.as_slice(), &[(90, 100)]);
-    assert_eq!(rt; many.ok(), Some(true));
+    for (place, &(floor, want)) in COUNTED.iter().enumerate() {
+        assert!(rt; has_count(rt.alloc(), floor, want)?, "in row {place}");
+    }
     Ok(())
 }
 
-fn row_near(alloc: Global, near: &Rect) -> Result<Vec<Line>, AllocError> {
-    let floor = small_floor(alloc, &ROW, &ROW_ANCHORS)?;
-    lines_near(alloc, &floor, near)
-}
-
-#[test]
-fn finds_near_a_rectangle_pieces_of_a_line(rt: HostRuntime) -> Result<(), Fail> {
-    let want = [
-        upright(0, SHEET_START, 12),
-        upright(0, 18, SHEET_END),
-        upright(5, 10, 12),
-        level(12, SHEET_START, SHEET_END),
-    ];
-    let found = row_near(rt.alloc(), &rect_of((0, 12, 5, 12)))?;
-    assert!(rt; found.as_slice() == want.as_slice());
-    Ok(())
-}
+/// No anchor, and one inside a solid, which adds no line.
+const INSIDE: [&[(i64, i64)]; 2] = [&[], &[(90, 100)]];
 
 #[test]
 fn sweeps_many_solids(rt: HostRuntime) -> Result<(), Fail> {
     let rects = tiles_behind(rt.alloc(), tile(0))?;
-    let lines = count(rt.alloc(), rects.as_slice(), &[]);
-    assert_eq!(rt; lines.ok(), Some(489));
+    for &anchors in &INSIDE {
+        let counted = has_count(rt.alloc(), (rects.as_slice(), anchors), 489);
+        assert!(rt; matches!(counted, Ok(true)), "anchors: {}", anchors.len());
+    }
     Ok(())
 }

@@ -6,6 +6,7 @@ ghost use Rattle.plane_geom.specs.Floor.{IsFloor};
 
 use crate::small::{Sides, small_floor, tile, tiles_behind};
 use graph_repair::{Repair, apply, hull_of_difference, plan, revert};
+use line_arena::LineId;
 use plane_geom::{Floor, Line};
 use std::alloc::{AllocError, Global};
 use std::test::Fail;
@@ -82,26 +83,33 @@ const TURNED: [Turned; 6] = [
     ),
 ];
 
+/// Whether the row's numbers of writes are found.
+fn turns_as_said(alloc: Global, row: &Turned) -> Result<bool, AllocError> {
+    let found = turns_between(alloc, row.0, row.1)?;
+    Ok(found == row.2)
+}
+
 #[test]
 fn writes_what_is_new(rt: HostRuntime) -> Result<(), Fail> {
-    for &(old, new, want) in &TURNED {
-        assert_eq!(rt; turns_between(rt.alloc(), old, new)?, want);
+    for (place, row) in TURNED.iter().enumerate() {
+        assert!(rt; turns_as_said(rt.alloc(), row)?, "in row {place}");
     }
     Ok(())
 }
 
-/// Whether the graph's lines are these.
-fn has_lines(graph: &Graph, lines: &[Line]) -> bool {
-    let all = graph.arena().lines_in_order();
-    if all.len() != lines.len() {
-        return false;
-    }
-    for (entry, line) in all.iter().zip(lines) {
+/// Whether the entries have these lines.
+fn are_of(entries: &[(Line, LineId)], lines: &[Line]) -> bool {
+    for (entry, line) in entries.iter().zip(lines) {
         if !entry.0.is_same(line) {
             return false;
         }
     }
-    true
+    entries.len() == lines.len()
+}
+
+/// Whether the graph's lines are these.
+fn has_lines(graph: &Graph, lines: &[Line]) -> bool {
+    are_of(graph.arena().lines_in_order(), lines)
 }
 
 /// Whether the graph has exactly the kept lines of the floor.
@@ -179,19 +187,57 @@ const MOVED: Shift = Some((7, -13));
 
 const FIVE: [Shift; 5] = [HERE; 5];
 
-/// Adds a node and its two anchors, in thousandths.
+/// The sides of a node, in thousandths.
+fn sides_of(place: u8, shift: (i8, i8)) -> Sides {
+    let x = i64::from(place) * 60 + i64::from(shift.0);
+    let y = i64::from(place % 3) * 45 + i64::from(shift.1);
+    (x, y, x + 30, y + 20)
+}
+
+/// A place on the left side of a node, and one on its right side.
+fn anchors_of(sides: Sides) -> [(i64, i64); 2] {
+    let (left, top, right, _) = sides;
+    [
+        (left, top.saturating_add(10)),
+        (right, top.saturating_add(7)),
+    ]
+}
+
+/// Adds a node and its two anchors.
 fn push_node(
     rects: &mut Vec<Sides>,
     anchors: &mut Vec<(i64, i64)>,
-    place: u8,
-    shift: (i8, i8),
+    sides: Sides,
 ) -> Result<(), AllocError> {
-    let x = i64::from(place) * 60 + i64::from(shift.0);
-    let y = i64::from(place % 3) * 45 + i64::from(shift.1);
-    rects.push((x, y, x + 30, y + 20))?;
-    anchors.push((x, y + 10))?;
-    anchors.push((x + 30, y + 7))?;
+    rects.push(sides)?;
+    anchors.extend_from_slice(&anchors_of(sides))
+}
+
+/// Adds the nodes that are there.
+fn push_nodes(
+    rects: &mut Vec<Sides>,
+    anchors: &mut Vec<(i64, i64)>,
+    shifts: [Shift; 5],
+) -> Result<(), AllocError> {
+    for place in 0..5u8 {
+        if let Some(shift) = shifts[usize::from(place)] {
+            push_node(rects, anchors, sides_of(place, shift))?;
+        }
+    }
     Ok(())
+}
+
+/// The floor of the nodes that are there, which are added to these.
+fn floor_of(
+    alloc: Global,
+    rects: &mut Vec<Sides>,
+    anchors: &mut Vec<(i64, i64)>,
+    shifts: [Shift; 5],
+) -> Result<Floor, AllocError>
+    ensures { IfOk result IsFloor }
+{
+    push_nodes(rects, anchors, shifts)?;
+    small_floor(alloc, rects.as_slice(), anchors.as_slice())
 }
 
 /// A floor of nodes with two anchors each.
@@ -199,12 +245,7 @@ fn nodes(alloc: Global, shifts: [Shift; 5]) -> Result<Floor, AllocError>
     ensures { IfOk result IsFloor }
 {
     let (mut rects, mut anchors) = (Vec::new(alloc), Vec::new(alloc));
-    for place in 0..5u8 {
-        if let Some(shift) = shifts[usize::from(place)] {
-            push_node(&mut rects, &mut anchors, place, shift)?;
-        }
-    }
-    small_floor(alloc, rects.as_slice(), anchors.as_slice())
+    floor_of(alloc, &mut rects, &mut anchors, shifts)
 }
 
 fn hull_to(alloc: Global, old: &Floor, shifts: [Shift; 5]) -> Result<Option<Sides>, AllocError>
@@ -238,8 +279,12 @@ const HULLS: [([Shift; 5], Sides); 9] = [
 
 #[test]
 fn finds_lines_near_what_changes(rt: HostRuntime) -> Result<(), Fail> {
-    for &(shifts, want) in &HULLS {
-        assert_eq!(rt; hull_of_nodes(rt.alloc(), shifts)?, Some(want));
+    for (place, &(shifts, want)) in HULLS.iter().enumerate() {
+        assert_eq!(rt;
+            hull_of_nodes(rt.alloc(), shifts)?,
+            Some(want),
+            "in row {place}"
+        );
     }
     Ok(())
 }

@@ -1,4 +1,7 @@
 //! Points, ways, rectangles and lines, copies of floors, and floors made of plain numbers.
+ghost use Rattle.std.specs.Prelude.{IsTrue};
+ghost use Rattle.plane_geom.specs.Point.{IsStraight};
+
 use crate::small::{Sides, small_floor, tile};
 use plane_geom::{
     Axis, Dir, Floor, Line, Point, Points, Rect, SHEET_END, SHEET_START, Solid, Solids, Way, XAxis,
@@ -17,37 +20,70 @@ const AROUND: [(Dir, Point); 4] = [
     (Dir::North, Point { x: -3, y: -5 }),
 ];
 
-/// Whether both ways from one point to the other have these headings.
+/// Whether the point is 12 steps away in the direction, and this is the heading there.
 fn leads(dir: Dir, to: Point) -> bool {
-    FROM.heading(to) == dir && to.heading(FROM) == dir.opposite()
+    to.is_on_sheet()
+        && FROM.distance(to) == 12
+        && FROM.forward(dir, 12) == to
+        && FROM.heading(to) == dir
+        && to.heading(FROM) == dir.opposite()
 }
 
-/// Whether the two points are different and on one line of the way of the direction.
-fn are_along(way: Way, to: Point) -> bool {
-    FROM.across(way) == to.across(way) && FROM.along(way) != to.along(way)
+/// Whether the two points are different and on one line of the way of the direction and of the
+/// opposite one.
+fn are_along(dir: Dir, to: Point) -> bool {
+    let way = dir.way();
+    dir.opposite().way() == way
+        && FROM.across(way) == to.across(way)
+        && FROM.along(way) != to.along(way)
 }
 
 #[test]
 fn leads_from_point_to_point(rt: HostRuntime) {
-    for &(dir, to) in &AROUND {
-        assert!(rt; FROM.distance(to) == 12 && leads(dir, to));
-        assert!(rt; FROM.forward(dir, 12) == to);
-        assert!(rt; dir.way() == dir.opposite().way() && are_along(dir.way(), to));
+    for (place, &(dir, to)) in AROUND.iter().enumerate() {
+        assert!(rt; leads(dir, to) && are_along(dir, to), "in row {place}");
     }
 }
 
+const NARROW: Rect = Rect {
+    left: 0,
+    top: 0,
+    right: 2,
+    bottom: 4,
+};
+
+/// What is asked of a point.
+#[derive(Clone, Copy)]
+enum Asked {
+    OnSheet,
+    InNarrow,
+}
+
+fn is_there(asked: Asked, p: Point) -> bool {
+    match asked {
+        Asked::OnSheet => p.is_on_sheet(),
+        Asked::InNarrow => NARROW.has_inside(p),
+    }
+}
+
+const PLACES: [(Asked, i64, i64, bool); 11] = [
+    (Asked::OnSheet, SHEET_START, SHEET_END, true),
+    (Asked::OnSheet, SHEET_END, SHEET_START, true),
+    (Asked::OnSheet, SHEET_START - 1, 0, false),
+    (Asked::OnSheet, 0, SHEET_START - 1, false),
+    (Asked::OnSheet, SHEET_END + 1, 0, false),
+    (Asked::OnSheet, 0, SHEET_END + 1, false),
+    (Asked::InNarrow, 1, 1, true),
+    (Asked::InNarrow, 1, 3, true),
+    (Asked::InNarrow, 0, 1, false),
+    (Asked::InNarrow, 2, 1, false),
+    (Asked::InNarrow, 1, 4, false),
+];
+
 #[test]
-fn finds_points_on_the_sheet(rt: HostRuntime) {
-    let cases = [
-        (SHEET_START, SHEET_END, true),
-        (SHEET_END, SHEET_START, true),
-        (SHEET_START - 1, 0, false),
-        (0, SHEET_START - 1, false),
-        (SHEET_END + 1, 0, false),
-        (0, SHEET_END + 1, false),
-    ];
-    for (x, y, on_sheet) in cases {
-        assert_eq!(rt; Point { x, y }.is_on_sheet(), on_sheet);
+fn finds_points_on_the_sheet_and_inside(rt: HostRuntime) {
+    for (place, &(asked, x, y, want)) in PLACES.iter().enumerate() {
+        assert!(rt; is_there(asked, Point { x, y }) == want, "in row {place}");
     }
 }
 
@@ -55,51 +91,19 @@ fn turned<A: Axis>(p: Point) -> Point {
     A::point(A::along(p), A::across(p))
 }
 
+/// Whether each axis exchanges the coordinates of the point, and has its way.
+fn exchange(p: Point, once: Point) -> bool {
+    turned::<XAxis>(p) == once
+        && turned::<YAxis>(p) == once
+        && XAxis::way() == Way::Vertical
+        && YAxis::way() == Way::Horizontal
+        && XAxis::across(p) == p.x
+        && YAxis::across(p) == p.y
+}
+
 #[test]
 fn each_axis_exchanges_the_coordinates(rt: HostRuntime) {
-    let p = Point { x: 3, y: -7 };
-    let turned_once = Point { x: -7, y: 3 };
-    assert!(rt; turned::<XAxis>(p) == turned_once && turned::<YAxis>(p) == turned_once);
-    assert!(rt; XAxis::way() == Way::Vertical && YAxis::way() == Way::Horizontal);
-    assert!(rt; XAxis::across(p) == 3 && YAxis::across(p) == -7);
-}
-
-#[test]
-fn grows_each_side(rt: HostRuntime) {
-    let rect = Rect {
-        left: -10,
-        top: 20,
-        right: 30,
-        bottom: 40,
-    };
-    assert_eq!(rt;
-        rect.grow(4),
-        Rect {
-            left: -14,
-            top: 16,
-            right: 34,
-            bottom: 44
-        }
-    );
-}
-
-#[test]
-fn has_inside_what_is_on_no_side(rt: HostRuntime) {
-    let rect = Rect {
-        left: 0,
-        top: 0,
-        right: 2,
-        bottom: 4,
-    };
-    for &(x, y, want) in &[
-        (1, 1, true),
-        (1, 3, true),
-        (0, 1, false),
-        (2, 1, false),
-        (1, 4, false),
-    ] {
-        assert_eq!(rt; rect.has_inside(Point { x, y }), want, "at ({x}, {y})");
-    }
+    assert!(rt; exchange(Point { x: 3, y: -7 }, Point { x: -7, y: 3 }));
 }
 
 const WIDE: Rect = Rect {
@@ -109,37 +113,87 @@ const WIDE: Rect = Rect {
     bottom: 4,
 };
 
+/// A rectangle, and the same with each side moved out by 4.
+const SMALL: Rect = Rect {
+    left: -10,
+    top: 20,
+    right: 30,
+    bottom: 40,
+};
+
+const GROWN: Rect = Rect {
+    left: -14,
+    top: 16,
+    right: 34,
+    bottom: 44,
+};
+
 #[test]
-fn goes_through_the_closed_rectangle(rt: HostRuntime) {
-    let cases = [
-        ((-5, 2), (20, 2), 25),
-        ((-5, -5), (20, -5), 35),
-        ((12, 6), (13, 7), 10),
-        ((3, 3), (3, 3), 0),
-        ((-5, 2), (-5, 9), 17),
-    ];
-    for ((ax, ay), (bx, by), want) in cases {
-        let found = WIDE.l1_through(Point { x: ax, y: ay }, Point { x: bx, y: by });
-        assert_eq!(rt; found, want, "from ({ax}, {ay}) to ({bx}, {by})");
+fn grows_each_side(rt: HostRuntime) {
+    assert_eq!(rt; SMALL.grow(4), GROWN);
+}
+
+/// The least length of a way from point to point through the wide rectangle, if they are on the
+/// sheet.
+fn through(from: Point, to: Point) -> Option<i64> {
+    if from.is_on_sheet() && to.is_on_sheet() {
+        Some(WIDE.l1_through(from, to))
+    } else {
+        None
     }
 }
 
+fn is_straight(from: Point, to: Point) -> bool
+    ensures { IsTrue result → IsStraight from to }
+{
+    from.x == to.x || from.y == to.y
+}
+
+/// Whether the straight segment meets the inside of the wide rectangle, if it is one on the sheet.
+fn meets(from: Point, to: Point) -> Option<bool> {
+    if is_straight(from, to) && from.is_on_sheet() && to.is_on_sheet() {
+        Some(WIDE.meets(from, to))
+    } else {
+        None
+    }
+}
+
+/// Two points, the least length of a way between them through the wide rectangle, and whether the
+/// segment meets its inside, if it is straight.
+type Walk = ((i64, i64), (i64, i64), i64, Option<bool>);
+
+const WALKS: [Walk; 13] = [
+    ((-5, 2), (20, 2), 25, Some(true)),
+    ((-5, -5), (20, -5), 35, Some(false)),
+    ((12, 6), (13, 7), 10, None),
+    ((3, 3), (3, 3), 0, Some(true)),
+    ((-5, 2), (-5, 9), 17, Some(false)),
+    ((20, 2), (9, 2), 11, Some(true)),
+    ((5, -1), (5, 1), 2, Some(true)),
+    ((5, 2), (5, 2), 0, Some(true)),
+    ((0, -5), (0, 20), 25, Some(false)),
+    ((-5, 4), (20, 4), 25, Some(false)),
+    ((-5, 2), (0, 2), 5, Some(false)),
+    ((10, 2), (12, 2), 2, Some(false)),
+    ((0, 0), (0, 0), 0, Some(false)),
+];
+
+fn is_right(walk: &Walk) -> bool {
+    let from = Point {
+        x: walk.0.0,
+        y: walk.0.1,
+    };
+    let to = Point {
+        x: walk.1.0,
+        y: walk.1.1,
+    };
+    through(from, to) == Some(walk.2) && meets(from, to) == walk.3
+}
+
 #[test]
-fn meets_the_open_inside_alone(rt: HostRuntime) {
-    let cases = [
-        ((-5, 2), (20, 2), true),
-        ((20, 2), (9, 2), true),
-        ((5, -1), (5, 1), true),
-        ((5, 2), (5, 2), true),
-        ((0, -5), (0, 20), false),
-        ((-5, 4), (20, 4), false),
-        ((-5, 2), (0, 2), false),
-        ((10, 2), (12, 2), false),
-        ((0, 0), (0, 0), false),
-    ];
-    for ((ax, ay), (bx, by), want) in cases {
-        let found = WIDE.meets(Point { x: ax, y: ay }, Point { x: bx, y: by });
-        assert_eq!(rt; found, want, "from ({ax}, {ay}) to ({bx}, {by})");
+fn goes_through_the_closed_rectangle_and_meets_the_open_inside(rt: HostRuntime) {
+    for (place, walk) in WALKS.iter().enumerate() {
+        assert!(rt; is_right(walk), "in row {place}");
     }
 }
 
@@ -157,12 +211,19 @@ fn meets_empty() -> bool {
 #[test]
 fn overlaps_the_open_inside_alone(rt: HostRuntime) {
     let far = Point { x: 20, y: 3 };
-    assert!(rt; WIDE.overlaps_area(Point { x: 9, y: 9 }, far));
-    assert!(rt; !WIDE.overlaps_area(Point { x: 10, y: 9 }, far) && !meets_empty());
+    let inside = WIDE.overlaps_area(Point { x: 9, y: 9 }, far);
+    let beside = WIDE.overlaps_area(Point { x: 10, y: 9 }, far);
+    assert_eq!(rt; [inside, beside, meets_empty()], [true, false, false]);
 }
 
 fn line(way: Way, at: i64, lo: i64) -> Line {
     Line { way, at, lo, hi: 9 }
+}
+
+/// Whether the first line stands before the second, or is the same, as their places say.
+fn stand_so(first: (usize, &Line), second: (usize, &Line)) -> bool {
+    first.1.stands_before(second.1) == (first.0 < second.0)
+        && first.1.is_same(second.1) == (first.0 == second.0)
 }
 
 #[test]
@@ -175,9 +236,9 @@ fn orders_lines(rt: HostRuntime) {
         line(Way::Horizontal, 0, -8),
     ];
     for (place, first) in in_order.iter().enumerate() {
-        for (other_place, second) in in_order.iter().enumerate() {
-            assert_eq!(rt; first.stands_before(second), place < other_place);
-            assert_eq!(rt; first.is_same(second), place == other_place);
+        for (other, second) in in_order.iter().enumerate() {
+            let so = stand_so((place, first), (other, second));
+            assert!(rt; so, "lines {place} and {other}");
         }
     }
 }
@@ -216,11 +277,18 @@ fn copies_a_large_floor(rt: HostRuntime) -> Result<(), Fail> {
     Ok(())
 }
 
+/// The numbers of tiles, and their sides.
+const TILES: [(u8, Sides); 3] = [
+    (0, (0, 0, 20, 15)),
+    (17, (40, 30, 63, 47)),
+    (255, (600, 450, 623, 465)),
+];
+
 #[test]
 fn lays_tiles(rt: HostRuntime) {
-    assert_eq!(rt; tile(0), (0, 0, 20, 15));
-    assert_eq!(rt; tile(17), (40, 30, 63, 47));
-    assert_eq!(rt; tile(255), (600, 450, 623, 465));
+    for &(number, want) in &TILES {
+        assert_eq!(rt; tile(number), want, "tile {number}");
+    }
 }
 
 fn solid_at(left: i64, top: i64, right: i64, bottom: i64) -> Solid {
