@@ -9,7 +9,7 @@ use std::thread::Threads;
 
 /// What is compared: whether a transaction is open, where the second box stands in its working scene and in the present
 /// one, the next edge number, the cost of the first connector's route, and both counts.
-#[derive(Clone, Copy, Debug, PartialEq, Eq)]
+#[derive(Clone, Copy, PartialEq, Eq)]
 pub(crate) struct Sight {
     pub(crate) open: bool,
     pub(crate) working_x: Option<i64>,

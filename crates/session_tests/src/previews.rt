@@ -12,7 +12,7 @@ use std::alloc::{AllocError, Global};
 use std::thread::Threads;
 
 /// What is compared of an answer.
-#[derive(Clone, Copy, Debug, PartialEq, Eq)]
+#[derive(Clone, Copy, PartialEq, Eq)]
 enum Outcome {
     /// The number of searches, the place of the second box, and the costs of the first two connectors.
     Committed(u64, Option<i64>, (Option<u64>, Option<u64>)),
@@ -132,7 +132,7 @@ enum Question {
 }
 
 /// The result of a question: whether the session stayed as it was, and a number that is 0 where all is right.
-#[derive(Clone, Copy, Debug, PartialEq, Eq)]
+#[derive(Clone, Copy, PartialEq, Eq)]
 struct Verdict {
     stays: bool,
     wrong: u32,
@@ -249,16 +249,32 @@ const ROWS: [Row; 5] = [
     },
 ];
 
-#[test]
-fn answers_proposals(rt: HostRuntime) {
-    let right = Ok(Verdict {
+/// Whether the session stays as it was, and all is right.
+fn is_right<R: Threads + Sync>(
+    rt: &R,
+    alloc: Global,
+    drawing: Drawing,
+    question: &Question,
+) -> bool {
+    let right = Verdict {
         stays: true,
         wrong: 0,
-    });
+    };
+    reported(rt, alloc, drawing, question) == Ok(right)
+}
+
+#[test]
+fn answers_proposals(rt: HostRuntime) {
     for &row in &ROWS {
-        let reported = reported(&rt, rt.alloc(), row.drawing, &Question::Answers(row));
-        assert_eq!(rt; reported, right, "{}", row.name);
+        let question = Question::Answers(row);
+        assert!(rt;
+            is_right(&rt, rt.alloc(), row.drawing, &question),
+            "{}",
+            row.name
+        );
     }
-    let reported = reported(&rt, rt.alloc(), Drawing::Small, &Question::Gates);
-    assert_eq!(rt; reported, right, "two pieces");
+    assert!(rt;
+        is_right(&rt, rt.alloc(), Drawing::Small, &Question::Gates),
+        "two pieces"
+    );
 }

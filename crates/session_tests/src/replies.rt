@@ -103,6 +103,20 @@ fn at(line: u64, reply: Reply) -> LineReply {
     LineReply { line, reply }
 }
 
+/// The first line with another reply than expected, or 0 where there is none.
+fn wrong_line(replies: &[LineReply], wanted: &[LineReply]) -> u64 {
+    for (reply, want) in replies.iter().zip(wanted) {
+        if *reply != *want {
+            return want.line;
+        }
+    }
+    if replies.len() == wanted.len() {
+        0
+    } else {
+        u64::MAX
+    }
+}
+
 /// Replays the commands on the small scene, which must lead to these replies. It returns whether a
 /// transaction is open at the end, and the number of searches.
 fn replayed(
@@ -126,7 +140,8 @@ fn replayed(
     } = replay(rt, alloc, scene, commands, workers, &OpenGate)?;
     let is_open = session.is_open();
     let tally = session.into_tally();
-    assert_eq!(rt; replies.as_slice(), wanted);
+    let wrong = wrong_line(&replies, wanted);
+    assert!(rt; wrong == 0, "line {wrong}");
     Ok((is_open, tally.count()))
 }
 
@@ -134,8 +149,7 @@ fn replayed(
 fn replies_to_each_command(rt: HostRuntime) -> Result<(), Fail> {
     let commands = script();
     let (is_open, searched) = replayed(&rt, rt.alloc(), &commands, 2, &replies())?;
-    assert!(rt; !is_open);
-    assert_eq!(rt; searched, 2);
+    assert!(rt; !is_open && searched == 2);
     one_list_of_replies();
     replays_keep_origins();
     Ok(())

@@ -221,6 +221,6 @@ fn is_wanted<R: Threads + Sync>(rt: &R, alloc: Global, row: &Row) -> Result<bool
 #[test]
 fn writes_shared_paths(rt: HostRuntime) {
     for row in &ROWS {
-        assert_eq!(rt; is_wanted(&rt, rt.alloc(), row), Ok(true), "{}", row.name);
+        assert!(rt; is_wanted(&rt, rt.alloc(), row) == Ok(true), "{}", row.name);
     }
 }
