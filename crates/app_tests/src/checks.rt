@@ -19,8 +19,7 @@ fn check(
         diagram,
         ..whole_row("check|d.gml", status, output)
     };
-    run_row(rt, alloc, &row)?;
-    Ok(())
+    run_row(rt, alloc, &row)
 }
 
 /// Runs `check` of a graph with these nodes and edges.
@@ -61,8 +60,11 @@ pub(crate) const ORDINARY: &str =
     edge [ source 0 target 1\n  graphics [ fill \"#000000\" Line [ point [ x 0.0 y 0.0 ] point [ x 50.0 y 40.0 ] \
     point [ x 100.0 y 0.0 ] ] targetArrow \"standard\" ] ]\n]\n";
 
-/// Edges between the nodes in a row, the status of the check, and its output.
-const LINES: [(&str, Status, &str); 10] = [
+/// Edges, the status of the check, and its output.
+type Edges = (&'static str, Status, &'static str);
+
+/// Edges between the nodes in a row.
+const LINES: &[Edges] = &[
     ("", Status::Done, ""),
     (ROUND, Status::Done, "edge 1: cost 248.000\n"),
     (
@@ -100,20 +102,6 @@ const LINES: [(&str, Status, &str); 10] = [
     ),
 ];
 
-#[test]
-fn checks_lines(rt: HostRuntime) -> Result<(), Fail> {
-    for (edges, status, output) in LINES {
-        check_graph(&rt, rt.alloc(), IN_A_ROW, edges, status, output)?;
-    }
-    check(
-        &rt,
-        rt.alloc(),
-        ORDINARY.as_bytes(),
-        Status::BadLine,
-        "edge 1: Slanted 1\n",
-    )
-}
-
 /// A node with pins to the west and one beside it, which cost something or nothing.
 const PINNED: &str =
     "node [ id 1 graphics [ x 0 y 0 w 20 h 20 ] pin [ class 1 x 10 y 0 dirs \"W\" ] \
@@ -121,7 +109,7 @@ const PINNED: &str =
     node [ id 2 graphics [ x -100 y 0 w 20 h 20 ] ]";
 
 /// Edges between these nodes.
-const PINS: [(&str, Status, &str); 4] = [
+const PINS: &[Edges] = &[
     (
         "edge [ source 1 sourcePin 1 target 2 graphics [ Line [ point [ x 10 y 0 ] point [ x -100 y 0 ] ] ] ]",
         Status::Done,
@@ -144,88 +132,124 @@ const PINS: [(&str, Status, &str); 4] = [
     ),
 ];
 
-#[test]
-fn checks_pins(rt: HostRuntime) -> Result<(), Fail> {
-    for (edges, status, output) in PINS {
-        check_graph(&rt, rt.alloc(), PINNED, edges, status, output)?;
-    }
-    Ok(())
-}
-
-/// Files that are not valid diagrams.
-const REFUSED: [(&str, &str); 13] = [
-    ("", "diagram: NoGraph\n"),
-    ("graph 1 # no list", "diagram: NoGraph\n"),
-    ("graph [", "diagram: Syntax at 7\n"),
-    ("graph [ label \"ab", "diagram: Syntax at 17\n"),
-    ("graph 1a", "diagram: Syntax at 7\n"),
-    ("graph 1e", "diagram: Syntax at 8\n"),
-    ("x 1 2", "diagram: Syntax at 4\n"),
-    ("\0", "diagram: Syntax at 0\n"),
-    ("graph [ router [ buffer x ] ]", "diagram: Syntax at 24\n"),
+/// Files, the status of the check, and its output: the file of an editor, and files that are not
+/// valid diagrams.
+const FILES: [(&str, Status, &str); 14] = [
+    (ORDINARY, Status::BadLine, "edge 1: Slanted 1\n"),
+    ("", Status::Diagram, "diagram: NoGraph\n"),
+    ("graph 1 # no list", Status::Diagram, "diagram: NoGraph\n"),
+    ("graph [", Status::Diagram, "diagram: Syntax at 7\n"),
+    (
+        "graph [ label \"ab",
+        Status::Diagram,
+        "diagram: Syntax at 17\n",
+    ),
+    ("graph 1a", Status::Diagram, "diagram: Syntax at 7\n"),
+    ("graph 1e", Status::Diagram, "diagram: Syntax at 8\n"),
+    ("x 1 2", Status::Diagram, "diagram: Syntax at 4\n"),
+    ("\0", Status::Diagram, "diagram: Syntax at 0\n"),
+    (
+        "graph [ router [ buffer x ] ]",
+        Status::Diagram,
+        "diagram: Syntax at 24\n",
+    ),
     (
         "graph [ router [ buffer \"4\" ] ]",
+        Status::Diagram,
         "diagram: BadNumber router\n",
     ),
     (
         "graph [ router [ penalty 0 ] ]",
+        Status::Diagram,
         "diagram: OutOfRange router\n",
     ),
-    ("graph [ node [ ] ]", "diagram: BadId node 1\n"),
+    (
+        "graph [ node [ ] ]",
+        Status::Diagram,
+        "diagram: BadId node 1\n",
+    ),
     (
         "graph [ node 1 node [ id 1.0 ] ]",
+        Status::Diagram,
         "diagram: BadId node 1\n",
     ),
 ];
 
+#[test]
+fn checks_files(rt: HostRuntime) -> Result<(), Fail> {
+    for &(file, status, output) in &FILES {
+        check(&rt, rt.alloc(), file.as_bytes(), status, output)?;
+    }
+    Ok(())
+}
+
 /// The text after the nodes in a row in a file that is not a valid diagram.
-const REFUSED_BEHIND: [(&str, &str); 9] = [
-    ("node [ id 3 ]", "diagram: SameId node 4\n"),
+const REFUSED: &[Edges] = &[
+    ("node [ id 3 ]", Status::Diagram, "diagram: SameId node 4\n"),
     (
         "node [ id 4 graphics [ x 0 ] ]",
+        Status::Diagram,
         "diagram: NoPlace node 4\n",
     ),
     (
         "node [ id 4 graphics [ x 0 y [ ] ] ]",
+        Status::Diagram,
         "diagram: BadNumber node 4\n",
     ),
     (
         "node [ id 4 graphics [ x 0 y 1e99 ] ]",
+        Status::Diagram,
         "diagram: OutOfRange node 4\n",
     ),
     (
         "node [ id 4 graphics [ x 0 y 0 ] pin 1 ]",
+        Status::Diagram,
         "diagram: BadPin node 4\n",
     ),
-    ("edge [ source 1 target 4 ]", "diagram: BadEnd edge 1\n"),
+    (
+        "edge [ source 1 target 4 ]",
+        Status::Diagram,
+        "diagram: BadEnd edge 1\n",
+    ),
     (
         "edge [ source 1 target 1 ] edge [ source 1 target 2 via 5 ]",
+        Status::Diagram,
         "diagram: BadVia edge 2\n",
     ),
     (
         "edge [ source 1 target 2 graphics [ Line [ point [ x 0 y 0 ] point [ x 100 y 0 ] ] ] ] \
         edge [ source 2 target 2 ] edge [ source 1 target 2 graphics [ Line [ point [ x 1 ] ] ] ]",
+        Status::Diagram,
         "diagram: BadNumber edge 3\n",
     ),
     (
         "edge [ source 1 target 2 graphics [ Line [ point [ x 0 y 0 ] point [ x 100 y 0 ] ] ] ] \
         edge [ source 1 target 2 graphics [ Line [ point [ x 0 y 3e6 ] point [ ] ] ] ]",
+        Status::Diagram,
         "diagram: OutOfRange edge 2\n",
     ),
 ];
 
-#[test]
-fn refuses_diagrams(rt: HostRuntime) -> Result<(), Fail> {
-    for (file, output) in REFUSED {
-        check(&rt, rt.alloc(), file.as_bytes(), Status::Diagram, output)?;
+/// Nodes, and what stands behind them.
+const GRAPHS: [(&str, &[Edges]); 3] = [(IN_A_ROW, LINES), (PINNED, PINS), (IN_A_ROW, REFUSED)];
+
+/// Checks each graph with these nodes.
+fn check_graphs(
+    rt: &(impl Abort + Threads + Sync),
+    alloc: Global,
+    nodes: &str,
+    rows: &[Edges],
+) -> Result<(), Fail> {
+    for &(edges, status, output) in rows {
+        check_graph(rt, alloc, nodes, edges, status, output)?;
     }
     Ok(())
 }
 
 #[test]
-fn refuses_nodes_and_edges(rt: HostRuntime) -> Result<(), Fail> {
-    for (rest, output) in REFUSED_BEHIND {
-        check_graph(&rt, rt.alloc(), IN_A_ROW, rest, Status::Diagram, output)?;
+fn checks_nodes_and_edges(rt: HostRuntime) -> Result<(), Fail> {
+    for &(nodes, rows) in &GRAPHS {
+        check_graphs(&rt, rt.alloc(), nodes, rows)?;
     }
     Ok(())
 }
@@ -375,15 +399,19 @@ fn large_output(alloc: Global) -> Result<String, AllocError> {
     Ok(output)
 }
 
+/// Checks the large diagram, which must write what is expected of it.
+fn check_large(
+    rt: &(impl Abort + Threads + Sync),
+    alloc: Global,
+    diagram: &str,
+) -> Result<(), Fail> {
+    let output = large_output(alloc)?;
+    let bytes = diagram.as_bytes();
+    check(rt, alloc, bytes, Status::Done, output.as_str())
+}
+
 #[test]
 fn checks_a_large_diagram(rt: HostRuntime) -> Result<(), Fail> {
-    let file = large_diagram(rt.alloc())?;
-    let output = large_output(rt.alloc())?;
-    check(
-        &rt,
-        rt.alloc(),
-        file.as_bytes(),
-        Status::Done,
-        output.as_str(),
-    )
+    let diagram = large_diagram(rt.alloc())?;
+    check_large(&rt, rt.alloc(), diagram.as_str())
 }

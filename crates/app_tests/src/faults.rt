@@ -2,7 +2,7 @@
 //! of all statuses.
 
 use crate::rows;
-use crate::runs::{Row, Wanted, exit_code, run_row, whole_row};
+use crate::runs::{Row, exit_code, run_row, whole_row};
 use reroute_app::Status;
 use std::alloc::Global;
 use std::process::{Abort, ExitCode};
@@ -15,80 +15,80 @@ const ROUND: &[u8] = b"graph [ node [ id 1 graphics [ x 0 y 0 w 20 h 20 ] ] \
     edge [ source 1 target 2 graphics [ Line [ \
     point [ x 0 y 0 ] point [ x 0 y -24 ] point [ x 100 y -24 ] point [ x 100 y 0 ] ] ] ] ]";
 
+/// Faults at a diagram: the arguments, the diagram, the greatest number of bytes that a write takes,
+/// the read and the write that fail, and the result.
+const AT_DIAGRAMS: [(&str, &[u8], usize, u64, u64, Status, &str); 5] = [
+    ("check|d.gml", ROUND, 5, 0, 2, Status::WriteFault, "edge "),
+    (
+        "check|d.gml",
+        ROUND,
+        1,
+        0,
+        0,
+        Status::Done,
+        "edge 1: cost 248.000\n",
+    ),
+    (
+        "check|d.gml",
+        ROUND,
+        ALL,
+        1,
+        0,
+        Status::ReadFault,
+        "read fault: d.gml\n",
+    ),
+    ("check|d.gml", ROUND, ALL, 1, 1, Status::WriteFault, ""),
+    // After a diagram that is refused no script is read.
+    (
+        "route|d.gml|s.txt",
+        b"",
+        ALL,
+        2,
+        0,
+        Status::Diagram,
+        "diagram: NoGraph\n",
+    ),
+];
+
+/// As many bytes as there are.
+const ALL: usize = usize::MAX;
+
 #[test]
-fn meets_faults_at_checks(rt: HostRuntime) -> Result<(), Fail> {
-    let rows = [
-        Row {
-            most: 5,
-            failing_write: 2,
-            ..whole_row("check|d.gml", Status::WriteFault, "edge ")
-        },
-        Row {
-            most: 1,
-            ..whole_row("check|d.gml", Status::Done, "edge 1: cost 248.000\n")
-        },
-        Row {
-            failing_read: 1,
-            ..whole_row("check|d.gml", Status::ReadFault, "read fault: d.gml\n")
-        },
-        Row {
-            failing_read: 1,
-            failing_write: 1,
-            ..whole_row("check|d.gml", Status::WriteFault, "")
-        },
-    ];
-    for row in rows {
+fn meets_faults_at_diagrams(rt: HostRuntime) -> Result<(), Fail> {
+    for &(words, diagram, most, failing_read, failing_write, status, output) in &AT_DIAGRAMS {
         let row = Row {
-            diagram: ROUND,
-            ..row
+            diagram,
+            most,
+            failing_read,
+            failing_write,
+            ..whole_row(words, status, output)
         };
         run_row(&rt, rt.alloc(), &row)?;
     }
     Ok(())
 }
 
+/// Faults at `route`: the script, the greatest number of bytes that a write takes, the read and the
+/// write that fail, and the result.
+const AT_ROUTES: [(&str, usize, u64, u64, Status, &str); 5] = [
+    (rows::STRAIGHT, ALL, 0, 0, Status::Done, rows::STRAIGHT_OUT),
+    (rows::STRAIGHT, 1, 0, 0, Status::Done, rows::STRAIGHT_OUT),
+    ("", ALL, 2, 0, Status::ReadFault, "read fault: s.txt\n"),
+    (rows::STRAIGHT, 10, 0, 2, Status::WriteFault, "# edge 1: "),
+    ("", ALL, 2, 1, Status::WriteFault, ""),
+];
+
 #[test]
 fn meets_faults_at_routes(rt: HostRuntime) -> Result<(), Fail> {
-    let straight = Row {
-        script: rows::STRAIGHT.as_bytes(),
-        ..whole_row("route|d.gml|s.txt", Status::Done, rows::STRAIGHT_OUT)
-    };
-    let rows = [
-        straight,
-        Row {
-            most: 1,
-            ..straight
-        },
-        Row {
-            failing_read: 2,
-            ..whole_row(
-                "route|d.gml|s.txt",
-                Status::ReadFault,
-                "read fault: s.txt\n",
-            )
-        },
-        Row {
-            most: 10,
-            failing_write: 2,
-            status: Status::WriteFault,
-            wanted: Wanted::Bytes("# edge 1: "),
-            ..straight
-        },
-        Row {
-            failing_read: 2,
-            failing_write: 1,
-            ..whole_row("route|d.gml|s.txt", Status::WriteFault, "")
-        },
-        whole_row("make|1", Status::Done, rows::MADE_OUT),
-        // After a diagram that is refused no script is read.
-        Row {
-            diagram: b"",
-            failing_read: 2,
-            ..whole_row("route|d.gml|s.txt", Status::Diagram, "diagram: NoGraph\n")
-        },
-    ];
-    for row in &rows {
-        run_row(&rt, rt.alloc(), row)?;
+    for &(script, most, failing_read, failing_write, status, output) in &AT_ROUTES {
+        let row = Row {
+            script: script.as_bytes(),
+            most,
+            failing_read,
+            failing_write,
+            ..whole_row("route|d.gml|s.txt", status, output)
+        };
+        run_row(&rt, rt.alloc(), &row)?;
     }
     Ok(())
 }
@@ -113,22 +113,31 @@ fn fails_at_each_write(rt: HostRuntime) -> Result<(), Fail> {
     Ok(())
 }
 
-/// Names that the folder does not have.
-const MISSING: [(&str, &str); 4] = [
-    ("check|x.gml", "read fault: x.gml\n"),
-    ("route|x.gml|s.txt", "read fault: x.gml\n"),
-    ("route|x.gml|x.txt", "read fault: x.gml\n"),
-    ("route|d.gml|x.txt", "read fault: x.txt\n"),
+/// Arguments that name files that the folder does not have, or none, and the result.
+const NAMED: [(&str, Status, &str); 5] = [
+    ("check|x.gml", Status::ReadFault, "read fault: x.gml\n"),
+    (
+        "route|x.gml|s.txt",
+        Status::ReadFault,
+        "read fault: x.gml\n",
+    ),
+    (
+        "route|x.gml|x.txt",
+        Status::ReadFault,
+        "read fault: x.gml\n",
+    ),
+    (
+        "route|d.gml|x.txt",
+        Status::ReadFault,
+        "read fault: x.txt\n",
+    ),
+    ("make|1", Status::Done, rows::MADE_OUT),
 ];
 
 #[test]
-fn reports_missing_files(rt: HostRuntime) -> Result<(), Fail> {
-    for (words, output) in MISSING {
-        run_row(
-            &rt,
-            rt.alloc(),
-            &whole_row(words, Status::ReadFault, output),
-        )?;
+fn reads_the_files_that_are_named(rt: HostRuntime) -> Result<(), Fail> {
+    for &(words, status, output) in &NAMED {
+        run_row(&rt, rt.alloc(), &whole_row(words, status, output))?;
     }
     Ok(())
 }
@@ -150,7 +159,7 @@ const OTHER_WORDS: [&str; 11] = [
 
 #[test]
 fn refuses_other_words(rt: HostRuntime) -> Result<(), Fail> {
-    for words in OTHER_WORDS {
+    for &words in &OTHER_WORDS {
         let row = Row {
             failing_read: 1,
             ..whole_row(words, Status::Words, "words: not understood\n")
@@ -180,13 +189,12 @@ fn read_long_diagram(
         diagram: &spaces,
         ..whole_row("check|d.gml", status, output)
     };
-    run_row(rt, alloc, &row)?;
-    Ok(())
+    run_row(rt, alloc, &row)
 }
 
 #[test]
 fn reads_long_diagrams(rt: HostRuntime) -> Result<(), Fail> {
-    for row in LONG_DIAGRAMS {
+    for &row in &LONG_DIAGRAMS {
         read_long_diagram(&rt, rt.alloc(), row)?;
     }
     Ok(())
@@ -212,13 +220,12 @@ fn read_long_script(
         script: &spaces,
         ..whole_row("route|d.gml|s.txt", status, output)
     };
-    run_row(rt, alloc, &row)?;
-    Ok(())
+    run_row(rt, alloc, &row)
 }
 
 #[test]
 fn reads_long_scripts(rt: HostRuntime) -> Result<(), Fail> {
-    for row in LONG_SCRIPTS {
+    for &row in &LONG_SCRIPTS {
         read_long_script(&rt, rt.alloc(), row)?;
     }
     Ok(())
@@ -240,8 +247,8 @@ const CODES: [(Status, u8); 10] = [
 
 #[test]
 fn has_a_code_for_each_end(rt: HostRuntime) {
-    for (status, code) in CODES {
-        assert_eq!(rt; status.code(), code);
+    for &(status, code) in &CODES {
+        assert!(rt; status.code() == code, "{code}");
     }
 }
 
@@ -250,50 +257,35 @@ const BREACH: &[u8] = b"graph [ node [ id 1 graphics [ x 0 y 0 w 20 h 20 ] ] \
     node [ id 2 graphics [ x 100 y 0 w 20 h 20 ] ] \
     edge [ source 1 target 2 graphics [ Line [ point [ x 0 y 1 ] point [ x 100 y 1 ] ] ] ] ]";
 
+/// Arguments, diagram and script, the write that fails, the status, and its exit status.
+const ENDS: [(&str, &[u8], &[u8], u64, Status, u8); 7] = [
+    ("check|d.gml", b"graph [ ]", b"", 0, Status::Done, 0),
+    (
+        "route|d.gml|s.txt",
+        b"graph [ ]",
+        b"undo",
+        0,
+        Status::Refused,
+        1,
+    ),
+    ("check", b"graph [ ]", b"", 0, Status::Words, 2),
+    ("check|d.gml", b"", b"", 0, Status::Diagram, 3),
+    ("check|x.gml", b"graph [ ]", b"", 0, Status::ReadFault, 4),
+    ("check|d.gml", ROUND, b"", 1, Status::WriteFault, 5),
+    ("check|d.gml", BREACH, b"", 0, Status::BadLine, 8),
+];
+
 #[test]
 fn ends_with_the_code_of_its_status(rt: HostRuntime) -> Result<(), Fail> {
-    let alloc = rt.alloc();
-    let check = whole_row("check|d.gml", Status::Done, "");
-    let rows = [
-        (check, 0),
-        (
-            Row {
-                script: b"undo",
-                ..whole_row("route|d.gml|s.txt", Status::Refused, "")
-            },
-            1,
-        ),
-        (whole_row("check", Status::Words, ""), 2),
-        (
-            Row {
-                diagram: b"",
-                ..check
-            },
-            3,
-        ),
-        (whole_row("check|x.gml", Status::ReadFault, ""), 4),
-        (
-            Row {
-                diagram: ROUND,
-                failing_write: 1,
-                ..check
-            },
-            5,
-        ),
-        (
-            Row {
-                diagram: BREACH,
-                ..check
-            },
-            8,
-        ),
-    ];
-    for (row, code) in rows {
-        assert!(rt;
-            exit_code(&rt, alloc, &row)? == ExitCode::from(code),
-            "{}",
-            row.words
-        );
+    for &(words, diagram, script, failing_write, status, code) in &ENDS {
+        let row = Row {
+            diagram,
+            script,
+            failing_write,
+            ..whole_row(words, status, "")
+        };
+        let ended = exit_code(&rt, rt.alloc(), &row)?;
+        assert!(rt; ended == ExitCode::from(code), "{words}");
     }
     Ok(())
 }

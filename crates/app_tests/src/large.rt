@@ -4,7 +4,9 @@
 use crate::runs::{Row, run_row, whole_row};
 use reroute_app::Status;
 use std::alloc::{AllocError, Global};
+use std::process::Abort;
 use std::test::Fail;
+use std::thread::Threads;
 
 /// Groups of four boxes, one group below the other, with 512 edges in all. A number of equal edges
 /// lead from the first box of a group to the second, and the third is between the two.
@@ -25,7 +27,7 @@ fn number(group: u16, place: u16) -> u32 {
 }
 
 fn push_group(file: &mut String, group: u16) -> Result<(), AllocError> {
-    for (place, x) in BOXES {
+    for &(place, x) in &BOXES {
         let y = 1000 * u32::from(group);
         write!(
             file,
@@ -72,7 +74,7 @@ fn push_costs(output: &mut String, groups: Groups) -> Result<(), AllocError> {
 }
 
 fn push_boxes(output: &mut String, groups: Groups, group: u16) -> Result<(), AllocError> {
-    for (place, x) in BOXES {
+    for &(place, x) in &BOXES {
         let id = number(group, place);
         write!(
             output,
@@ -133,47 +135,66 @@ fn output(alloc: Global, groups: Groups, searches: &str) -> Result<String, Alloc
 /// The arguments of a run with four workers.
 const WORDS: &str = "route|--workers|4|d.gml|s.txt|--count";
 
-/// 256 boxes and 512 edges, of which eight lead around a box that moves.
-#[test]
-fn routes_many_boxes(rt: HostRuntime) -> Result<(), Fail> {
-    let groups = Groups {
-        count: 64,
-        edges: 8,
-        is_moved: true,
-    };
-    let searches =
+/// Groups, the script, and the first lines of the report.
+const ROWS: [(Groups, &[u8], &str); 2] = [
+    // 256 boxes and 512 edges, of which eight lead around a box that moves.
+    (
+        Groups {
+            count: 64,
+            edges: 8,
+            is_moved: true,
+        },
+        b"begin, move 3 50 500, commit, begin, move 3 50 0, commit, undo, redo, undo",
         "# open: searched 512\n# line 3: searched 8\n# line 6: searched 8\n# line 7: searched 0\n\
-        # line 8: searched 0\n# line 9: searched 0\n";
-    let output = output(rt.alloc(), groups, searches)?;
-    let diagram = diagram(rt.alloc(), groups)?;
+        # line 8: searched 0\n# line 9: searched 0\n",
+    ),
+    // 512 edges around one box, which moves.
+    (
+        Groups {
+            count: 1,
+            edges: 512,
+            is_moved: false,
+        },
+        b"begin, move 3 50 500, commit, begin, move 3 50 0, commit, undo, redo",
+        "# open: searched 512\n# line 3: searched 512\n# line 6: searched 512\n# line 7: searched 0\n\
+        # line 8: searched 0\n",
+    ),
+];
+
+/// Routes the diagram of the groups, which must write this output.
+fn route_diagram(
+    rt: &(impl Abort + Threads + Sync),
+    alloc: Global,
+    groups: Groups,
+    script: &[u8],
+    output: &str,
+) -> Result<(), Fail> {
+    let diagram = diagram(alloc, groups)?;
     let row = Row {
         diagram: diagram.as_bytes(),
-        script: b"begin, move 3 50 500, commit, begin, move 3 50 0, commit, undo, redo, undo",
-        ..whole_row(WORDS, Status::Done, output.as_str())
+        script,
+        ..whole_row(WORDS, Status::Done, output)
     };
-    run_row(&rt, rt.alloc(), &row)?;
-    Ok(())
+    run_row(rt, alloc, &row)
 }
 
-/// 512 edges around one box, which moves.
+/// Routes the groups, which must write a report that begins with these lines.
+fn route_groups(
+    rt: &(impl Abort + Threads + Sync),
+    alloc: Global,
+    groups: Groups,
+    script: &[u8],
+    searches: &str,
+) -> Result<(), Fail> {
+    let output = output(alloc, groups, searches)?;
+    route_diagram(rt, alloc, groups, script, output.as_str())
+}
+
 #[test]
-fn routes_many_edges(rt: HostRuntime) -> Result<(), Fail> {
-    let groups = Groups {
-        count: 1,
-        edges: 512,
-        is_moved: false,
-    };
-    let searches =
-        "# open: searched 512\n# line 3: searched 512\n# line 6: searched 512\n# line 7: searched 0\n\
-        # line 8: searched 0\n";
-    let output = output(rt.alloc(), groups, searches)?;
-    let diagram = diagram(rt.alloc(), groups)?;
-    let row = Row {
-        diagram: diagram.as_bytes(),
-        script: b"begin, move 3 50 500, commit, begin, move 3 50 0, commit, undo, redo",
-        ..whole_row(WORDS, Status::Done, output.as_str())
-    };
-    run_row(&rt, rt.alloc(), &row)?;
+fn routes_many_boxes_and_many_edges(rt: HostRuntime) -> Result<(), Fail> {
+    for &(groups, script, searches) in &ROWS {
+        route_groups(&rt, rt.alloc(), groups, script, searches)?;
+    }
     Ok(())
 }
 
@@ -194,15 +215,19 @@ fn long_output(alloc: Global) -> Result<String, AllocError> {
     Ok(output)
 }
 
-/// Of 20,000 lines every other one is skipped, and the rest are refused.
-#[test]
-fn replays_a_long_script(rt: HostRuntime) -> Result<(), Fail> {
-    let script = long_script(rt.alloc())?;
-    let output = long_output(rt.alloc())?;
+/// Replays the script, which must write what is expected of it.
+fn replay(rt: &(impl Abort + Threads + Sync), alloc: Global, script: &str) -> Result<(), Fail> {
+    let output = long_output(alloc)?;
     let row = Row {
         script: script.as_bytes(),
         ..whole_row("route|d.gml|s.txt", Status::Refused, output.as_str())
     };
-    run_row(&rt, rt.alloc(), &row)?;
-    Ok(())
+    run_row(rt, alloc, &row)
+}
+
+/// Of 20,000 lines every other one is skipped, and the rest are refused.
+#[test]
+fn replays_a_long_script(rt: HostRuntime) -> Result<(), Fail> {
+    let script = long_script(rt.alloc())?;
+    replay(&rt, rt.alloc(), script.as_str())
 }

@@ -36,15 +36,13 @@ fn whole(alloc: Global, parts: &[Part]) -> Result<String, AllocError> {
 fn route_script(rt: &(impl Abort + Threads + Sync), alloc: Global, row: &Row) -> Result<(), Fail> {
     let (script, status, output) = *row;
     let (script, output) = (whole(alloc, script)?, whole(alloc, output)?);
-    run_row(rt, alloc, &route_row("graph [ ]", &script, status, &output))?;
-    Ok(())
+    run_row(rt, alloc, &route_row("graph [ ]", &script, status, &output))
 }
 
 fn route_diagram(rt: &(impl Abort + Threads + Sync), alloc: Global, row: &Row) -> Result<(), Fail> {
     let (diagram, status, output) = *row;
     let (diagram, output) = (whole(alloc, diagram)?, whole(alloc, output)?);
-    run_row(rt, alloc, &route_row(&diagram, "", status, &output))?;
-    Ok(())
+    run_row(rt, alloc, &route_row(&diagram, "", status, &output))
 }
 
 #[test]

@@ -75,8 +75,8 @@ fn judge(rt: &impl Abort, alloc: Global, row: &Row, routing: &Routing) -> Option
     let text = spaced(alloc, &routing.text).ok()?;
     let wanted = spaced(alloc, row.output.as_bytes()).ok()?;
     assert!(rt; text.as_slice() == wanted.as_slice(), "{}", row.script);
-    assert_eq!(rt; routing.is_refused, row.is_refused);
-    assert_eq!(rt; routing.tally.count(), row.searched);
+    assert!(rt; routing.is_refused == row.is_refused, "{}", row.script);
+    assert!(rt; routing.tally.count() == row.searched, "{}", row.script);
     Some(())
 }
 

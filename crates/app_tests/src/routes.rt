@@ -7,48 +7,42 @@ use reroute_app::Status;
 use std::alloc::{AllocError, Global};
 use std::test::Fail;
 
-/// Scripts on the empty diagram.
-const SCRIPTS: [(&str, &str); 12] = [
-    (rows::STRAIGHT, rows::STRAIGHT_OUT),
-    (rows::ROUND_A_BOX, rows::ROUND_A_BOX_OUT),
-    (rows::CHECKPOINT, rows::CHECKPOINT_OUT),
-    (rows::BACK, rows::BACK_OUT),
-    (rows::WALLED, rows::WALLED_OUT),
-    (rows::CORRIDOR, rows::CORRIDOR_OUT),
-    (rows::COVERED, rows::COVERED_OUT),
-    (rows::STUB, rows::STUB_OUT),
-    (rows::CORNER, rows::CORNER_OUT),
-    (rows::PARALLEL, rows::PARALLEL_OUT),
-    (rows::HALVES, rows::HALVES_OUT),
-    (rows::CHANNEL, rows::CHANNEL_OUT),
+/// A diagram without nodes.
+const EMPTY: &str = "graph [ ]";
+
+/// Diagrams, each with a script, the status and the output. In the last two something is refused.
+const ROUTED: [(&str, &str, Status, &str); 15] = [
+    (EMPTY, rows::STRAIGHT, Status::Done, rows::STRAIGHT_OUT),
+    (
+        EMPTY,
+        rows::ROUND_A_BOX,
+        Status::Done,
+        rows::ROUND_A_BOX_OUT,
+    ),
+    (EMPTY, rows::CHECKPOINT, Status::Done, rows::CHECKPOINT_OUT),
+    (EMPTY, rows::BACK, Status::Done, rows::BACK_OUT),
+    (EMPTY, rows::WALLED, Status::Done, rows::WALLED_OUT),
+    (EMPTY, rows::CORRIDOR, Status::Done, rows::CORRIDOR_OUT),
+    (EMPTY, rows::COVERED, Status::Done, rows::COVERED_OUT),
+    (EMPTY, rows::STUB, Status::Done, rows::STUB_OUT),
+    (EMPTY, rows::CORNER, Status::Done, rows::CORNER_OUT),
+    (EMPTY, rows::PARALLEL, Status::Done, rows::PARALLEL_OUT),
+    (EMPTY, rows::HALVES, Status::Done, rows::HALVES_OUT),
+    (EMPTY, rows::CHANNEL, Status::Done, rows::CHANNEL_OUT),
+    (ORDINARY, "", Status::Done, rows::ORDINARY_OUT),
+    (EMPTY, rows::REFUSED, Status::Refused, rows::REFUSED_OUT),
+    (
+        EMPTY,
+        rows::UNFINISHED,
+        Status::Refused,
+        rows::UNFINISHED_OUT,
+    ),
 ];
 
 #[test]
-fn routes_scripts(rt: HostRuntime) -> Result<(), Fail> {
-    for (script, output) in SCRIPTS {
-        let row = route_row("graph [ ]", script, Status::Done, output);
-        run_row(&rt, rt.alloc(), &row)?;
-    }
-    Ok(())
-}
-
-#[test]
-fn routes_an_ordinary_file(rt: HostRuntime) -> Result<(), Fail> {
-    let row = route_row(ORDINARY, "", Status::Done, rows::ORDINARY_OUT);
-    run_row(&rt, rt.alloc(), &row)?;
-    Ok(())
-}
-
-/// Scripts on the empty diagram in which something is refused.
-const REFUSALS: [(&str, &str); 2] = [
-    (rows::REFUSED, rows::REFUSED_OUT),
-    (rows::UNFINISHED, rows::UNFINISHED_OUT),
-];
-
-#[test]
-fn reports_refusals(rt: HostRuntime) -> Result<(), Fail> {
-    for (script, output) in REFUSALS {
-        let row = route_row("graph [ ]", script, Status::Refused, output);
+fn routes_scripts_and_reports_refusals(rt: HostRuntime) -> Result<(), Fail> {
+    for &(diagram, script, status, output) in &ROUTED {
+        let row = route_row(diagram, script, status, output);
         run_row(&rt, rt.alloc(), &row)?;
     }
     Ok(())
@@ -75,29 +69,28 @@ fn many_undone(alloc: Global) -> Result<String, AllocError> {
 fn refuses_the_last_of_many_undos(rt: HostRuntime) -> Result<(), Fail> {
     let script = many_undone(rt.alloc())?;
     let row = route_row(
-        "graph [ ]",
+        EMPTY,
         script.as_str(),
         Status::Refused,
         rows::MANY_UNDONE_OUT,
     );
-    run_row(&rt, rt.alloc(), &row)?;
-    Ok(())
+    run_row(&rt, rt.alloc(), &row)
 }
 
 /// Diagrams, each with a script, and with the numbers of searches in the output.
 const DIAGRAMS: [(&str, &str, &str); 11] = [
     (
-        "graph [ ]",
+        EMPTY,
         diagrams::AT_THE_BOUND_SCRIPT,
         diagrams::AT_THE_BOUND_OUT,
     ),
     (
-        "graph [ ]",
+        EMPTY,
         diagrams::PAST_THE_BOUND_SCRIPT,
         diagrams::PAST_THE_BOUND_OUT,
     ),
-    ("graph [ ]", diagrams::REDONE_SCRIPT, diagrams::REDONE_OUT),
-    ("graph [ ]", diagrams::EDITED_SCRIPT, diagrams::EDITED_OUT),
+    (EMPTY, diagrams::REDONE_SCRIPT, diagrams::REDONE_OUT),
+    (EMPTY, diagrams::EDITED_SCRIPT, diagrams::EDITED_OUT),
     (diagrams::CHEAP_PIN_DIAGRAM, "", diagrams::CHEAP_PIN_OUT),
     (diagrams::EVEN_PIN_DIAGRAM, "", diagrams::EVEN_PIN_OUT),
     (diagrams::DEAR_PIN_DIAGRAM, "", diagrams::DEAR_PIN_OUT),
@@ -117,7 +110,7 @@ const DIAGRAMS: [(&str, &str, &str); 11] = [
 
 #[test]
 fn routes_diagrams(rt: HostRuntime) -> Result<(), Fail> {
-    for (diagram, script, output) in DIAGRAMS {
+    for &(diagram, script, output) in &DIAGRAMS {
         let row = Row {
             words: "route|d.gml|s.txt|--count",
             ..route_row(diagram, script, Status::Done, output)

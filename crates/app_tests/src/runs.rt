@@ -166,8 +166,8 @@ pub(crate) fn run_row(
     rt: &(impl Abort + Threads + Sync),
     alloc: Global,
     row: &Row,
-) -> Result<u64, Fail> {
-    run_row_gated::<OpenGate>(rt, alloc, row, None)
+) -> Result<(), Fail> {
+    run_row_gated::<OpenGate>(rt, alloc, row, None).map(|_| ())
 }
 
 fn written_in_folder(

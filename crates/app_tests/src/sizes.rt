@@ -96,6 +96,9 @@ fn diagram(alloc: Global, sizes: Sizes) -> Result<String, AllocError> {
     Ok(diagram)
 }
 
+/// Arguments of `prove`, and of `audit`, which must not read the certificate.
+const REFUSING: [&str; 2] = ["prove|d.gml", "audit|d.gml|missing.txt"];
+
 /// Runs `prove` and `audit` of the diagram, which must end with this output.
 fn refuse(
     rt: &(impl Abort + Threads + Sync),
@@ -103,7 +106,7 @@ fn refuse(
     diagram: &[u8],
     output: &str,
 ) -> Result<(), Fail> {
-    for words in ["prove|d.gml", "audit|d.gml|missing.txt"] {
+    for words in REFUSING {
         let row = Row {
             diagram,
             ..whole_row(words, Status::Diagram, output)
@@ -125,12 +128,13 @@ fn refuse_sizes(
 
 #[test]
 fn refuses_one_more_of_each(rt: HostRuntime) -> Result<(), Fail> {
-    for (sizes, output) in REFUSED {
+    for &(sizes, output) in &REFUSED {
         refuse_sizes(&rt, rt.alloc(), sizes, output)?;
     }
     Ok(())
 }
 
+/// Runs `prove` of the diagram. It returns the certificate.
 fn prove(
     rt: &(impl Abort + Threads + Sync),
     alloc: Global,
@@ -143,25 +147,24 @@ fn prove(
     written(rt, alloc, &row)
 }
 
-fn audit(
+/// Runs `audit` of the diagram with the certificate that `prove` writes for it.
+fn prove_and_audit(
     rt: &(impl Abort + Threads + Sync),
     alloc: Global,
     diagram: &[u8],
-    certificate: &[u8],
 ) -> Result<(), Fail> {
+    let certificate = prove(rt, alloc, diagram)?;
     assert!(rt; certificate.starts_with(b"edge 1 cost "));
     let row = Row {
         diagram,
-        script: certificate,
+        script: &certificate,
         ..whole_row("audit|d.gml|s.txt", Status::Done, "audit: yes\n")
     };
-    run_row(rt, alloc, &row)?;
-    Ok(())
+    run_row(rt, alloc, &row)
 }
 
 #[test]
 fn proves_the_greatest_diagram(rt: HostRuntime) -> Result<(), Fail> {
     let diagram = diagram(rt.alloc(), MOST)?;
-    let certificate = prove(&rt, rt.alloc(), diagram.as_bytes())?;
-    audit(&rt, rt.alloc(), diagram.as_bytes(), &certificate)
+    prove_and_audit(&rt, rt.alloc(), diagram.as_bytes())
 }

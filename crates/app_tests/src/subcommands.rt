@@ -4,7 +4,9 @@
 use crate::runs::{Row, run_row, whole_row};
 use reroute_app::Status;
 use std::alloc::{AllocError, Global};
+use std::process::Abort;
 use std::test::Fail;
+use std::thread::Threads;
 
 /// Two nodes and a straight edge.
 const STRAIGHT: &str =
@@ -79,7 +81,7 @@ const SHARED: [(&str, &str); 5] = [
 
 #[test]
 fn lists_shared_paths(rt: HostRuntime) -> Result<(), Fail> {
-    for (diagram, output) in SHARED {
+    for &(diagram, output) in &SHARED {
         run_row(
             &rt,
             rt.alloc(),
@@ -123,12 +125,21 @@ const PREVIEWS: [(&str, Status, &str); 7] = [
     ),
 ];
 
+/// Arguments of a preview by one worker, and by four.
+const BY_WORKERS: [&str; 2] = ["preview|d.gml|s.txt", "preview|--workers|4|d.gml|s.txt"];
+
+/// Previews the proposals with these arguments.
+fn preview(rt: &(impl Abort + Threads + Sync), alloc: Global, words: &str) -> Result<(), Fail> {
+    for &(script, status, output) in &PREVIEWS {
+        run_row(rt, alloc, &row(words, ROUND, script, status, output))?;
+    }
+    Ok(())
+}
+
 #[test]
 fn previews_proposals(rt: HostRuntime) -> Result<(), Fail> {
-    for (script, status, output) in PREVIEWS {
-        for words in ["preview|d.gml|s.txt", "preview|--workers|4|d.gml|s.txt"] {
-            run_row(&rt, rt.alloc(), &row(words, ROUND, script, status, output))?;
-        }
+    for words in &BY_WORKERS {
+        preview(&rt, rt.alloc(), words)?;
     }
     Ok(())
 }
@@ -170,30 +181,48 @@ fn labelled(alloc: Global, claim: &str, more: &str) -> Result<String, AllocError
     Ok(text)
 }
 
+/// Runs `prove` of the diagram, which must write this certificate, and `audit` of both.
+fn prove(
+    rt: &(impl Abort + Threads + Sync),
+    alloc: Global,
+    diagram: &str,
+    certificate: &str,
+) -> Result<(), Fail> {
+    let proved = row("prove|d.gml", diagram, "", Status::Done, certificate);
+    run_row(rt, alloc, &proved)?;
+    audit(
+        rt,
+        alloc,
+        diagram,
+        certificate,
+        Status::Done,
+        "audit: yes\n",
+    )
+}
+
+/// Runs `audit` of the diagram and the certificate.
+fn audit(
+    rt: &(impl Abort + Threads + Sync),
+    alloc: Global,
+    diagram: &str,
+    certificate: &str,
+    status: Status,
+    output: &str,
+) -> Result<(), Fail> {
+    let audited = row("audit|d.gml|s.txt", diagram, certificate, status, output);
+    run_row(rt, alloc, &audited)
+}
+
+/// Diagrams, and their certificates.
+const PROVED: [(&str, &str); 2] = [(WALLED, WALLED_CERTIFICATE), ("graph [ ]", "")];
+
 #[test]
 fn proves_costs(rt: HostRuntime) -> Result<(), Fail> {
-    let certificate = labelled(rt.alloc(), CLAIM, "")?;
-    let rows = [
-        (STRAIGHT, certificate.as_str()),
-        (WALLED, WALLED_CERTIFICATE),
-        ("graph [ ]", ""),
-    ];
-    for (diagram, output) in rows {
-        run_row(
-            &rt,
-            rt.alloc(),
-            &row("prove|d.gml", diagram, "", Status::Done, output),
-        )?;
-        let audited = row(
-            "audit|d.gml|s.txt",
-            diagram,
-            output,
-            Status::Done,
-            "audit: yes\n",
-        );
-        run_row(&rt, rt.alloc(), &audited)?;
+    for &(diagram, certificate) in &PROVED {
+        prove(&rt, rt.alloc(), diagram, certificate)?;
     }
-    Ok(())
+    let certificate = labelled(rt.alloc(), CLAIM, "")?;
+    prove(&rt, rt.alloc(), STRAIGHT, certificate.as_str())
 }
 
 /// Texts that are not certificates of the straight edge, and the answer of the audit.
@@ -215,72 +244,88 @@ const BAD_CERTIFICATES: [(&str, &str); 7] = [
 
 #[test]
 fn refuses_certificates(rt: HostRuntime) -> Result<(), Fail> {
-    for (text, output) in BAD_CERTIFICATES {
-        let audited = row("audit|d.gml|s.txt", STRAIGHT, text, Status::AuditNo, output);
-        run_row(&rt, rt.alloc(), &audited)?;
+    for &(text, output) in &BAD_CERTIFICATES {
+        audit(&rt, rt.alloc(), STRAIGHT, text, Status::AuditNo, output)?;
     }
     Ok(())
+}
+
+/// Claims, what stands behind the labels of the straight edge, and the answer of the audit.
+const DAMAGED: [(&str, &str, &str); 2] = [
+    (
+        "edge 1 cost 99999\npoint 0 0\npoint 100000 0\n",
+        "",
+        "audit: no, edge 1 rule 3\n",
+    ),
+    (CLAIM, "edge 2 cut\n", "audit: no, edge 0 rule 1\n"),
+];
+
+fn refuse_damaged(
+    rt: &(impl Abort + Threads + Sync),
+    alloc: Global,
+    claim: &str,
+    more: &str,
+    output: &str,
+) -> Result<(), Fail> {
+    let text = labelled(alloc, claim, more)?;
+    audit(rt, alloc, STRAIGHT, text.as_str(), Status::AuditNo, output)
 }
 
 #[test]
 fn refuses_damaged_certificates(rt: HostRuntime) -> Result<(), Fail> {
-    let cheap = "edge 1 cost 99999\npoint 0 0\npoint 100000 0\n";
-    let rows = [
-        (cheap, "", "audit: no, edge 1 rule 3\n"),
-        (CLAIM, "edge 2 cut\n", "audit: no, edge 0 rule 1\n"),
-    ];
-    for (claim, more, output) in rows {
-        let text = labelled(rt.alloc(), claim, more)?;
-        let audited = row(
-            "audit|d.gml|s.txt",
-            STRAIGHT,
-            text.as_str(),
-            Status::AuditNo,
-            output,
-        );
-        run_row(&rt, rt.alloc(), &audited)?;
+    for &(claim, more, output) in &DAMAGED {
+        refuse_damaged(&rt, rt.alloc(), claim, more, output)?;
     }
     Ok(())
 }
 
+/// Arguments, the diagram, and the result.
+const FAULTS: [(&str, &str, Status, &str); 12] = [
+    (
+        "preview|d.gml|missing.txt",
+        ROUND,
+        Status::ReadFault,
+        "read fault: missing.txt\n",
+    ),
+    (
+        "shared|missing.gml",
+        ROUND,
+        Status::ReadFault,
+        "read fault: missing.gml\n",
+    ),
+    (
+        "prove|missing.gml",
+        ROUND,
+        Status::ReadFault,
+        "read fault: missing.gml\n",
+    ),
+    (
+        "audit|d.gml|missing.txt",
+        ROUND,
+        Status::ReadFault,
+        "read fault: missing.txt\n",
+    ),
+    ("preview|d.gml|s.txt", OPENED, Status::Diagram, AT_ITS_END),
+    ("shared|d.gml", OPENED, Status::Diagram, AT_ITS_END),
+    ("prove|d.gml", OPENED, Status::Diagram, AT_ITS_END),
+    ("audit|d.gml|s.txt", OPENED, Status::Diagram, AT_ITS_END),
+    ("preview|d.gml", ROUND, Status::Words, NOT_UNDERSTOOD),
+    ("shared", ROUND, Status::Words, NOT_UNDERSTOOD),
+    ("prove|d.gml|s.txt", ROUND, Status::Words, NOT_UNDERSTOOD),
+    ("audit|d.gml", ROUND, Status::Words, NOT_UNDERSTOOD),
+];
+
+/// A diagram that is not closed.
+const OPENED: &str = "graph [";
+
+const AT_ITS_END: &str = "diagram: Syntax at 7\n";
+
+const NOT_UNDERSTOOD: &str = "words: not understood\n";
+
 #[test]
 fn meets_faults(rt: HostRuntime) -> Result<(), Fail> {
-    let rows = [
-        ("preview|d.gml|missing.txt", "read fault: missing.txt\n"),
-        ("shared|missing.gml", "read fault: missing.gml\n"),
-        ("prove|missing.gml", "read fault: missing.gml\n"),
-        ("audit|d.gml|missing.txt", "read fault: missing.txt\n"),
-    ];
-    for (words, output) in rows {
-        run_row(
-            &rt,
-            rt.alloc(),
-            &row(words, ROUND, "", Status::ReadFault, output),
-        )?;
-    }
-    for words in [
-        "preview|d.gml|s.txt",
-        "shared|d.gml",
-        "prove|d.gml",
-        "audit|d.gml|s.txt",
-    ] {
-        let refused = row(
-            words,
-            "graph [",
-            "",
-            Status::Diagram,
-            "diagram: Syntax at 7\n",
-        );
-        run_row(&rt, rt.alloc(), &refused)?;
-    }
-    for words in [
-        "preview|d.gml",
-        "shared",
-        "prove|d.gml|s.txt",
-        "audit|d.gml",
-    ] {
-        let refused = row(words, ROUND, "", Status::Words, "words: not understood\n");
-        run_row(&rt, rt.alloc(), &refused)?;
+    for &(words, diagram, status, output) in &FAULTS {
+        run_row(&rt, rt.alloc(), &row(words, diagram, "", status, output))?;
     }
     Ok(())
 }
