@@ -164,14 +164,8 @@ impl Book {
         ensures tally { OnOk result (CountsStale old.now self.old new.now tally.old tally.new) }
         ensures never_falls { tally.old ≤ tally.new }
     {
-        let sought = self.sought(old, new)?;
-        let searches = Searches {
-            alloc: self.alloc,
-            scene: new,
-            graph,
-        };
-        let found = searches.answers(rt, &sought.stale, workers, gate, tally)?;
-        self.changes(old, new, &sought, &found)
+        let renewed = self.renewed(rt, old, new, graph, workers, gate, tally)?;
+        self.changes(renewed)
     }
 
     /// The exchange of answers for the step from the old scene, for which the book is right, to the
@@ -195,6 +189,55 @@ impl Book {
         ensures tally { OnOk result (CountsStale old.now self.old new.now tally.old tally.new) }
         ensures never_falls { tally.old ≤ tally.new }
     {
+        let renewed = self.renewed_alone(old, new, graph, tally)?;
+        self.changes(renewed)
+    }
+
+    /// The book of the new scene, whose graph is `graph`, if this one is right for the old scene.
+    /// Only the stale connectors are searched, by at most `workers` searches side by side.
+    fn renewed<R: Threads + Sync, G: Gate>(
+        &self,
+        rt: &R,
+        old: &Scene,
+        new: &Scene,
+        graph: &Graph,
+        workers: u32,
+        gate: &G,
+        tally: &mut Tally,
+    ) -> Result<Book, AllocError>
+        requires some { 1 ≤ workers }
+        requires few { workers ≤ 4 }
+        requires right { AreAnswers old.now self.now }
+        requires graph { graph.now.floor ≡ floor_of new.now }
+        ensures right { IfOk result (AreAnswers new.now) }
+        ensures tally { OnOk result (CountsStale old.now self.now new.now tally.old tally.new) }
+        ensures never_falls { tally.old ≤ tally.new }
+    {
+        let sought = self.sought(old, new)?;
+        let searches = Searches {
+            alloc: self.alloc,
+            scene: new,
+            graph,
+        };
+        let found = searches.answers(rt, &sought.stale, workers, gate, tally)?;
+        self.merged(old, new, &sought, &found)
+    }
+
+    /// The book of the new scene, whose graph is `graph`, if this one is right for the old scene.
+    /// Only the stale connectors are searched, without threads.
+    fn renewed_alone(
+        &self,
+        old: &Scene,
+        new: &Scene,
+        graph: &Graph,
+        tally: &mut Tally,
+    ) -> Result<Book, AllocError>
+        requires right { AreAnswers old.now self.now }
+        requires graph { graph.now.floor ≡ floor_of new.now }
+        ensures right { IfOk result (AreAnswers new.now) }
+        ensures tally { OnOk result (CountsStale old.now self.now new.now tally.old tally.new) }
+        ensures never_falls { tally.old ≤ tally.new }
+    {
         let sought = self.sought(old, new)?;
         let searches = Searches {
             alloc: self.alloc,
@@ -202,7 +245,7 @@ impl Book {
             graph,
         };
         let found = searches.answers_alone(&sought.stale, tally)?;
-        self.changes(old, new, &sought, &found)
+        self.merged(old, new, &sought, &found)
     }
 
     /// The connectors of the new scene, and those of them that have to be searched again, if the
@@ -220,24 +263,35 @@ impl Book {
         Ok(Sought { connectors, stale })
     }
 
-    /// The exchange of answers, where `found` has the right answers of the stale connectors.
-    fn changes(
+    /// The book of the new scene, where `found` has the right answers of the stale connectors.
+    fn merged(
         &self,
         old: &Scene,
         new: &Scene,
         sought: &Sought,
         found: &AnswerList,
-    ) -> Result<Changes, AllocError>
+    ) -> Result<Book, AllocError>
         requires right { AreAnswers old.now self.now }
         requires connectors { sought.now.connectors.items ≡ map (λ e. e.number) (connectors new.now) }
         requires stale { AreStale old.now self.now new.now sought.now.stale.items }
         requires found { AllZip (IsAnswerWith new.now) sought.now.stale.items found.now }
-        ensures here { IfOk result (λ c. c.here ≡ self.now) }
-        ensures there { IfOk result (λ c. AreAnswers new.now c.there) }
+        ensures { IfOk result (AreAnswers new.now) }
     {
         old.valid();
         new.valid();
-        let there = self.answers.merged(self.alloc, &sought.connectors, found)?;
+        let answers = self.answers.merged(self.alloc, &sought.connectors, found)?;
+        Ok(Book {
+            alloc: self.alloc,
+            answers,
+        })
+    }
+
+    /// The exchange of answers for the step to the scene of the other book.
+    fn changes(&self, other: Book) -> Result<Changes, AllocError>
+        ensures here { IfOk result (λ c. c.here ≡ self.now) }
+        ensures there { IfOk result (λ c. c.there ≡ other) }
+    {
+        let Book { answers: there, .. } = other;
         Ok(Changes {
             here: self.answers.copy(self.alloc)?,
             spare: there.copy(self.alloc)?,
@@ -266,10 +320,7 @@ impl Book {
         ensures never_falls { tally.old ≤ tally.new }
     {
         let graph = Graph::build(self.alloc, &new.floor()?)?;
-        let mut book = self.copy()?;
-        let mut changes = book.follow(rt, old, new, &graph, workers, gate, tally)?;
-        book.swap(&mut changes);
-        Ok(book)
+        self.renewed(rt, old, new, &graph, workers, gate, tally)
     }
 
     /// The right answers of the new scene, from these of the old one, without threads. Only the stale connectors are
@@ -288,10 +339,7 @@ impl Book {
         ensures never_falls { tally.old ≤ tally.new }
     {
         let graph = Graph::build(self.alloc, &new.floor()?)?;
-        let mut book = self.copy()?;
-        let mut changes = book.follow_alone(old, new, &graph, tally)?;
-        book.swap(&mut changes);
-        Ok(book)
+        self.renewed_alone(old, new, &graph, tally)
     }
 
     /// Exchanges the book's answers with those of the other scene in `changes`, which are reversed,
