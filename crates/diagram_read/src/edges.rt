@@ -127,12 +127,21 @@ fn via_in(alloc: Global, place: u32, before: usize, list: &[Pair]) -> Result<Via
     ensures { IsRead (each (with_via place before) [] (values_at (codes "via") (pairs list.now))) result }
 {
     let mut via = Via::new(alloc);
+    add_all_via(&mut via, place, before, list)?;
+    Ok(via)
+}
+
+/// Appends the checkpoints of an edge's list.
+fn add_all_via(via: &mut Via, place: u32, before: usize, list: &[Pair]) -> Result<(), DiagramFault>
+    requires { before ≤ 256 }
+    ensures { IsReadInto (each (with_via place before) via.old (values_at (codes "via") (pairs list.now))) via.new result }
+{
     for pair in list {
         if has_key(pair, b"via") {
-            add_via(&mut via, place, before, &pair.value)?;
+            add_via(via, place, before, &pair.value)?;
         }
     }
-    Ok(via)
+    Ok(())
 }
 
 /// Appends the checkpoint that a value describes.

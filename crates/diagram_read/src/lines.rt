@@ -1,8 +1,9 @@
 //! The line of an edge.
-ghost use Rattle.std.specs.Prelude.{◌≡◌, option_map, option_and_then};
+ghost use Rattle.std.specs.Prelude.{◌≡◌, codes, option_map, option_and_then};
 ghost use Rattle.gml_text.specs.View.{pairs, tree};
-ghost use Rattle.diagram_read.specs.Faults.{IsRead};
-ghost use Rattle.diagram_read.specs.Lines.{line_in, line_of, list_with, on_sheet, point_in};
+ghost use Rattle.diagram_read.specs.Faults.{IsRead, IsReadInto, each};
+ghost use Rattle.diagram_read.specs.Lines.{line_in, line_of, list_with, on_sheet, point_in, with_point};
+ghost use Rattle.diagram_read.specs.Values.{lists_at};
 
 use crate::fault::{DiagramFault, Part};
 use crate::values::{
@@ -28,15 +29,32 @@ pub fn line_of(alloc: Global, doc: &Doc, edge: &Edge) -> Result<Option<Points>, 
     let Some(line) = find_line(doc, edge) else {
         return Ok(None);
     };
-    let mut points = Vec::new(alloc);
+    let mut points = Points(Vec::new(alloc));
+    add_points(&mut points, edge.number, line)?;
+    Ok(Some(points))
+}
+
+/// Appends the points of a `Line`, which is that of the edge with this number.
+fn add_points(points: &mut Points, number: u32, line: &[Pair]) -> Result<(), DiagramFault>
+    ensures { IsReadInto (each (with_point number) points.old (lists_at (codes "point") (pairs line.now))) points.new result }
+{
     for pair in line {
         if has_key(pair, b"point")
             && let Some(list) = as_list(&pair.value)
         {
-            points.push(point_in(edge.number, list)?)?;
+            add_point(points, number, list)?;
         }
     }
-    Ok(Some(Points(points)))
+    Ok(())
+}
+
+/// Appends the point that a list describes.
+fn add_point(points: &mut Points, number: u32, list: &[Pair]) -> Result<(), DiagramFault>
+    ensures { IsReadInto (with_point number points.old (pairs list.now)) points.new result }
+{
+    let point = point_in(number, list)?;
+    points.0.push(point)?;
+    Ok(())
 }
 
 /// The `Line` of the edge, if it has one.

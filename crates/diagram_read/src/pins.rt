@@ -26,12 +26,21 @@ pub(crate) fn with_pins(
     requires { before ≤ 256 }
     ensures { IsRead (each (with_pin place before) node (values_at (codes "pin") (pairs list.now))) result }
 {
+    add_pins(&mut node, place, before, list)?;
+    Ok(node)
+}
+
+/// Appends the pins of a node's list.
+fn add_pins(node: &mut Node, place: u32, before: usize, list: &[Pair]) -> Result<(), DiagramFault>
+    requires { before ≤ 256 }
+    ensures { IsReadInto (each (with_pin place before) node.old (values_at (codes "pin") (pairs list.now))) node.new result }
+{
     for pair in list {
         if has_key(pair, b"pin") {
-            add_pin(&mut node, place, before, &pair.value)?;
+            add_pin(node, place, before, &pair.value)?;
         }
     }
-    Ok(node)
+    Ok(())
 }
 
 /// Appends the pin that a value describes to those of the node.

@@ -5,7 +5,7 @@ use Rattle.gml_text.specs.View.{pairs}
 use Rattle.diagram_read.specs.Faults.{each}
 use Rattle.diagram_read.specs.Nodes.{with_pin}
 use Rattle.diagram_read.specs.Values.{values_at}
-use Rattle.diagram_read.proofs.pins.with_pins.Given as goal
+use Rattle.diagram_read.proofs.pins.add_pins.Given as goal
 
 abbrev pub invariant-loop-pair : goal.invariant-loop-pair
 invariant-loop-pair l =
