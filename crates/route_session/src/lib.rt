@@ -6,6 +6,7 @@
 mod present;
 mod scenes;
 mod session;
+mod start;
 
 pub use preview::{MOST_PROPOSALS, Previewed, Proposal};
 pub use scene_model::SessionFault;

@@ -1,5 +1,5 @@
 //! The session: what an editor embeds.
-ghost use Rattle.std.specs.Prelude.{◌≡◌, ◌≢◌, ◌+◌, ◌≤◌, ℕ, All, Err, Ok, IfErr, IfOk, IfSome, IsErrOf, IsSome, None, OnErr, OnOk, Some, is_some, length, map, option_copied, slice_get};
+ghost use Rattle.std.specs.Prelude.{◌≡◌, ◌≢◌, ◌+◌, ◌≤◌, ℕ, All, Err, Ok, IfErr, IfOk, IfSome, IsErrOf, IsSome, None, OnErr, OnOk, Some, [], is_some, length, map, option_copied, slice_get};
 ghost use Rattle.std.specs.FinMap.{len};
 ghost use Rattle.plane_geom.specs.Floor.{IsFloor};
 ghost use Rattle.line_arena.specs.Arena.{Arena};
@@ -28,6 +28,7 @@ ghost use Rattle.undo_log.specs.Lending.{gone_back, gone_forth};
 
 use crate::present::Present;
 use crate::scenes::{edits, inverses, scene_after, scene_before};
+use crate::start::Start;
 use edit_txn::{Txn, TxnParts};
 use nudge_phases::{Nudged, nudge};
 use par_route::Gate;
@@ -39,7 +40,6 @@ use std::alloc::{AllocError, Global};
 use std::marker::Model;
 use std::thread::Threads;
 use undo_log::{Step, UndoLog};
-use visibility_graph::Graph;
 
 /// A scene that is edited in transactions, with its history and its routes.
 ///
@@ -95,17 +95,8 @@ impl Session {
         ensures searched { IfOk result (λ s. s.searched ≡ length (connectors scene)) }
         ensures written { IfOk result (λ s. (a : Arena) × StandsFor (floor_of scene) a × (s.written ≡ len a.lines + len a.crossings)) }
     {
-        scene.valid();
-        let graph = drawn(alloc, &scene)?;
-        let mut tally = Tally::new();
-        let book = Book::build(rt, alloc, &scene, &graph, workers, gate, &mut tally)?;
-        Session::on(Present {
-            alloc,
-            scene,
-            graph,
-            book,
-            tally,
-        })
+        let start = Start::searched(rt, alloc, &scene, workers, gate);
+        Session::on(alloc, scene, start)
     }
 
     /// A session on the scene, with no past and no future, without threads. `searched` begins with
@@ -118,36 +109,44 @@ impl Session {
         ensures searched { IfOk result (λ s. s.searched ≡ length (connectors scene)) }
         ensures written { IfOk result (λ s. (a : Arena) × StandsFor (floor_of scene) a × (s.written ≡ len a.lines + len a.crossings)) }
     {
+        let start = Start::searched_alone(alloc, &scene);
+        Session::on(alloc, scene, start)
+    }
+
+    /// A session on the scene from its start, with no past and no future.
+    fn on(
+        alloc: Global,
+        scene: Scene,
+        start: Result<Start, AllocError>,
+    ) -> Result<Session, AllocError>
+        requires floor { IfOk start (λ s. s.graph.floor ≡ floor_of scene) }
+        requires fits { IfOk start (λ s. IsFloor s.graph.floor) }
+        requires stands { IfOk start (λ s. StandsFor (floor_of scene) s.graph.arena) }
+        requires written { IfOk start (λ s. s.graph.arena.written ≡ len s.graph.arena.lines + len s.graph.arena.crossings) }
+        requires right { IfOk start (λ s. AreAnswers scene s.book) }
+        requires searched { IfOk start (λ s. s.tally ≡ length (connectors scene)) }
+        requires past { IfOk start (λ s. s.log.past ≡ []) }
+        requires future { IfOk start (λ s. s.log.future ≡ []) }
+        ensures world { IfOk result (λ s. s.world ≡ opened scene) }
+        ensures right { IfOk result (λ s. AreAnswers scene s.book) }
+        ensures searched { IfOk result (λ s. s.searched ≡ length (connectors scene)) }
+        ensures written { IfOk result (λ s. (a : Arena) × StandsFor (floor_of scene) a × (s.written ≡ len a.lines + len a.crossings)) }
+    {
         scene.valid();
-        let graph = drawn(alloc, &scene)?;
-        let mut tally = Tally::new();
-        let book = Book::build_alone(alloc, &scene, &graph, &mut tally)?;
-        Session::on(Present {
-            alloc,
-            scene,
+        let Start {
             graph,
             book,
             tally,
-        })
-    }
-
-    /// A session on the present scene, whose graph and book are new, with no past and no future.
-    fn on(present: Present) -> Result<Session, AllocError>
-        requires valid { IsValid present.scene }
-        requires floor { present.graph.floor ≡ floor_of present.scene }
-        requires fits { IsFloor present.graph.floor }
-        requires right { AreAnswers present.scene present.book }
-        requires searched { present.tally ≡ length (connectors present.scene) }
-        requires stands { StandsFor (floor_of present.scene) present.graph.arena }
-        requires written { present.graph.arena.written ≡ len present.graph.arena.lines + len present.graph.arena.crossings }
-        ensures world { IfOk result (λ s. s.world ≡ opened present.scene) }
-        ensures right { IfOk result (λ s. AreAnswers present.scene s.book) }
-        ensures searched { IfOk result (λ s. s.searched ≡ length (connectors present.scene)) }
-        ensures written { IfOk result (λ s. (a : Arena) × StandsFor (floor_of present.scene) a × (s.written ≡ len a.lines + len a.crossings)) }
-    {
-        let log = UndoLog::new(present.alloc)?;
+            log,
+        } = start?;
         Ok(Session {
-            present,
+            present: Present {
+                alloc,
+                scene,
+                graph,
+                book,
+                tally,
+            },
             log,
             txn: None,
         })
@@ -188,12 +187,14 @@ impl Session {
         ensures searched { self.new.searched ≡ self.old.searched }
         ensures written { self.new.written ≡ self.old.written }
     {
-        let Some(mut txn) = self.txn.take() else {
+        let Some(txn) = self.txn.as_mut() else {
             return Err(SessionFault::NoTransaction);
         };
-        txn.apply(edit).map_err(edit_fault)?;
-        self.txn = Some(txn);
-        Ok(())
+        let done = txn.apply(edit).map_err(edit_fault);
+        if done.is_err() {
+            self.txn = None;
+        }
+        done
     }
 
     /// Closes the transaction: its working scene becomes the present one, with right routes. Only
@@ -470,19 +471,6 @@ impl Session {
         let Present { tally, .. } = present;
         tally
     }
-}
-
-/// The graph of the scene's floor.
-fn drawn(alloc: Global, scene: &Scene) -> Result<Graph, AllocError>
-    ensures floor { IfOk result (λ g. g.floor ≡ floor_of scene.now) }
-    ensures fits { IfOk result (λ g. IsFloor g.floor) }
-    ensures stands { IfOk result (λ g. StandsFor (floor_of scene.now) g.arena) }
-    ensures written { IfOk result (λ g. g.arena.written ≡ len g.arena.lines + len g.arena.crossings) }
-{
-    let floor = scene.floor()?;
-    let graph = Graph::build(alloc, &floor)?;
-    graph.arena().laws();
-    Ok(graph)
 }
 
 /// Moves the transaction into the past, as the latest step; its working scene becomes the present
