@@ -1,0 +1,9 @@
+-- Answers at which mutants of this function are refused.
+use Rattle.std.proofs.Common.{rules}
+use Rattle.exit_rows.proofs.rows.lesser.Goals as goal
+
+pub returns-then-lt : goal.returns-then-lt
+returns-then-lt c = search rules
+
+pub returns-else-lt : goal.returns-else-lt
+returns-else-lt c = search rules

@@ -1,0 +1,9 @@
+-- Answers at which mutants of this function are refused.
+use Rattle.std.proofs.Common.{rules}
+use Rattle.interval_index.proofs.span.Span.is_before.Goals as goal
+
+pub returns-then-self-other : goal.returns-then-self-other
+returns-then-self-other c = search rules
+
+pub returns-else-self-other-2 : goal.returns-else-self-other-2
+returns-else-self-other-2 c = search rules
