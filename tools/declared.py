@@ -48,7 +48,8 @@ class Tree:
         return found
 
     def edits(self, crate):
-        return [path for path in self.files if path.startswith(f'crates/{crate}/must-fail/') and path.endswith('.edit')]
+        place = re.compile(rf'crates/{crate}/(mutants|must-fail)/[^/]+\.edit')
+        return [path for path in self.files if place.fullmatch(path)]
 
 
 WORDS_OF_ANTT = {'pub', 'abbrev', 'record', 'module', 'mod', 'data', 'abstract', 'private', 'opaque', 'macro', 'unfoldable'}
