@@ -166,7 +166,8 @@ const CUT_PROOFS: [Given; 1] = [Given(1, None, &[], &[])];
 
 const CUT_EVERY_PROOFS: [Given; 1] = [Given(1, None, &[], &CUT_EVERY_ROWS)];
 
-const CASES: [Case; 45] = [
+/// Costs, rows and lines.
+const LINE_CASES: [Case; 17] = [
     // The least labels.
     Case(STRAIGHT, &STRAIGHT_PROOFS, Change::None, None),
     // No proof.
@@ -276,6 +277,10 @@ const CASES: [Case; 45] = [
     ),
     // No line.
     Case(STRAIGHT, &STRAIGHT_PROOFS, Change::NoLine, Some((1, 3))),
+];
+
+/// Labels, and cuts of a scene in which walks arrive.
+const LABEL_CASES: [Case; 11] = [
     // The line alone.
     Case(STRAIGHT, &STRAIGHT_PROOFS, Change::NoRows, Some((1, 4))),
     // An entry without a label.
@@ -329,6 +334,10 @@ const CASES: [Case; 45] = [
     ),
     // A cut where a walk ends.
     Case(STRAIGHT, &CUT_EVERY_PROOFS, Change::None, Some((1, 6))),
+];
+
+/// Other scenes.
+const SCENE_CASES: [Case; 17] = [
     // No walk leaves the start.
     Case(COVERED_START, &CUT_PROOFS, Change::None, None),
     // A cost where there is no walk.
@@ -515,9 +524,27 @@ fn wanted(case: Case) -> Result<(), AuditFault> {
     }
 }
 
-#[test]
-fn finds_the_first_fault(rt: HostRuntime) {
-    for (place, case) in CASES.iter().enumerate() {
-        assert_eq!(rt; answer(rt.alloc(), *case), wanted(*case), "in case {place}");
+/// The place, from 0, of the first case that is answered otherwise.
+fn first_wrong(alloc: Global, cases: &[Case]) -> Option<usize> {
+    for (place, &case) in cases.iter().enumerate() {
+        if answer(alloc, case) != wanted(case) {
+            return Some(place);
+        }
     }
+    None
+}
+
+#[test]
+fn finds_faults_of_costs_and_lines(rt: HostRuntime) {
+    assert_eq!(rt; first_wrong(rt.alloc(), &LINE_CASES), None);
+}
+
+#[test]
+fn finds_faults_of_labels_and_cuts(rt: HostRuntime) {
+    assert_eq!(rt; first_wrong(rt.alloc(), &LABEL_CASES), None);
+}
+
+#[test]
+fn finds_faults_in_other_scenes(rt: HostRuntime) {
+    assert_eq!(rt; first_wrong(rt.alloc(), &SCENE_CASES), None);
 }
