@@ -48,7 +48,7 @@ class Tree:
         return found
 
     def edits(self, crate):
-        place = re.compile(rf'crates/{crate}/(mutants|must-fail)/[^/]+\.edit')
+        place = re.compile(rf'crates/{crate}/must-fail/[^/]+\.edit')
         return [path for path in self.files if place.fullmatch(path)]
 
 
