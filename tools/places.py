@@ -240,6 +240,13 @@ def crossings(level, uprights, place):
     return found
 
 
+def count_crossings(lines):
+    """How often lines cross: the places inside a horizontal run of one and an upright run of another."""
+    runs = [(one, other, place) for place, line in enumerate(lines) for one, other in zip(line, line[1:])]
+    uprights = sorted((x, min(y, v), max(y, v), place) for (x, y), (u, v), place in runs if x == u)
+    return sum(len(crossings((one, other), uprights, place)) for one, other, place in runs if one[1] == other[1])
+
+
 def bows_of(level, uprights, place, radius, cuts):
     """Where a horizontal run bows over others: (from, to) in its direction, neighbours under one bow."""
     (x, _), (u, _) = level
