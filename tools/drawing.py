@@ -174,7 +174,7 @@ class Palette:
     def rules(self, is_dark):
         for colour, name in self.classes.items():
             shown = looks.readable_on(DARK['paper'], colour) if is_dark else colour
-            yield f'.{name} {{ stroke: {shown}; }} .head.{name} {{ fill: {shown}; }}'
+            yield f'.{name}, .box .{name} {{ stroke: {shown}; }} .head.{name} {{ fill: {shown}; }}'
 
 
 def colour_rules(theme, palette, is_plain):
@@ -188,6 +188,7 @@ def colour_rules(theme, palette, is_plain):
     yield f'.label {{ fill: {theme["ink"]}; stroke: {theme["paper"]}; }}'
     for i, colour in enumerate(theme['lines'] if is_plain else [theme['line']]):
         yield f'.c{i} {{ stroke: {colour}; }} .head.c{i} {{ fill: {colour}; }}'
+    yield f'.box .filled {{ stroke: {LIGHT["ink"]}; }}'
     yield from palette.rules(theme is DARK)
     yield f'.lost {{ stroke: {theme["lost"]}; }} .head.lost {{ fill: {theme["lost"]}; }}'
 
@@ -214,8 +215,8 @@ def style(scale, palette, is_plain):
 
 def width_of(text):
     """About how wide a text is, in sizes of its font."""
-    return sum(1.0 if unicodedata.east_asian_width(c) in 'WF' else 0.3 if c in "iljtfrI.,:;'|!() " else
-               0.85 if c in 'mwMW@%' else 0.68 if c.isupper() else 0.56 for c in text)
+    return sum(1.0 if unicodedata.east_asian_width(c) in 'WF' else 0.32 if c in "iljI.,:;'|!() " else
+               0.38 if c in 'tfr' else 0.9 if c in 'mwMW@%' else 0.68 if c.isupper() else 0.58 for c in text)
 
 
 def shortened(text, room):
@@ -271,8 +272,7 @@ def text_colour(box):
 
 def box_text(box, scale):
     lines, font = fitting(box, scale)
-    low = box.h * looks.CAP if box.shape.kind == 'cylinder' else 0.0
-    top = box.y + low / 2 + 0.36 * font - 0.6 * font * (len(lines) - 1)
+    top = box.y + looks.LOWER.get(box.shape.kind, 0.0) * box.h + 0.36 * font - 0.6 * font * (len(lines) - 1)
     rules = [text_colour(box), None if font == 11 * scale else f'font-size: {short(font)}px']
     look = '; '.join(rule for rule in rules if rule) or None
     return ''.join(element('text', html.escape(line), x=box.x, y=top + 1.2 * font * i, text_anchor='middle', style=look)
@@ -312,8 +312,8 @@ def drawn_box(box, scale, palette, is_plain, corner=None):
              f'stroke-dasharray: {dashes(box.dash, scale)}' if box.dash else None]
     look = {'style': '; '.join(rule for rule in rules if rule) or None}
     drawn = outline(box, scale, **look) + extra(box, look)
-    if box.outline and box.shape.kind != 'bare':
-        drawn = drawn.replace('class="shape"', f'class="shape {palette.of(box.outline)}"')
+    if box.shape.kind != 'bare' and (box.outline or box.fill and not box.is_group):
+        drawn = drawn.replace('class="shape"', f'class="shape {palette.of(box.outline) if box.outline else "filled"}"')
     pins = [element('rect', class_='pin', x=x - 2.5 * scale, y=y - 2.5 * scale, width=5 * scale, height=5 * scale)
             for x, y in box.pins] if is_plain else []
     text = group_text(box, scale, corner) if box.is_group else '' if box.shape.kind == 'point' else box_text(box, scale)

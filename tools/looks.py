@@ -107,6 +107,8 @@ ALIASES = {
 # How much of its width an outline leaves to the text.
 ROOM = {'ellipse': 0.86, 'diamond': 0.72, 'triangle': 0.62, 'invtriangle': 0.62, 'star': 0.6, 'parallelogram': 0.8,
         'invparallelogram': 0.8, 'trapezium': 0.85, 'invtrapezium': 0.85, 'hexagon': 0.85}
+# How far below the middle its text stands, in heights of the box.
+LOWER = {'triangle': 0.18, 'invtriangle': -0.18, 'house': 0.1, 'invhouse': -0.1, 'pentagon': 0.06, 'tab': 0.07, 'cylinder': 0.06}
 CAP, POINTS = 0.1, 32
 
 

@@ -23,9 +23,14 @@ class Field:
         self.cells = collections.defaultdict(list)
 
     def cells_of(self, rectangle):
-        low_x, low_y, high_x, high_y = (min(CELLS, max(-1, int((value - start) // self.step))) for value, start in
-                                        zip(rectangle, (self.left, self.top, self.left, self.top)))
-        return [(x, y) for x in range(low_x, high_x + 1) for y in range(low_y, high_y + 1)]
+        left, top, right, bottom = rectangle
+        columns = range(self.cell(left - self.left), self.cell(right - self.left) + 1)
+        rows = range(self.cell(top - self.top), self.cell(bottom - self.top) + 1)
+        return [(x, y) for x in columns for y in rows]
+
+    def cell(self, distance):
+        at = distance // self.step
+        return -1 if at < 0 else CELLS if at > CELLS else int(at)
 
     def add(self, rectangle, owner):
         item = (rectangle, owner)
@@ -181,7 +186,7 @@ class Labels:
 
     def __init__(self, frame, boxes, heads, lines):
         self.boxes, self.heads, self.lines = boxes, heads, lines
-        self.frame, self.placed = frame, {}
+        self.labels, self.placed = Field(frame), {}
 
     def spots(self, line, w, h, gap):
         """Centres for a label of this size, each with what it costs by itself, on and beside the longest runs."""
@@ -202,7 +207,9 @@ class Labels:
         found = sum(ON_BOX for _ in self.boxes.meeting(rectangle))
         found += sum(ON_HEAD for _ in self.heads.meeting(rectangle))
         found += sum(ON_OWN if owner == place else ON_LINE for _, owner in self.lines.meeting(rectangle))
-        return found + sum(ON_BOX for other, placed in self.placed.items() if other != place and overlap(placed, rectangle))
+        # (a label that was placed anew is still found where it stood before)
+        return found + sum(ON_BOX for other, owner in self.labels.meeting(rectangle)
+                           if owner != place and self.placed[owner] == other)
 
     def put(self, place, line, w, h, gap):
         """Chooses the place of a label, and keeps others off it; its centre."""
@@ -213,6 +220,7 @@ class Labels:
             if best is None or price < best[0] - 1e-9:
                 best = (price, spot, rectangle)
         self.placed[place] = best[2]
+        self.labels.add(best[2], place)
         return best[1]
 
 
