@@ -50,7 +50,7 @@ class Tree:
 
 WORDS_OF_ANTT = {'pub', 'abbrev', 'record', 'module', 'mod', 'data', 'abstract', 'private', 'opaque', 'macro', 'unfoldable'}
 TOKEN_OF_ANTT = re.compile(r'[^\s:(){},]+|[:(){},]')
-WORDS_OF_RT = r'(?:pub(?:\([^)]*\))?\s+)?(?:(?:const|unsafe|ghost|async|default)\s+)*'
+WORDS_OF_RT = r'(?:pub(?:\([^)]*\))?\s+)?(?:(?:const|unsafe|ghost|async|default|extern "C")\s+)*'
 ITEM_OF_RT = re.compile(rf'\s*{WORDS_OF_RT}(fn|struct|enum|trait|const|static|type|mod|union)\s+([A-Za-z_]\w*)')
 MACRO_OF_RT = re.compile(r'\s*macro_rules!\s+([A-Za-z_]\w*)')
 

@@ -1,13 +1,20 @@
 """Tries reroute-explain: on all examples, on files of other tools, on broken input, and on answers that are none."""
+import importlib.machinery
+import importlib.util
 import os
 import random
 import re
 import subprocess
+import sys
 import tempfile
 import unittest
 
 TOP = os.path.dirname(os.path.dirname(os.path.dirname(os.path.realpath(__file__))))
 EXAMPLES, OTHERS, EXPLAIN = f'{TOP}/examples', f'{TOP}/examples/other_tools', f'{TOP}/tools/explain'
+sys.dont_write_bytecode = True
+LOADER = importlib.machinery.SourceFileLoader('explain', EXPLAIN)
+explain = importlib.util.module_from_spec(importlib.util.spec_from_loader('explain', LOADER))
+LOADER.exec_module(explain)
 REROUTE = os.environ.get('REROUTE', f'{TOP}/out/reroute')
 # The files of other tools that reroute refuses, with what it says and a part of what explain says of it.
 REFUSED = {
@@ -65,28 +72,34 @@ def run(words, data=b''):
     return subprocess.run(words, input=data, capture_output=True, timeout=120, check=False)
 
 
+def said_of(output, data, script=None):
+    return ''.join(f'{line}\n' for line in explain.explain(output, data, script))
+
+
+def bytes_of(name):
+    with open(name, 'rb') as file:
+        return file.read()
+
+
 class Answers(unittest.TestCase):
     """What needs no executable."""
 
-    def said(self, name, answer):
-        done = run([EXPLAIN, name], answer)
-        self.assertEqual((done.returncode, done.stderr), (0, b''))
-        return done.stdout.decode()
-
     def test_each_answer_is_told(self):
+        data = bytes_of(f'{EXAMPLES}/straight.gml')
         for answer, why in ANSWERS:
             with self.subTest(answer=answer):
-                self.assertIn(why, self.said(f'{EXAMPLES}/straight.gml', answer.encode()))
+                self.assertIn(why, '\n'.join(explain.explain(answer.encode(), data, None)))
 
     def test_strange_answers_get_a_plain_line(self):
         for answer in STRANGE:
-            for name in (f'{EXAMPLES}/straight.gml', '/dev/null', '/bin/sh'):
-                with self.subTest(answer=answer, name=name):
-                    self.assert_plain(run([EXPLAIN, name], answer))
+            with self.subTest(answer=answer):
+                self.assert_plain(run([EXPLAIN, '/dev/null'], answer))
 
     def test_files_that_are_not_there(self):
         self.assert_plain(run([EXPLAIN, '/no such file'], b'diagram: Syntax at 1\n'))
-        self.assertIn('cannot be read', self.said('/no such file', b'read fault: /no such file\n'))
+        done = run([EXPLAIN, '/no such file'], b'read fault: /no such file\n')
+        self.assertEqual((done.returncode, done.stderr), (0, b''))
+        self.assertIn(b'cannot be read', done.stdout)
 
     def assert_plain(self, done):
         """Status 0, or status 2 with one line and nothing printed."""
@@ -101,13 +114,12 @@ class Diagrams(unittest.TestCase):
 
     def explained(self, text, *words):
         """What reroute prints of a diagram by a subcommand, and what is said of that."""
+        data = text if isinstance(text, bytes) else text.encode()
         with tempfile.NamedTemporaryFile(suffix='.gml') as file:
-            file.write(text if isinstance(text, bytes) else text.encode())
+            file.write(data)
             file.flush()
             output = run([REROUTE, words[0], file.name, *words[1:]]).stdout
-            done = run([EXPLAIN, file.name], output)
-        self.assertEqual((done.returncode, done.stderr), (0, b''), output[:200])
-        return output.decode('latin-1'), done.stdout.decode()
+        return output.decode('latin-1'), said_of(output, data)
 
     def test_broken_diagrams(self):
         for text, why in BROKEN:
@@ -132,7 +144,7 @@ class Diagrams(unittest.TestCase):
                 script = f'{EXAMPLES}/{name[:-4]}.script'
                 script = script if os.path.exists(script) else '/dev/null'
                 output = run([REROUTE, 'route', f'{EXAMPLES}/{name}', script]).stdout
-                lines = run([EXPLAIN, f'{EXAMPLES}/{name}', script], output).stdout.decode().splitlines()
+                lines = said_of(output, bytes_of(f'{EXAMPLES}/{name}'), bytes_of(script)).splitlines()
                 refusals = len(re.findall(rb'(?m)^# (line \d+: X|end: X|edge \d+: no route)', output))
                 with self.subTest(name=name):
                     self.assertEqual(len(lines), max(1, refusals))
@@ -142,7 +154,7 @@ class Diagrams(unittest.TestCase):
         for name in sorted(os.listdir(OTHERS)):
             if name.endswith('.gml'):
                 done = run([REROUTE, 'route', f'{OTHERS}/{name}', '/dev/null'])
-                said = run([EXPLAIN, f'{OTHERS}/{name}'], done.stdout).stdout.decode()
+                said = said_of(done.stdout, bytes_of(f'{OTHERS}/{name}'))
                 with self.subTest(name=name):
                     if name[:-4] in REFUSED:
                         self.assertEqual(done.stdout.decode().split('\n')[0], REFUSED[name[:-4]][0])
@@ -157,8 +169,7 @@ class Diagrams(unittest.TestCase):
         for name in sorted(os.listdir(EXAMPLES)):
             if not name.endswith('.gml'):
                 continue
-            with open(f'{EXAMPLES}/{name}', 'rb') as file:
-                data = bytearray(file.read())
+            data = bytearray(bytes_of(f'{EXAMPLES}/{name}'))
             for _ in range(draws.randint(1, 4)):
                 at, size = draws.randrange(len(data)), draws.choice([1, 1, 1, 9, 99])
                 data[at:at + size] = draws.choice([b'', bytes([draws.randrange(256)]), data[at:at + size] * 2, b'9' * 30, b'[', b'"', b' x '])
