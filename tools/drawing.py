@@ -284,8 +284,8 @@ def box_text(box, scale):
 def outline(box, scale, **look):
     """The shape of a box as an element."""
     kind, corners = box.shape
-    if kind in ('ellipse', 'point'):
-        return element('ellipse', class_='shape', cx=box.x, cy=box.y, rx=box.w / 2, ry=box.h / 2, **look)
+    if kind in ('ellipse', 'double', 'point'):
+        return ellipse(box, 0.0, **look)
     if corners:
         spots = [(box.left + x * box.w, box.top + y * box.h) for x, y in corners]
         return element('polygon', class_='shape', points=spots_of(spots), stroke_linejoin='round', **look)
@@ -293,8 +293,15 @@ def outline(box, scale, **look):
     return element('rect', class_='shape', x=box.left, y=box.top, width=box.w, height=box.h, rx=radius, **look)
 
 
-def extra(box, look):
-    """What a shape has inside its outline: the lid of a cylinder, the fold of a note."""
+def ellipse(box, inset, **look):
+    return element('ellipse', class_='shape', cx=box.x, cy=box.y, rx=max(0.0, box.w / 2 - inset),
+                   ry=max(0.0, box.h / 2 - inset), **look)
+
+
+def extra(box, scale, look):
+    """What a shape has inside its outline: a second circle, the lid of a cylinder, the fold of a note."""
+    if box.shape.kind == 'double':
+        return ellipse(box, 4 * scale, fill_opacity='0', **look)
     if box.shape.kind == 'cylinder':
         cap = box.h * looks.CAP
         path = f'M{short(box.left)} {short(box.top + cap)}a{short(box.w / 2)} {short(cap)} 0 0 0 {short(box.w)} 0'
@@ -302,7 +309,7 @@ def extra(box, look):
         path = f'M{short(box.right - 0.14 * box.w)} {short(box.top)}v{short(0.25 * box.h)}h{short(0.14 * box.w)}'
     else:
         return ''
-    return element('path', class_='shape', d=path, **{**look, 'fill': None, 'fill_opacity': '0'})
+    return element('path', class_='shape', d=path, fill_opacity='0', **look)
 
 
 def drawn_box(box, scale, palette, is_plain, corner=None):
@@ -311,7 +318,7 @@ def drawn_box(box, scale, palette, is_plain, corner=None):
              'fill: none; stroke: none' if box.shape.kind == 'bare' else None,
              f'stroke-dasharray: {dashes(box.dash, scale)}' if box.dash else None]
     look = {'style': '; '.join(rule for rule in rules if rule) or None}
-    drawn = outline(box, scale, **look) + extra(box, look)
+    drawn = outline(box, scale, **look) + extra(box, scale, look)
     if box.shape.kind != 'bare' and (box.outline or box.fill and not box.is_group):
         drawn = drawn.replace('class="shape"', f'class="shape {palette.of(box.outline) if box.outline else "filled"}"')
     pins = [element('rect', class_='pin', x=x - 2.5 * scale, y=y - 2.5 * scale, width=5 * scale, height=5 * scale)

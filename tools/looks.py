@@ -99,13 +99,13 @@ CORNERS = {
     'note': '0 0 .86 0 1 .25 1 1 0 1', 'tab': '0 0 .4 0 .4 .15 1 .15 1 1 0 1'}
 # The names that other tools have for these, and for what has no corners.
 ALIASES = {
-    'ellipse': 'ellipse', 'circle': 'ellipse', 'oval': 'ellipse', 'egg': 'ellipse', 'doublecircle': 'ellipse', 'mcircle': 'ellipse',
+    'ellipse': 'ellipse', 'circle': 'ellipse', 'oval': 'ellipse', 'egg': 'ellipse', 'doublecircle': 'double', 'mcircle': 'ellipse',
     'point': 'point', 'cylinder': 'cylinder', 'roundrectangle': 'rounded', 'mrecord': 'rounded', 'plaintext': 'bare',
     'plain': 'bare', 'none': 'bare', 'underline': 'bare', 'mdiamond': 'diamond', 'rhomb': 'diamond', 'trapezoid': 'trapezium',
     'trapeze': 'trapezium', 'trapezoid2': 'invtrapezium', 'invtrapeze': 'invtrapezium', 'doubleoctagon': 'octagon',
     'tripleoctagon': 'octagon', 'folder': 'tab', 'star5': 'star', 'star6': 'star', 'star8': 'star'}
 # How much of its width an outline leaves to the text.
-ROOM = {'ellipse': 0.86, 'diamond': 0.72, 'triangle': 0.62, 'invtriangle': 0.62, 'star': 0.6, 'parallelogram': 0.8,
+ROOM = {'ellipse': 0.86, 'double': 0.8, 'diamond': 0.72, 'triangle': 0.62, 'invtriangle': 0.62, 'star': 0.6, 'parallelogram': 0.8,
         'invparallelogram': 0.8, 'trapezium': 0.85, 'invtrapezium': 0.85, 'hexagon': 0.85}
 # How far below the middle its text stands, in heights of the box.
 LOWER = {'triangle': 0.18, 'invtriangle': -0.18, 'house': 0.1, 'invhouse': -0.1, 'pentagon': 0.06, 'tab': 0.07, 'cylinder': 0.06}
@@ -127,7 +127,7 @@ def shape_of(graphics):
     if kind in CORNERS:
         numbers = [float(word) for word in CORNERS[kind].split()]
         return Shape(kind, list(zip(numbers[::2], numbers[1::2])))
-    if kind in ('ellipse', 'point'):
+    if kind in ('ellipse', 'double', 'point'):
         return Shape(kind, arc(0.5, 0.5, 0.5, 0.5, 0, 1))
     if kind == 'cylinder':
         return Shape(kind, arc(0.5, CAP, 0.5, CAP, 0.5, 1) + arc(0.5, 1 - CAP, 0.5, CAP, 0, 0.5))
@@ -135,20 +135,18 @@ def shape_of(graphics):
 
 
 def touched(corners, box, end, step):
-    """Where the straight line from an end on the box's border, which goes on by this step, meets the outline."""
-    along, best = (0 if step[0] else 1), None
-    across, way = 1 - along, step[along]
+    """Where the straight line from an end on the box's border, which goes on by this step, first meets the outline."""
     spots = [(box.left + x * box.w, box.top + y * box.h) for x, y in corners]
-    for one, other in zip(spots, spots[1:] + spots[:1]):
-        low, high = sorted((one, other), key=lambda spot: spot[across])
-        if low[across] <= end[across] <= high[across] and low[across] < high[across]:
-            part = (end[across] - low[across]) / (high[across] - low[across])
-            at = low[along] + (high[along] - low[along]) * part
-            if (at - end[along]) * way >= -1e-6 and (best is None or (best - at) * way > 0):
-                best = at
-    if best is None:
-        return end
-    return (best, end[1]) if along == 0 else (end[0], best)
+    parts = []
+    for (x, y), (u, v) in zip(spots, spots[1:] + spots[:1]):
+        across = step[0] * (v - y) - step[1] * (u - x)
+        if across:
+            part = ((x - end[0]) * (v - y) - (y - end[1]) * (u - x)) / across
+            along = ((x - end[0]) * step[1] - (y - end[1]) * step[0]) / across
+            if part >= -1e-6 and 0 <= along <= 1:
+                parts.append(part)
+    part = min(parts, default=0.0)
+    return end[0] + part * step[0], end[1] + part * step[1]
 
 
 # ---- heads of arrows ----

@@ -107,14 +107,11 @@ def cut(line, box):
 
 
 def met(line, box):
-    """The line with its first run drawn on, or cut, to the outline of its box."""
-    if box.shape.corners is None or len(line) < 2:
+    """The line with its first run drawn on to the outline of its box."""
+    if box.shape.corners is None or len(line) < 2 or line[0] == line[1]:
         return line
     (x, y), (u, v) = line[:2]
-    if (x == u) == (y == v):
-        return line
-    step = ((x > u) - (x < u), (y > v) - (y < v))
-    return [looks.touched(box.shape.corners, box, (x, y), step), *line[1:]]
+    return [looks.touched(box.shape.corners, box, (x, y), (x - u, y - v)), *line[1:]]
 
 
 def fitted(line, source, target):

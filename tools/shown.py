@@ -36,9 +36,13 @@ class Bench:
         os.makedirs(f'{self.work}/examples')
         os.makedirs(self.bin)
         live = os.path.join(os.path.dirname(os.path.abspath(program)), 'reroute_live')
-        for name, path in {'reroute': os.path.abspath(program), 'reroute_live': live,
-                           **{name: f'{tree.top}/tools/{tool}' for name, tool in TOOLS.items()}}.items():
+        programs = {'reroute': os.path.abspath(program), **({'reroute_live': live} if os.path.exists(live) else {})}
+        self.has_live = 'reroute_live' in programs
+        for name, path in {**programs, **{name: f'{tree.top}/tools/{tool}' for name, tool in TOOLS.items()}}.items():
             os.symlink(path, f'{self.bin}/{name}')
+        # (the executables that the tools take in place of those of the repository)
+        self.environment = {**os.environ, 'PATH': self.bin + os.pathsep + os.environ.get('PATH', ''),
+                            **{name.upper(): path for name, path in programs.items()}}
         for path in tree.files:
             if re.match(r'examples/(other_tools/)?[\w.]+\.(gml|script|plain|dot)$', path):
                 shutil.copy(f'{tree.top}/{path}', self.work)
@@ -56,7 +60,7 @@ class Bench:
 
     def may_run(self, command):
         """Whether the line is of known programs alone, on files that are there."""
-        if re.search(r'[;&$`\\*?~]|\.\.|\b(?:FILE|SEED|N)\b', command):
+        if not self.has_live and re.search('reroute-(draw|pins)', command) or re.search(r'[;&$`\\*?~]|\.\.|\b(?:FILE|SEED|N)\b', command):
             return False
         stages = [re.sub(r"'[^']*'", 'QUOTED', re.sub(r'(?:>|-o) *[\w.-]+', '', stage)).split() for stage in command.split('|')]
         return all(words and words[0] in PROGRAMS and all(
@@ -64,9 +68,8 @@ class Bench:
 
     def run(self, command):
         """The status of a line and its standard output, or what it says on standard error where it prints nothing."""
-        paths = {**os.environ, 'PATH': self.bin + os.pathsep + os.environ.get('PATH', '')}
         try:
-            done = subprocess.run(['sh', '-c', command], cwd=self.work, env=paths, stdin=subprocess.DEVNULL, capture_output=True,
+            done = subprocess.run(['sh', '-c', command], cwd=self.work, env=self.environment, stdin=subprocess.DEVNULL, capture_output=True,
                                   timeout=120, check=False)
         except subprocess.TimeoutExpired:
             raise Fault(f'`{command}` has not ended after 120 s') from None
@@ -190,6 +193,9 @@ def check_pictures(tree, program, report):
         bench = Bench(tree, program, folder)
         for path in tree.files:
             name = re.match(r'docs/pictures/(.*)\.svg$', path)
-            if name and (name[1] not in PICTURES or bench.run(PICTURES[name[1]])[1] != tree.text(path)):
-                report.say(path, 1, f'`{PICTURES.get(name[1], "no command of tools/shown.py")}` draws another picture')
-            report.counts['pictures'] += bool(name)
+            if name and name[1] not in PICTURES:
+                report.say(path, 1, 'PICTURES of tools/shown.py has no command for it')
+            elif name and bench.may_run(PICTURES[name[1]]):
+                report.counts['pictures'] += 1
+                if bench.run(PICTURES[name[1]])[1] != tree.text(path):
+                    report.say(path, 1, f'`{PICTURES[name[1]]}` draws another picture')

@@ -1,0 +1,58 @@
+"""A running reroute_live with a diagram, for tools: with session.Session(program, data) as running: running.ask(["lines"])"""
+import os
+import subprocess
+import sys
+import tempfile
+
+import gml
+
+
+class Session:
+    """The program, which is given the diagram as a file. Lengths are whole thousandths."""
+
+    def __init__(self, program, data):
+        self.file = tempfile.NamedTemporaryFile(suffix='.gml')
+        self.file.write(data)
+        self.file.flush()
+        pipe = subprocess.PIPE
+        try:
+            self.run = subprocess.Popen([program, self.file.name], stdin=pipe, stdout=pipe, stderr=pipe)
+        except OSError as fault:
+            self.file.close()
+            raise gml.Fault(f'{program} cannot be run: {fault.strerror}')
+
+    def __enter__(self):
+        return self
+
+    def __exit__(self, *_):
+        self.run.communicate()
+        self.file.close()
+
+    def ask(self, requests):
+        """Sends requests; which lines they report, by the numbers of their connectors (None for no line), and the first refusal."""
+        found, refusal, left = {}, None, len(requests)
+        try:
+            self.run.stdin.write(''.join(f'{request}\n' for request in requests).encode())
+            self.run.stdin.flush()
+        except BrokenPipeError:
+            pass  # (it has ended, and its last words say why)
+        while left:
+            words = self.run.stdout.readline().split()
+            if not words:
+                raise gml.Fault('reroute_live ended: ' + self.run.stderr.read().decode('utf-8', 'replace').strip())
+            if words[0] == b'line':
+                numbers = [int(word.replace(b'.', b'')) for word in words[2:]]
+                found[int(words[1])] = list(zip(numbers[::2], numbers[1::2]))
+            elif words[0] == b'no':
+                found[int(words[2])] = None
+            else:
+                left -= 1
+                if words[0] == b'refused' and not refusal:
+                    refusal = b' '.join(words).decode()
+        return found, refusal
+
+
+def live_program(name=None):
+    """The program reroute_live: the one named, that of the environment, one beside the running program, or on the path."""
+    beside = os.path.join(os.path.dirname(os.path.realpath(sys.argv[0])), 'reroute_live')
+    return name or os.environ.get('REROUTE_LIVE') or (beside if os.access(beside, os.X_OK) else 'reroute_live')
