@@ -159,8 +159,8 @@ class Shown:
             for line, cells in rows:
                 if head[-2:] == ['command', 'status']:
                     self.example(line, cells)
-                elif head == ['file', 'output', 'status'] and re.fullmatch(r'(\d+ times )?`[^`]+`', cells[0]):
-                    self.file_row(line, cells)
+                elif head == ['bytes', 'answer']:
+                    self.bytes_row(line, cells)
 
     def example(self, line, cells):
         """A row with commands and their statuses; what the row shows in backquotes stands in an output."""
@@ -170,12 +170,12 @@ class Shown:
             if outputs and text not in outputs and text not in SUBCOMMANDS:
                 self.say(line, f'no output has `{text}`')
 
-    def file_row(self, line, cells):
-        """A file of some bytes, by `check`."""
+    def bytes_row(self, line, cells):
+        """A file of some bytes, and the fault that `check` finds in it."""
         count, text = re.fullmatch(r'(?:(\d+) times )?`([^`]+)`', cells[0]).groups()
         self.bench.put('bytes.gml', text * int(count or 1))
-        done = self.run(line, 'reroute check bytes.gml', int(cells[2]))
-        if done[1] != ('' if cells[1] == 'nothing' else cells[1].strip('`') + '\n'):
+        done = self.run(line, 'reroute check bytes.gml', 3)
+        if done[1] != f'diagram: {cells[1].replace("`", "")}\n':
             self.say(line, f'`check` prints {done[1]!r}')
 
 
