@@ -1,16 +1,13 @@
 graph [
-  router [
-    buffer 12
-    nudge 8
-  ]
   node [
     id 1
     label "Shopper"
+    name "shopper"
     graphics [
-      x 469.0
-      y 18.0
-      w 74.56320000000001
-      h 36.0
+      x 469.000
+      y 18.000
+      w 74.563
+      h 36.000
       type "ellipse"
       fill "#f1f5f9"
       outline "#3b6ea5"
@@ -20,11 +17,12 @@ graph [
   node [
     id 2
     label "API gateway"
+    name "gateway"
     graphics [
-      x 330.0
-      y 104.0
-      w 85.0032
-      h 36.0
+      x 330.000
+      y 104.000
+      w 85.003
+      h 36.000
       type "box"
       fill "#dbeafe"
       outline "#3b6ea5"
@@ -34,11 +32,12 @@ graph [
   node [
     id 3
     label "Sign-in"
+    name "auth"
     graphics [
-      x 506.0
-      y 181.0
-      w 54.0
-      h 36.0
+      x 506.000
+      y 181.000
+      w 54.000
+      h 36.000
       type "box"
       fill "#dbeafe"
       outline "#3b6ea5"
@@ -48,11 +47,12 @@ graph [
   node [
     id 4
     label "Catalogue"
+    name "catalog"
     graphics [
-      x 171.0
-      y 430.0
-      w 72.0
-      h 36.0
+      x 171.000
+      y 430.000
+      w 72.000
+      h 36.000
       type "box"
       fill "#dbeafe"
       outline "#3b6ea5"
@@ -62,11 +62,12 @@ graph [
   node [
     id 5
     label "Cart"
+    name "cart"
     graphics [
-      x 160.0
-      y 181.0
-      w 54.0
-      h 36.0
+      x 160.000
+      y 181.000
+      w 54.000
+      h 36.000
       type "box"
       fill "#dbeafe"
       outline "#3b6ea5"
@@ -76,11 +77,12 @@ graph [
   node [
     id 6
     label "Orders"
+    name "orders"
     graphics [
-      x 330.0
-      y 181.0
-      w 54.0
-      h 36.0
+      x 330.000
+      y 181.000
+      w 54.000
+      h 36.000
       type "box"
       fill "#dbeafe"
       outline "#3b6ea5"
@@ -90,11 +92,12 @@ graph [
   node [
     id 7
     label "Payments"
+    name "payment"
     graphics [
-      x 257.0
-      y 267.0
-      w 70.99992
-      h 36.0
+      x 257.000
+      y 267.000
+      w 71.000
+      h 36.000
       type "box"
       fill "#dbeafe"
       outline "#3b6ea5"
@@ -104,11 +107,12 @@ graph [
   node [
     id 8
     label "Stock"
+    name "stock"
     graphics [
-      x 162.0
-      y 267.0
-      w 54.0
-      h 36.0
+      x 162.000
+      y 267.000
+      w 54.000
+      h 36.000
       type "box"
       fill "#dbeafe"
       outline "#3b6ea5"
@@ -118,11 +122,12 @@ graph [
   node [
     id 9
     label "Notifications"
+    name "mail"
     graphics [
-      x 418.0
-      y 430.0
-      w 85.9968
-      h 36.0
+      x 418.000
+      y 430.000
+      w 85.997
+      h 36.000
       type "box"
       fill "#dbeafe"
       outline "#3b6ea5"
@@ -132,11 +137,12 @@ graph [
   node [
     id 10
     label "Events"
+    name "events"
     graphics [
-      x 356.0
-      y 344.0
-      w 95.22
-      h 36.0
+      x 356.000
+      y 344.000
+      w 95.220
+      h 36.000
       type "parallelogram"
       fill "#dcfce7"
       outline "#3f7d4f"
@@ -146,11 +152,12 @@ graph [
   node [
     id 11
     label "Bank"
+    name "bank"
     graphics [
-      x 249.0
-      y 344.0
-      w 54.0
-      h 36.0
+      x 249.000
+      y 344.000
+      w 54.000
+      h 36.000
       type "ellipse"
       fill "#fee2e2"
       outline "#a34a4a"
@@ -161,10 +168,10 @@ graph [
     id 12
     label "users"
     graphics [
-      x 560.0
-      y 267.0
-      w 54.0
-      h 36.0
+      x 560.000
+      y 267.000
+      w 54.000
+      h 36.000
       type "cylinder"
       fill "#fef3c7"
       outline "#9a7b2d"
@@ -175,10 +182,10 @@ graph [
     id 13
     label "search"
     graphics [
-      x 171.0
-      y 507.0
-      w 54.0
-      h 36.0
+      x 171.000
+      y 507.000
+      w 54.000
+      h 36.000
       type "cylinder"
       fill "#fef3c7"
       outline "#9a7b2d"
@@ -189,10 +196,10 @@ graph [
     id 14
     label "carts"
     graphics [
-      x 76.0
-      y 267.0
-      w 54.0
-      h 36.0
+      x 76.000
+      y 267.000
+      w 54.000
+      h 36.000
       type "cylinder"
       fill "#fef3c7"
       outline "#9a7b2d"
@@ -203,10 +210,10 @@ graph [
     id 15
     label "sales"
     graphics [
-      x 474.0
-      y 267.0
-      w 54.0
-      h 36.0
+      x 474.000
+      y 267.000
+      w 54.000
+      h 36.000
       type "cylinder"
       fill "#fef3c7"
       outline "#9a7b2d"
@@ -217,10 +224,10 @@ graph [
     id 16
     label "items"
     graphics [
-      x 162.0
-      y 344.0
-      w 54.0
-      h 36.0
+      x 162.000
+      y 344.000
+      w 54.000
+      h 36.000
       type "cylinder"
       fill "#fef3c7"
       outline "#9a7b2d"
@@ -231,118 +238,62 @@ graph [
     source 1
     target 2
     label "HTTPS"
-    graphics [
-      sourceArrow "none"
-      targetArrow "normal"
-    ]
   ]
   edge [
     source 2
     target 3
-    graphics [
-      sourceArrow "none"
-      targetArrow "normal"
-    ]
   ]
   edge [
     source 2
     target 4
-    graphics [
-      sourceArrow "none"
-      targetArrow "normal"
-    ]
   ]
   edge [
     source 2
     target 5
-    graphics [
-      sourceArrow "none"
-      targetArrow "normal"
-    ]
   ]
   edge [
     source 2
     target 6
-    graphics [
-      sourceArrow "none"
-      targetArrow "normal"
-    ]
   ]
   edge [
     source 3
     target 12
-    graphics [
-      sourceArrow "none"
-      targetArrow "normal"
-    ]
   ]
   edge [
     source 4
     target 13
-    graphics [
-      sourceArrow "none"
-      targetArrow "normal"
-    ]
   ]
   edge [
     source 5
     target 8
     label "reserve"
-    graphics [
-      sourceArrow "none"
-      targetArrow "normal"
-    ]
   ]
   edge [
     source 5
     target 14
-    graphics [
-      sourceArrow "none"
-      targetArrow "normal"
-    ]
   ]
   edge [
     source 6
     target 7
     label "charge"
-    graphics [
-      sourceArrow "none"
-      targetArrow "normal"
-    ]
   ]
   edge [
     source 6
     target 8
     label "commit"
-    graphics [
-      sourceArrow "none"
-      targetArrow "normal"
-    ]
   ]
   edge [
     source 6
     target 10
     label "order placed"
-    graphics [
-      sourceArrow "none"
-      targetArrow "normal"
-    ]
   ]
   edge [
     source 6
     target 15
-    graphics [
-      sourceArrow "none"
-      targetArrow "normal"
-    ]
   ]
   edge [
     source 7
     target 10
-    graphics [
-      sourceArrow "none"
-      targetArrow "normal"
-    ]
   ]
   edge [
     source 7
@@ -355,18 +306,10 @@ graph [
   edge [
     source 8
     target 10
-    graphics [
-      sourceArrow "none"
-      targetArrow "normal"
-    ]
   ]
   edge [
     source 8
     target 16
-    graphics [
-      sourceArrow "none"
-      targetArrow "normal"
-    ]
   ]
   edge [
     source 9
@@ -374,8 +317,6 @@ graph [
     label "e-mail"
     graphics [
       style "dashed"
-      sourceArrow "none"
-      targetArrow "normal"
     ]
   ]
   edge [
@@ -384,17 +325,10 @@ graph [
     label "refresh"
     graphics [
       style "dashed"
-      sourceArrow "none"
-      targetArrow "normal"
     ]
   ]
   edge [
     source 10
     target 9
-    graphics [
-      sourceArrow "none"
-      targetArrow "normal"
-    ]
   ]
 ]
-

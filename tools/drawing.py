@@ -23,8 +23,10 @@ LIGHT = {'paper': '#f8f8f6', 'ink': '#2b2f36', 'line': '#4a5261', 'quiet': '#8d9
          'lines': ['#0b6fa4', '#b3541e', '#3f7d3a', '#7a4fa3', '#a33a55', '#5d6470']}
 DARK = {'paper': '#14181d', 'ink': '#dfe3e8', 'line': '#aab2bd', 'quiet': '#7d8590', 'box': '#232a32', 'lost': '#ff7066',
         'lines': ['#58b4e6', '#e8935b', '#7fc47a', '#b894e0', '#e07b95', '#a9b1bd']}
+REPORT = re.compile(rb'(?m)^# edge \d+: ')
 NO_ROUTE = re.compile(rb'(?m)^# edge (\d+): no route')
 RECTANGLE = looks.Shape('rectangle', None)
+GROUP_FILL = 0.3
 
 
 # ---- the diagram ----
@@ -60,7 +62,8 @@ class Edge:
 
     def __init__(self, edge, boxes, is_directed, is_plain):
         graphics = gml.first_list(edge.pairs, 'graphics')
-        self.place, self.ends, self.label = edge.place, (edge.source, edge.target), gml.text_of(gml.first(edge.pairs, 'label'))
+        self.place, self.ends = edge.place, (edge.source, edge.target)
+        self.label = gml.text_of(gml.first(edge.pairs, 'label'))
         self.source, self.target = boxes[edge.source], boxes[edge.target]
         self.vias = [(x / 1000, y / 1000) for x, y in edge.vias]
         self.line = [(x / 1000, y / 1000) for x, y in edge.line]
@@ -97,7 +100,7 @@ class Scene:
     def mark_lost(self, data, edges):
         """An edge is lost if the report says so; without a report, if it has no line and another edge has one."""
         reported = {int(place) for place in NO_ROUTE.findall(data)}
-        is_routed = b'# edge 1: ' in data or any(edge.kind == 'routed' for edge in edges)
+        is_routed = REPORT.search(data) or any(edge.kind == 'routed' for edge in edges)
         for edge in edges:
             if edge.kind == 'unrouted' and (edge.place in reported or is_routed):
                 edge.kind = 'lost'
@@ -178,7 +181,7 @@ class Palette:
 
 
 def colour_rules(theme, palette, is_plain):
-    yield f'.paper, .hollow.head {{ fill: {theme["paper"]}; }}'
+    yield f'.paper {{ fill: {theme["paper"]}; }}'
     yield f'.box .shape {{ fill: {theme["box"]}; stroke: {theme["ink"]}; }}'
     yield f'.box text, .box .pin {{ fill: {theme["ink"]}; stroke: none; }}'
     yield f'.group .shape {{ fill: none; stroke: {theme["quiet"]}; }}'
@@ -191,6 +194,7 @@ def colour_rules(theme, palette, is_plain):
     yield f'.box .filled {{ stroke: {LIGHT["ink"]}; }}'
     yield from palette.rules(theme is DARK)
     yield f'.lost {{ stroke: {theme["lost"]}; }} .head.lost {{ fill: {theme["lost"]}; }}'
+    yield f'.head.hollow {{ fill: {theme["paper"]}; }} .head.open {{ fill: none; }}'
 
 
 def style(scale, palette, is_plain):
@@ -204,10 +208,8 @@ def style(scale, palette, is_plain):
           'stroke-linejoin: round; }'
     yield f'.unrouted path, .edge .lost {{ stroke-dasharray: {dashes((4, 3), scale)}; }}'
     yield from colour_rules(LIGHT, palette, is_plain)
-    yield '.head.hollow { fill: ' + LIGHT['paper'] + '; } .head.open { fill: none; }'
     yield '@media (prefers-color-scheme: dark) {'
     yield from colour_rules(DARK, palette, is_plain)
-    yield '.head.hollow { fill: ' + DARK['paper'] + '; } .head.open { fill: none; }'
     yield '}'
 
 
@@ -288,13 +290,13 @@ def outline(box, scale, **look):
         return ellipse(box, 0.0, **look)
     if corners:
         spots = [(box.left + x * box.w, box.top + y * box.h) for x, y in corners]
-        return element('polygon', class_='shape', points=spots_of(spots), stroke_linejoin='round', **look)
+        return element('polygon', points=spots_of(spots), stroke_linejoin='round', **look)
     radius = min((9 if kind == 'rounded' else 3) * scale, box.w / 2, box.h / 2)
-    return element('rect', class_='shape', x=box.left, y=box.top, width=box.w, height=box.h, rx=radius, **look)
+    return element('rect', x=box.left, y=box.top, width=box.w, height=box.h, rx=radius, **look)
 
 
 def ellipse(box, inset, **look):
-    return element('ellipse', class_='shape', cx=box.x, cy=box.y, rx=max(0.0, box.w / 2 - inset),
+    return element('ellipse', cx=box.x, cy=box.y, rx=max(0.0, box.w / 2 - inset),
                    ry=max(0.0, box.h / 2 - inset), **look)
 
 
@@ -309,7 +311,7 @@ def extra(box, scale, look):
         path = f'M{short(box.right - 0.14 * box.w)} {short(box.top)}v{short(0.25 * box.h)}h{short(0.14 * box.w)}'
     else:
         return ''
-    return element('path', class_='shape', d=path, fill_opacity='0', **look)
+    return element('path', d=path, fill_opacity='0', **look)
 
 
 def drawn_box(box, scale, palette, is_plain, corner=None):
@@ -317,18 +319,15 @@ def drawn_box(box, scale, palette, is_plain, corner=None):
     rules = [f'fill: {box.fill}' if box.fill else None, f'fill-opacity: {GROUP_FILL}' if box.fill and box.is_group else None,
              'fill: none; stroke: none' if box.shape.kind == 'bare' else None,
              f'stroke-dasharray: {dashes(box.dash, scale)}' if box.dash else None]
-    look = {'style': '; '.join(rule for rule in rules if rule) or None}
+    colour = palette.of(box.outline) if box.outline else 'filled' if box.fill and not box.is_group else ''
+    look = {'class_': f'shape {colour}' if colour and box.shape.kind != 'bare' else 'shape',
+            'style': '; '.join(rule for rule in rules if rule) or None}
     drawn = outline(box, scale, **look) + extra(box, scale, look)
-    if box.shape.kind != 'bare' and (box.outline or box.fill and not box.is_group):
-        drawn = drawn.replace('class="shape"', f'class="shape {palette.of(box.outline) if box.outline else "filled"}"')
     pins = [element('rect', class_='pin', x=x - 2.5 * scale, y=y - 2.5 * scale, width=5 * scale, height=5 * scale)
             for x, y in box.pins] if is_plain else []
     text = group_text(box, scale, corner) if box.is_group else '' if box.shape.kind == 'point' else box_text(box, scale)
     return element('g', element('title', html.escape(box.label or f'node {box.id}')), drawn, text, *pins,
                    id=f'node-{box.id}', class_='box group' if box.is_group else 'box')
-
-
-GROUP_FILL = 0.3
 
 
 def group_label(box, scale):

@@ -95,11 +95,12 @@ CORNERS = {
     'trapezium': '.2 0 .8 0 1 1 0 1', 'invtrapezium': '0 0 1 0 .8 1 .2 1',
     'pentagon': '.5 0 1 .38 .81 1 .19 1 0 .38', 'hexagon': '.2 0 .8 0 1 .5 .8 1 .2 1 0 .5',
     'octagon': '.29 0 .71 0 1 .29 1 .71 .71 1 .29 1 0 .71 0 .29', 'house': '.5 0 1 .38 1 1 0 1 0 .38',
-    'invhouse': '0 0 1 0 1 .62 .5 1 0 .62', 'star': '.5 0 .62 .38 1 .38 .69 .62 .81 1 .5 .76 .19 1 .31 .62 0 .38 .38 .38',
+    'invhouse': '0 0 1 0 1 .62 .5 1 0 .62',
+    'star': '.5 0 .62 .38 1 .38 .69 .62 .81 1 .5 .76 .19 1 .31 .62 0 .38 .38 .38',
     'note': '0 0 .86 0 1 .25 1 1 0 1', 'tab': '0 0 .4 0 .4 .15 1 .15 1 1 0 1'}
 # The names that other tools have for these, and for what has no corners.
 ALIASES = {
-    'ellipse': 'ellipse', 'circle': 'ellipse', 'oval': 'ellipse', 'egg': 'ellipse', 'doublecircle': 'double', 'mcircle': 'ellipse',
+    'ellipse': 'ellipse', 'circle': 'ellipse', 'oval': 'ellipse', 'egg': 'ellipse', 'mcircle': 'ellipse', 'doublecircle': 'double',
     'point': 'point', 'cylinder': 'cylinder', 'roundrectangle': 'rounded', 'mrecord': 'rounded', 'plaintext': 'bare',
     'plain': 'bare', 'none': 'bare', 'underline': 'bare', 'mdiamond': 'diamond', 'rhomb': 'diamond', 'trapezoid': 'trapezium',
     'trapeze': 'trapezium', 'trapezoid2': 'invtrapezium', 'invtrapeze': 'invtrapezium', 'doubleoctagon': 'octagon',
@@ -108,7 +109,8 @@ ALIASES = {
 ROOM = {'ellipse': 0.86, 'double': 0.8, 'diamond': 0.72, 'triangle': 0.62, 'invtriangle': 0.62, 'star': 0.6, 'parallelogram': 0.8,
         'invparallelogram': 0.8, 'trapezium': 0.85, 'invtrapezium': 0.85, 'hexagon': 0.85}
 # How far below the middle its text stands, in heights of the box.
-LOWER = {'triangle': 0.18, 'invtriangle': -0.18, 'house': 0.1, 'invhouse': -0.1, 'pentagon': 0.06, 'tab': 0.07, 'cylinder': 0.06}
+LOWER = {'triangle': 0.18, 'invtriangle': -0.18, 'house': 0.1, 'invhouse': -0.1, 'pentagon': 0.06, 'tab': 0.07,
+         'cylinder': 0.06}
 CAP, POINTS = 0.1, 32
 
 

@@ -76,9 +76,9 @@ def simplified(line):
         if kept and math.dist(kept[-1], spot) < 1e-6:
             continue
         if len(kept) > 1 and any(kept[-2][i] == kept[-1][i] == spot[i] for i in (0, 1)):
-            turns_back = (kept[-1][0] - kept[-2][0]) * (spot[0] - kept[-1][0]) + (kept[-1][1] - kept[-2][1]) * (spot[1] - kept[-1][1]) < 0
-            if not turns_back:
-                kept.pop()
+            before, corner = kept[-2:]
+            if (corner[0] - before[0]) * (spot[0] - corner[0]) + (corner[1] - before[1]) * (spot[1] - corner[1]) >= 0:
+                kept.pop()  # (a line that turns back keeps the point where it does)
         kept.append(spot)
     return kept
 

@@ -60,7 +60,7 @@ class Bench:
 
     def may_run(self, command):
         """Whether the line is of known programs alone, on files that are there."""
-        if not self.has_live and re.search('reroute-(draw|pins)', command) or re.search(r'[;&$`\\*?~]|\.\.|\b(?:FILE|SEED|N)\b', command):
+        if not self.has_live and re.search('reroute-(draw|pins)|from-dot', command) or re.search(r'[;&$`\\*?~]|\.\.|\b(?:FILE|SEED|N)\b', command):
             return False
         stages = [re.sub(r"'[^']*'", 'QUOTED', re.sub(r'(?:>|-o) *[\w.-]+', '', stage)).split() for stage in command.split('|')]
         return all(words and words[0] in PROGRAMS and all(

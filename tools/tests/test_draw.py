@@ -16,9 +16,11 @@ TOP = os.path.dirname(os.path.dirname(os.path.dirname(os.path.realpath(__file__)
 DRAW, EXAMPLES = f'{TOP}/tools/reroute-draw', f'{TOP}/examples'
 REROUTE = os.environ.get('REROUTE', f'{TOP}/out/reroute')
 LIVE = os.environ.get('REROUTE_LIVE', f'{TOP}/out/reroute_live')
-TWO = b'graph [ node [ id 1 graphics [ x 0 y 0 w 20 h 20 ] ] node [ id 2 graphics [ x 100 y 0 w 20 h 20 ] ] edge [ source 1 target 2 ] ]'
+TWO = (b'graph [ node [ id 1 graphics [ x 0 y 0 w 20 h 20 ] ] node [ id 2 graphics [ x 100 y 0 w 20 h 20 ] ] '
+       b'edge [ source 1 target 2 ] ]')
 # Four boxes stand 14 units from the first, so that with a buffer of 8 or more each way out of it is closed.
-WALLS = b' '.join(b'node [ id %d graphics [ x %d y %d w 20 h 20 ] ]' % wall for wall in ((3, 34, 0), (4, -34, 0), (5, 0, 34), (6, 0, -34)))
+WALLS = b' '.join(b'node [ id %d graphics [ x %d y %d w 20 h 20 ] ]' % wall
+                  for wall in ((3, 34, 0), (4, -34, 0), (5, 0, 34), (6, 0, -34)))
 TIGHT = TWO.replace(b' edge', b' %s edge' % WALLS)
 DOT = b'digraph { a -> b -> c; a -> c }'
 

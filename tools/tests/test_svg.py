@@ -306,6 +306,8 @@ class Looks(unittest.TestCase):
             self.assertEqual(self.shape(f'type "{name}"').tag, NAME + tag, name)
         self.assertGreater(float(self.shape('type "roundrectangle"').get('rx')), float(self.shape('').get('rx')))
         self.assertEqual(self.shape('type "ellipse"', drawing.PLAIN).tag, f'{NAME}rect')
+        circles = Picture(graph(box(1, 0, 0, looks_of='type "doublecircle"'))).of('node-1').findall(f'{NAME}ellipse')
+        self.assertEqual([circle.get('rx') for circle in circles], ['20', '16'])
 
     def test_lines_end_at_the_outline(self):
         for name, spot in (('ellipse', (24, 20 - 20 * math.sqrt(1 - 0.6 ** 2))), ('diamond', (24, 12)), ('rectangle', (24, 0))):
