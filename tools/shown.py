@@ -188,7 +188,8 @@ def check_commands(tree, pages, program, report):
             shown.tables()
 
 
-def check_pictures(tree, program, report):
+def check_pictures(tree, program, report, is_drawn=False):
+    """The pictures are as their commands draw them; where that is wanted, they are written."""
     with tempfile.TemporaryDirectory() as folder:
         bench = Bench(tree, program, folder)
         for path in tree.files:
@@ -197,5 +198,9 @@ def check_pictures(tree, program, report):
                 report.say(path, 1, 'PICTURES of tools/shown.py has no command for it')
             elif name and bench.may_run(PICTURES[name[1]]):
                 report.counts['pictures'] += 1
-                if bench.run(PICTURES[name[1]])[1] != tree.text(path):
+                picture = bench.run(PICTURES[name[1]])[1]
+                if picture != tree.text(path) and is_drawn:
+                    with open(f'{tree.top}/{path}', 'w', encoding='utf-8') as file:
+                        file.write(picture)
+                elif picture != tree.text(path):
                     report.say(path, 1, f'`{PICTURES[name[1]]}` draws another picture')
