@@ -81,7 +81,7 @@ const AT_LIMITS: [Solved; 3] = [
     ),
 ];
 
-const BETWEEN_LIMITS: [Solved; 3] = [
+const BETWEEN_LIMITS: [Solved; 4] = [
     (
         (0, 30000, 0, false),
         (0, 0, 30000, false),
@@ -91,6 +91,17 @@ const BETWEEN_LIMITS: [Solved; 3] = [
         2,
         [-1, 1],
         2,
+        [0, 0],
+    ),
+    (
+        (0, 30000, 0, false),
+        (0, 0, 30000, false),
+        true,
+        4000,
+        4000,
+        1,
+        [-2000, 2000],
+        4000,
         [0, 0],
     ),
     (
