@@ -47,10 +47,6 @@ class Tree:
                 found[hit[1]] = number
         return found
 
-    def edits(self, crate):
-        place = re.compile(rf'crates/{crate}/must-fail/[^/]+\.edit')
-        return [path for path in self.files if place.fullmatch(path)]
-
 
 WORDS_OF_ANTT = {'pub', 'abbrev', 'record', 'module', 'mod', 'data', 'abstract', 'private', 'opaque', 'macro', 'unfoldable'}
 TOKEN_OF_ANTT = re.compile(r'[^\s:(){},]+|[:(){},]')

@@ -1,13 +1,13 @@
 //! Gates that count the pieces of searches that pass, or delay one until the next has passed; and
 //! runs with them.
 
-use crate::rows;
-use crate::runs::{Row, route_row, run_row_gated, whole_row};
-use crate::subcommands::{PROPOSALS, PROPOSALS_OUT, ROUND};
+use crate::rows::{
+    EMPTY, FIVE, FOUR, PARALLEL, PARALLEL_OUT, PROPOSALS, PROPOSALS_OUT, ROUND, UNDONE,
+};
+use crate::runs::{Row, ends_gated, faultless};
 use par_route::Gate;
 use reroute_app::Status;
-use std::alloc::Global;
-use std::process::Abort;
+use std::alloc::{AllocError, Global};
 use std::sync::atomic::{AtomicBool, AtomicU32, Ordering};
 use std::test::Fail;
 use std::thread::Threads;
@@ -92,46 +92,52 @@ impl Gate for HoldsLater {
     }
 }
 
-#[test]
-fn counts_searches(rt: HostRuntime) -> Result<(), Fail> {
-    let gate = Counts::new();
-    let row = Row {
-        words: "route|d.gml|s.txt|--count",
-        ..route_row("graph [ ]", rows::UNDONE, Status::Done, rows::UNDONE_OUT)
-    };
-    let searched = run_row_gated(&rt, rt.alloc(), &row, Some(&gate))?;
-    assert!(rt; searched == 2 && gate.both() == (2, 2));
-    Ok(())
-}
-
-/// Arguments, the expected number of pieces in which five connectors are searched, and the sum of the
-/// numbers of these pieces.
-const PIECES: [(&str, (u32, u32)); 4] = [
-    ("route|d.gml|s.txt", (1, 1)),
-    ("route|--workers|2|d.gml|s.txt", (2, 3)),
-    ("route|--workers|3|d.gml|s.txt", (3, 6)),
-    ("route|--workers|4|d.gml|s.txt", (4, 10)),
+/// Arguments, diagram and second file of runs that end as `Done`; the number of pieces that must pass the gate, and the
+/// sum of the numbers of these pieces.
+const PIECES: [(&str, &[u8], &[u8], (u32, u32)); 6] = [
+    ("route|d.gml|s.txt|--count", EMPTY, UNDONE, (2, 2)),
+    ("route|d.gml|s.txt", EMPTY, FIVE, (1, 1)),
+    ("route|--workers|2|d.gml|s.txt", EMPTY, FIVE, (2, 3)),
+    ("route|--workers|3|d.gml|s.txt", EMPTY, FIVE, (3, 6)),
+    ("route|--workers|4|d.gml|s.txt", EMPTY, FIVE, (4, 10)),
+    // The opening has one connector, and then there is a piece for each proposal.
+    ("preview|--workers|4|d.gml|s.txt", ROUND, FOUR, (5, 11)),
 ];
 
+/// The pieces that pass the gate in the row's run, or `None` where the run does not end as expected.
 fn pieces_of(
-    rt: &(impl Abort + Threads + Sync),
+    rt: &(impl Threads + Sync),
     alloc: Global,
-    words: &str,
-) -> Result<(u32, u32), Fail> {
+    row: &Row,
+) -> Result<Option<(u32, u32)>, AllocError> {
     let gate = Counts::new();
-    let row = Row {
-        words,
-        ..route_row("graph [ ]", rows::CHANNEL, Status::Done, rows::CHANNEL_OUT)
-    };
-    let searched = run_row_gated(rt, alloc, &row, Some(&gate))?;
-    assert!(rt; searched == 5, "{words}");
-    Ok(gate.both())
+    let (ends, _searched) = ends_gated(rt, alloc, row, &gate)?;
+    Ok(if ends { Some(gate.both()) } else { None })
 }
 
 #[test]
 fn searches_in_a_piece_for_each_worker(rt: HostRuntime) -> Result<(), Fail> {
-    for &(words, pieces) in &PIECES {
-        assert!(rt; pieces_of(&rt, rt.alloc(), words)? == pieces, "{words}");
+    for &(words, diagram, second, pieces) in &PIECES {
+        let row = faultless(words, diagram, second, Status::Done, None);
+        let passed = pieces_of(&rt, rt.alloc(), &row)?;
+        assert!(rt; passed == Some(pieces), "{words}");
+    }
+    Ok(())
+}
+
+/// Arguments and second file of runs on the empty diagram that end as `Done`, and the number of searches.
+const SEARCHED: [(&str, &[u8], u64); 3] = [
+    ("route|d.gml|s.txt|--count", UNDONE, 2),
+    ("route|--workers|2|d.gml|s.txt", FIVE, 5),
+    ("check|d.gml", FIVE, 0),
+];
+
+#[test]
+fn counts_searches(rt: HostRuntime) -> Result<(), Fail> {
+    for &(words, second, searched) in &SEARCHED {
+        let row = faultless(words, EMPTY, second, Status::Done, None);
+        let counted = ends_gated(&rt, rt.alloc(), &row, &Counts::new())?;
+        assert!(rt; counted == (true, searched), "{words}");
     }
     Ok(())
 }
@@ -139,18 +145,11 @@ fn searches_in_a_piece_for_each_worker(rt: HostRuntime) -> Result<(), Fail> {
 #[test]
 fn routes_side_by_side(rt: HostRuntime) -> Result<(), Fail> {
     let gate = Holds::new();
-    let row = Row {
-        words: "route|--workers|2|d.gml|s.txt",
-        ..route_row(
-            "graph [ ]",
-            rows::PARALLEL,
-            Status::Done,
-            rows::PARALLEL_OUT,
-        )
-    };
-    let searched = run_row_gated(&rt, rt.alloc(), &row, Some(&gate))?;
+    let words = "route|--workers|2|d.gml|s.txt";
+    let row = faultless(words, EMPTY, PARALLEL, Status::Done, Some(PARALLEL_OUT));
+    let counted = ends_gated(&rt, rt.alloc(), &row, &gate)?;
     assert!(rt; gate.seen.load(Ordering::SeqCst));
-    assert!(rt; searched == 2);
+    assert!(rt; counted == (true, 2));
     Ok(())
 }
 
@@ -160,16 +159,16 @@ fn previews_side_by_side(rt: HostRuntime) -> Result<(), Fail> {
         is_open: AtomicBool::new(false),
         pieces: Holds::new(),
     };
-    let row = Row {
-        diagram: ROUND.as_bytes(),
-        script: PROPOSALS.as_bytes(),
-        ..whole_row(
-            "preview|--workers|2|d.gml|s.txt",
-            Status::Refused,
-            PROPOSALS_OUT,
-        )
-    };
-    run_row_gated(&rt, rt.alloc(), &row, Some(&gate))?;
+    let words = "preview|--workers|2|d.gml|s.txt";
+    let row = faultless(
+        words,
+        ROUND,
+        PROPOSALS,
+        Status::Refused,
+        Some(PROPOSALS_OUT),
+    );
+    let (ends, _searched) = ends_gated(&rt, rt.alloc(), &row, &gate)?;
     assert!(rt; gate.pieces.seen.load(Ordering::SeqCst));
+    assert!(rt; ends);
     Ok(())
 }

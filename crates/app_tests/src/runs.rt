@@ -1,23 +1,12 @@
 //! One run of the program on files in memory: a row has its whole input, and the expected result.
 
-use crate::texts::{lines_of, spaced};
 use host_edge::{MemFolder, MemSink, NamedFile};
 use par_route::{Gate, OpenGate};
 use reroute_app::{Status, exit_code_of, run, run_gated};
 use route_search::Tally;
 use std::alloc::{AllocError, Global};
-use std::process::{Abort, ExitCode};
-use std::test::Fail;
+use std::process::ExitCode;
 use std::thread::Threads;
-
-/// The expected contents of a sink at the end.
-#[derive(Clone, Copy)]
-pub(crate) enum Wanted<'a> {
-    /// These bytes.
-    Bytes(&'a str),
-    /// These words, whatever separates them.
-    Words(&'a str),
-}
 
 /// The input of a run, and its expected result.
 #[derive(Clone, Copy)]
@@ -26,8 +15,8 @@ pub(crate) struct Row<'a> {
     pub(crate) words: &'a str,
     /// The file `d.gml`.
     pub(crate) diagram: &'a [u8],
-    /// The lines of the file `s.txt`, separated by commas.
-    pub(crate) script: &'a [u8],
+    /// The file `s.txt`.
+    pub(crate) second: &'a [u8],
     /// The number of the read that fails, or 0.
     pub(crate) failing_read: u64,
     /// The greatest number of bytes that the sink takes in a call.
@@ -35,35 +24,27 @@ pub(crate) struct Row<'a> {
     /// The number of the write that fails, or 0.
     pub(crate) failing_write: u64,
     pub(crate) status: Status,
-    pub(crate) wanted: Wanted<'a>,
+    /// The bytes that the sink holds at the end, or `None` where they are not compared.
+    pub(crate) output: Option<&'a str>,
 }
 
-/// A run with these arguments on an empty diagram, with the expected status and bytes.
-pub(crate) fn whole_row<'a>(words: &'a str, status: Status, output: &'a str) -> Row<'a> {
+/// A run in which no read and no write fails.
+pub(crate) fn faultless<'a>(
+    words: &'a str,
+    diagram: &'a [u8],
+    second: &'a [u8],
+    status: Status,
+    output: Option<&'a str>,
+) -> Row<'a> {
     Row {
         words,
-        diagram: b"graph [ ]",
-        script: b"",
+        diagram,
+        second,
         failing_read: 0,
         most: usize::MAX,
         failing_write: 0,
         status,
-        wanted: Wanted::Bytes(output),
-    }
-}
-
-/// A run of `route`, with the expected words.
-pub(crate) fn route_row<'a>(
-    diagram: &'a str,
-    script: &'a str,
-    status: Status,
-    output: &'a str,
-) -> Row<'a> {
-    Row {
-        diagram: diagram.as_bytes(),
-        script: script.as_bytes(),
-        wanted: Wanted::Words(output),
-        ..whole_row("route|d.gml|s.txt", status, "")
+        output,
     }
 }
 
@@ -81,16 +62,15 @@ fn named(alloc: Global, name: &str, bytes: &[u8]) -> Result<NamedFile, AllocErro
     Ok(NamedFile { name, bytes })
 }
 
-fn files(alloc: Global, row: &Row, script: &[u8]) -> Result<Vec<NamedFile>, AllocError> {
+fn files(alloc: Global, row: &Row) -> Result<Vec<NamedFile>, AllocError> {
     let diagram = named(alloc, "d.gml", row.diagram)?;
-    let script = named(alloc, "s.txt", script)?;
-    Ok(vec![in alloc; diagram, script]?)
+    let second = named(alloc, "s.txt", row.second)?;
+    Ok(vec![in alloc; diagram, second]?)
 }
 
 fn folder(alloc: Global, row: &Row) -> Result<MemFolder, AllocError> {
-    let script = lines_of(alloc, row.script)?;
     let fails = Vec::from_slice(alloc, &[row.failing_read])?;
-    let files = files(alloc, row, &script)?;
+    let files = files(alloc, row)?;
     Ok(MemFolder::new(alloc, files, fails))
 }
 
@@ -99,96 +79,81 @@ fn sink(alloc: Global, row: &Row) -> Result<MemSink, AllocError> {
     Ok(MemSink::new(alloc, row.most.max(1), fails))
 }
 
-/// Compares the result of a run with the row.
-fn judge(
-    rt: &impl Abort,
-    alloc: Global,
-    row: &Row,
-    status: Status,
-    held: &[u8],
-) -> Result<(), Fail> {
-    match row.wanted {
-        Wanted::Bytes(bytes) => assert!(rt; held == bytes.as_bytes(), "{}", row.words),
-        Wanted::Words(words) => {
-            let held = spaced(alloc, held)?;
-            let wanted = spaced(alloc, words.as_bytes())?;
-            assert!(rt; held.as_slice() == wanted.as_slice(), "{}", row.words);
-        }
-    }
-    assert!(rt; status == row.status, "{}", row.words);
-    Ok(())
+/// Whether a run that ended so is the row's.
+fn is_expected(row: &Row, status: Status, held: &[u8]) -> bool {
+    let is_output = match row.output {
+        Some(output) => held == output.as_bytes(),
+        None => true,
+    };
+    is_output && status == row.status
 }
 
-fn run_into_sink<G: Gate>(
-    rt: &(impl Abort + Threads + Sync),
+fn ends_in_sink<G: Gate>(
+    rt: &(impl Threads + Sync),
     alloc: Global,
     row: &Row,
-    gate: Option<&G>,
+    gate: &G,
     words: &[String],
     folder: &mut MemFolder,
     tally: &mut Tally,
-) -> Result<(), Fail> {
+) -> Result<bool, AllocError> {
     let mut sink = sink(alloc, row)?;
-    let status = match gate {
-        Some(gate) => run_gated(rt, alloc, words, folder, &mut sink, gate, tally),
-        None => run(rt, alloc, words, folder, &mut sink, tally),
-    };
-    judge(rt, alloc, row, status, sink.held())
+    let status = run_gated(rt, alloc, words, folder, &mut sink, gate, tally);
+    Ok(is_expected(row, status, sink.held()))
 }
 
-fn run_in_folder<G: Gate>(
-    rt: &(impl Abort + Threads + Sync),
+fn ends_in_folder<G: Gate>(
+    rt: &(impl Threads + Sync),
     alloc: Global,
     row: &Row,
-    gate: Option<&G>,
+    gate: &G,
     words: &[String],
     tally: &mut Tally,
-) -> Result<(), Fail> {
+) -> Result<bool, AllocError> {
     let mut folder = folder(alloc, row)?;
-    run_into_sink(rt, alloc, row, gate, words, &mut folder, tally)
+    ends_in_sink(rt, alloc, row, gate, words, &mut folder, tally)
 }
 
-/// Runs the row with this gate, or with none. It returns the number of searches.
-pub(crate) fn run_row_gated<G: Gate>(
-    rt: &(impl Abort + Threads + Sync),
+/// Whether the row ends as expected with this gate, and the number of searches.
+pub(crate) fn ends_gated<G: Gate>(
+    rt: &(impl Threads + Sync),
     alloc: Global,
     row: &Row,
-    gate: Option<&G>,
-) -> Result<u64, Fail> {
+    gate: &G,
+) -> Result<(bool, u64), AllocError> {
     let words = owned(alloc, row.words)?;
     let mut tally = Tally::new();
-    let judged = run_in_folder(rt, alloc, row, gate, &words, &mut tally);
-    judged.map(|_| tally.count())
+    let ends = ends_in_folder(rt, alloc, row, gate, &words, &mut tally)?;
+    Ok((ends, tally.count()))
 }
 
-/// Runs the row.
-pub(crate) fn run_row(
-    rt: &(impl Abort + Threads + Sync),
+/// Whether the row ends as expected.
+pub(crate) fn ends(
+    rt: &(impl Threads + Sync),
     alloc: Global,
     row: &Row,
-) -> Result<(), Fail> {
-    run_row_gated::<OpenGate>(rt, alloc, row, None).map(|_| ())
+) -> Result<bool, AllocError> {
+    ends_gated(rt, alloc, row, &OpenGate).map(|(ends, _)| ends)
 }
 
 fn written_in_folder(
-    rt: &(impl Abort + Threads + Sync),
+    rt: &(impl Threads + Sync),
     alloc: Global,
     row: &Row,
     words: &[String],
     folder: &mut MemFolder,
-) -> Result<Vec<u8>, Fail> {
+) -> Result<Vec<u8>, AllocError> {
     let mut sink = sink(alloc, row)?;
-    let status = run(rt, alloc, words, folder, &mut sink, &mut Tally::new());
-    assert!(rt; status == row.status, "{}", row.words);
-    Ok(Vec::from_slice(alloc, sink.held())?)
+    let _status = run(rt, alloc, words, folder, &mut sink, &mut Tally::new());
+    Vec::from_slice(alloc, sink.held())
 }
 
-/// What the program writes for the row, which must end with its status.
+/// What the program writes for the row.
 pub(crate) fn written(
-    rt: &(impl Abort + Threads + Sync),
+    rt: &(impl Threads + Sync),
     alloc: Global,
     row: &Row,
-) -> Result<Vec<u8>, Fail> {
+) -> Result<Vec<u8>, AllocError> {
     let words = owned(alloc, row.words)?;
     let mut folder = folder(alloc, row)?;
     written_in_folder(rt, alloc, row, &words, &mut folder)

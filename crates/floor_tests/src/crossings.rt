@@ -7,7 +7,6 @@ ghost use Rattle.floor_tests.specs.Lines.{Overlap, point_of};
 use line_arena::{CrossId, LineArena, LineId};
 use plane_geom::{Dir, Line, Point, Way};
 use std::alloc::{AllocError, Global};
-use std::test::Fail;
 
 fn differ(first: &Line, second: &Line) -> bool
     ensures { IsTrue result → first.now.way ≢ second.now.way }
@@ -346,18 +345,6 @@ fn written_in(alloc: Global, arena: &mut LineArena, step: u16) -> Result<Option<
 fn written(alloc: Global, step: u16) -> Result<Option<u64>, AllocError> {
     let mut arena = LineArena::new(alloc);
     written_in(alloc, &mut arena, step)
-}
-
-#[test]
-fn walks_along_every_line(rt: HostRuntime) -> Result<(), Fail> {
-    for &step in &[1, 899, 7] {
-        assert_eq!(rt;
-            written(rt.alloc(), step)?,
-            Some(60 + 900 + 450),
-            "step {step}"
-        );
-    }
-    Ok(())
 }
 
 /// Adds the lines of the grid and one crossing.

@@ -51,7 +51,8 @@ fn finds_free(index: &mut IntervalIndex) -> Result<bool, AllocError> {
         (50, None),
         (70, Some((60, SHEET_END))),
     ];
-    Ok(none && gone && is_free(index, &rows))
+    let ends = touches(index, 40, 41, &[2])?;
+    Ok(none && gone && is_free(index, &rows) && ends)
 }
 
 fn lists_touching(index: &mut IntervalIndex) -> Result<bool, AllocError> {

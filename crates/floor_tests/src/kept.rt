@@ -2,7 +2,7 @@
 //! many solids.
 ghost use Rattle.plane_geom.specs.Floor.{IsFloor};
 
-use crate::small::{Sides, small_floor, tile, tiles_behind};
+use crate::small::{Sides, small_floor};
 use plane_geom::{Floor, Line, Rect, SHEET_END, SHEET_START, Way};
 use std::alloc::{AllocError, Global};
 use std::test::Fail;
@@ -162,57 +162,6 @@ fn keeps_pieces(rt: HostRuntime) {
     }
 }
 
-/// Adds the kept lines of this way at the coordinate.
-fn push_lines_at(
-    alloc: Global,
-    floor: &Floor,
-    way: Way,
-    at: i16,
-    lines: &mut Vec<Line>,
-) -> Result<(), AllocError>
-    requires { IsFloor floor.now }
-{
-    let found = lines_at(alloc, floor, way, i64::from(at))?;
-    lines.extend_from_slice(found.as_slice())
-}
-
-/// Adds the kept lines of either way at each coordinate near the solids of `ROW`.
-fn push_each_line(alloc: Global, floor: &Floor, lines: &mut Vec<Line>) -> Result<(), AllocError>
-    requires { IsFloor floor.now }
-{
-    for &way in &[Way::Vertical, Way::Horizontal] {
-        for at in -8..48i16 {
-            push_lines_at(alloc, floor, way, at, lines)?;
-        }
-    }
-    Ok(())
-}
-
-/// The kept lines of the row, found line by line.
-fn line_by_line(alloc: Global) -> Result<Vec<Line>, AllocError> {
-    let floor = small_floor(alloc, &ROW, &ROW_ANCHORS)?;
-    let mut lines = Vec::new(alloc);
-    let pushed = push_each_line(alloc, &floor, &mut lines);
-    pushed.map(|()| lines)
-}
-
-/// Whether all kept lines of the row are these.
-fn are_those_of_row(alloc: Global, lines: &[Line]) -> Result<bool, AllocError> {
-    let all = kept(alloc, (&ROW, &ROW_ANCHORS), Which::All)?;
-    Ok(all.as_slice() == lines)
-}
-
-fn finds_line_by_line(alloc: Global) -> Result<bool, AllocError> {
-    let lines = line_by_line(alloc)?;
-    are_those_of_row(alloc, lines.as_slice())
-}
-
-#[test]
-fn finds_on_one_line_what_is_among_all(rt: HostRuntime) {
-    let found = finds_line_by_line(rt.alloc());
-    assert!(rt; matches!(found, Ok(true)));
-}
-
 fn rect_of(sides: Sides) -> Rect {
     let (left, top, right, bottom) = sides;
     Rect {
@@ -302,19 +251,6 @@ const COUNTED: [(Plain<'static>, usize); 5] = [
 fn finds_near_a_rectangle_what_is_among_all(rt: HostRuntime) -> Result<(), Fail> {
     for (place, &(floor, want)) in COUNTED.iter().enumerate() {
         assert!(rt; has_count(rt.alloc(), floor, want)?, "in row {place}");
-    }
-    Ok(())
-}
-
-/// No anchor, and one inside a solid, which adds no line.
-const INSIDE: [&[(i64, i64)]; 2] = [&[], &[(90, 100)]];
-
-#[test]
-fn sweeps_many_solids(rt: HostRuntime) -> Result<(), Fail> {
-    let rects = tiles_behind(rt.alloc(), tile(0))?;
-    for &anchors in &INSIDE {
-        let counted = has_count(rt.alloc(), (rects.as_slice(), anchors), 489);
-        assert!(rt; matches!(counted, Ok(true)), "anchors: {}", anchors.len());
     }
     Ok(())
 }

@@ -14,6 +14,4 @@ mod kept;
 #[cfg(test)]
 mod repairs;
 #[cfg(test)]
-mod shapes;
-#[cfg(test)]
 mod small;

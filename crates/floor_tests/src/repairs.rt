@@ -289,27 +289,6 @@ fn finds_lines_near_what_changes(rt: HostRuntime) -> Result<(), Fail> {
     Ok(())
 }
 
-const AROUND: [Sides; 3] = [SQUARE, (30, 0, 40, 10), (20, 30, 50, 40)];
-
-fn hull_from(alloc: Global, old: &Floor) -> Result<Option<Sides>, AllocError>
-    requires { IsFloor old.now }
-{
-    let new = small_floor(alloc, &AROUND, &[(0, 5), (25, 28), (50, 35)])?;
-    hull_between(alloc, old, &new)
-}
-
-/// The hull where the anchor between three solids moves.
-fn hull_of_anchor(alloc: Global) -> Result<Option<Sides>, AllocError> {
-    let old = small_floor(alloc, &AROUND, &[(0, 5), (25, 20), (50, 35)])?;
-    hull_from(alloc, &old)
-}
-
-#[test]
-fn finds_lines_of_an_anchor_that_moves(rt: HostRuntime) -> Result<(), Fail> {
-    assert_eq!(rt; hull_of_anchor(rt.alloc())?, Some((25, 20, 25, 28)));
-    Ok(())
-}
-
 fn turns_tiles(alloc: Global, old: &[Sides]) -> Result<[u64; 5], AllocError> {
     let new = tiles_behind(alloc, (3, 2, 23, 17))?;
     turns_between(alloc, (old, &[]), (new.as_slice(), &[]))

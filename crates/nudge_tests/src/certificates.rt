@@ -5,9 +5,8 @@ ghost use Rattle.separation_model.specs.Bundle.{IsBundle, IsGapUpTo};
 
 use crate::small::{small_bundle, small_item, small_solution};
 use separation_model::{
-    Bundle, Solution, certified_is_least, latest_positions, least_positions_exist,
-    met_positions_are_on_sheet, most_items_is_the_bound, one_least, one_rounded, one_widest_gap,
-    rounded_down_is_below, rounded_down_meets, rules_by_left, verify, widest_gap,
+    Bundle, Solution, latest_positions, met_positions_are_on_sheet, rules_by_left, verify,
+    widest_gap,
 };
 use std::alloc::{AllocError, Global};
 use std::test::Fail;
@@ -169,17 +168,4 @@ fn verifies_multipliers(rt: HostRuntime) -> Result<(), Fail> {
         assert_eq!(rt; accepts_row(rt.alloc(), row)?, Some(row.7), "row {place}");
     }
     Ok(())
-}
-
-#[test]
-fn laws_run() {
-    one_widest_gap();
-    certified_is_least();
-    one_least();
-    met_positions_are_on_sheet();
-    rounded_down_is_below();
-    rounded_down_meets();
-    one_rounded();
-    most_items_is_the_bound();
-    least_positions_exist();
 }

@@ -6,8 +6,6 @@
 #[cfg(test)]
 mod certificates;
 #[cfg(test)]
-mod nothing;
-#[cfg(test)]
 mod orders;
 #[cfg(test)]
 mod phases;

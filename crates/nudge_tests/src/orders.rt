@@ -1,5 +1,5 @@
 //! The runs and the order of worked routes.
-use plane_geom::{Dir, Point, Way};
+use plane_geom::Point;
 use segment_order::{Run, line_order, runs_of};
 use std::alloc::{AllocError, Global};
 use std::cmp::Ordering;
@@ -89,99 +89,4 @@ fn orders_routes_on_a_line(rt: HostRuntime) -> Result<(), Fail> {
     assert!(rt; are_in_order(rt.alloc(), &HORIZONTAL)?);
     assert!(rt; are_in_order(rt.alloc(), &VERTICAL)?);
     Ok(())
-}
-
-/// A run without length in place of the second one, with this heading.
-fn with_empty(edge: u32, heading: Dir) -> [Run; 3] {
-    let before = Run {
-        edge,
-        place: 1,
-        way: Way::Vertical,
-        heading: Dir::South,
-        at: 5,
-        lo: -10,
-        hi: 0,
-    };
-    let empty = Run {
-        edge,
-        place: 2,
-        way: Way::Horizontal,
-        heading,
-        at: 0,
-        lo: 5,
-        hi: 5,
-    };
-    let after = Run {
-        place: 3,
-        lo: 0,
-        hi: 20,
-        ..before
-    };
-    [before, empty, after]
-}
-
-fn corners_with_empty(alloc: Global, edge: u32) -> Result<Vec<Run>, AllocError> {
-    let corners = [at((5, -10)), at((5, 0)), at((5, 0)), at((5, 20))];
-    runs_of(alloc, edge, &corners)
-}
-
-/// Whether the runs, except the second one, are those of three corners of which two are equal.
-fn are_beside_empty(runs: &[Run], eastward: &[Run]) -> bool {
-    runs.len() == 3 && runs.first() == eastward.first() && runs.last() == eastward.last()
-}
-
-/// The heading of a run without length decides in which direction its rays go.
-#[test]
-fn heading_orders_runs_without_length(rt: HostRuntime) -> Result<(), Fail> {
-    let (eastward, westward) = (with_empty(1, Dir::East), with_empty(2, Dir::West));
-    assert_eq!(rt; order_of(&eastward, 1, &westward, 1), Some(Ordering::Less));
-    let runs = corners_with_empty(rt.alloc(), 1)?;
-    assert!(rt; are_beside_empty(runs.as_slice(), &eastward));
-    Ok(())
-}
-
-/// The last run of a stair.
-const LAST: Run = Run {
-    edge: 7,
-    place: 99_999,
-    way: Way::Horizontal,
-    heading: Dir::East,
-    at: -49_999,
-    lo: 49_999,
-    hi: 50_000,
-};
-
-/// The corners of a stair.
-fn stair(alloc: Global) -> Result<Vec<Point>, AllocError> {
-    let mut points = Vec::new(alloc);
-    for k in 0..100_000_i64 {
-        points.push(at(((k + 1) / 2, -(k / 2))))?;
-    }
-    Ok(points)
-}
-
-/// The number of runs that the corners make, and the last one.
-fn last_run(alloc: Global, points: &[Point]) -> Result<Option<(usize, Run)>, AllocError> {
-    if points.len() != 100_000 {
-        return Ok(None);
-    }
-    let runs = runs_of(alloc, 7, points)?;
-    Ok(runs.last().map(|last| (runs.len(), *last)))
-}
-
-/// A stair of many corners has one run fewer than corners; each leads from its corner to the next.
-#[test]
-fn runs_along_many_corners(rt: HostRuntime) -> Result<(), Fail> {
-    let points = stair(rt.alloc())?;
-    let last = last_run(rt.alloc(), points.as_slice());
-    assert_eq!(rt; last.ok(), Some(Some((99_999, LAST))));
-    Ok(())
-}
-
-#[test]
-fn holds_its_points(rt: HostRuntime) {
-    assert_eq!(rt; LAST.start(), at((49_999, -49_999)));
-    assert_eq!(rt; LAST.end(), at((50_000, -49_999)));
-    assert!(rt; LAST.holds(LAST.end()));
-    assert!(rt; !LAST.holds(at((50_001, -49_999))) && !LAST.holds(at((50_000, 0))));
 }

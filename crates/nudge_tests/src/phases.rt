@@ -3,8 +3,7 @@ use crate::phases::checks::{
     are_few, are_of_different_edges, are_phase_routes, are_solids, is_nudge, may_all_move,
 };
 use crate::phases::rows::{
-    ALONE, BACK, Block, CHANNELS, Corner, Drawn, Leg, ON_ONE_LINE, Placed, ROUND_BOXES, Row, Ruled,
-    Wanted,
+    Block, CHANNELS, Corner, Drawn, Leg, Placed, ROUND_BOXES, Row, Ruled, Wanted,
 };
 use channel_bundles::{PhaseRoute, RouteAnchors, RunBundle, bundles};
 use plane_geom::{Dir, Point, Rect, Solid, Way};
@@ -245,19 +244,4 @@ fn bundles_runs_round_boxes(rt: HostRuntime) -> Result<(), Fail> {
 #[test]
 fn bundles_runs_in_channels(rt: HostRuntime) -> Result<(), Fail> {
     walk(&rt, rt.alloc(), &CHANNELS)
-}
-
-#[test]
-fn bundles_runs_on_one_line(rt: HostRuntime) -> Result<(), Fail> {
-    walk(&rt, rt.alloc(), &ON_ONE_LINE)
-}
-
-#[test]
-fn bundles_runs_of_routes_that_go_back(rt: HostRuntime) -> Result<(), Fail> {
-    walk(&rt, rt.alloc(), &BACK)
-}
-
-#[test]
-fn bundles_runs_that_stand_alone(rt: HostRuntime) -> Result<(), Fail> {
-    walk(&rt, rt.alloc(), &ALONE)
 }

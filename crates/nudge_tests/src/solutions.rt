@@ -81,7 +81,7 @@ const AT_LIMITS: [Solved; 3] = [
     ),
 ];
 
-const BETWEEN_LIMITS: [Solved; 3] = [
+const BETWEEN_LIMITS: [Solved; 4] = [
     (
         (0, 30000, 0, false),
         (0, 0, 30000, false),
@@ -91,6 +91,17 @@ const BETWEEN_LIMITS: [Solved; 3] = [
         2,
         [-1, 1],
         2,
+        [0, 0],
+    ),
+    (
+        (0, 30000, 0, false),
+        (0, 0, 30000, false),
+        true,
+        4000,
+        4000,
+        1,
+        [-2000, 2000],
+        4000,
         [0, 0],
     ),
     (
@@ -186,34 +197,6 @@ fn row(alloc: Global, item: Item, count: u32, wanted: i64) -> Result<Bundle, All
         rules,
         wanted,
     })
-}
-
-/// Whether the solution is that of three items within 5000 to the left of 0.
-fn is_of_three(solution: &Solution) -> bool {
-    solution.gap == 2500
-        && solution.den.as_slice() == [1, 1, 1].as_slice()
-        && solution.pos.as_slice() == [-5000, -2500, 0].as_slice()
-        && solution.mult.as_slice() == [10000, 15000].as_slice()
-        && solution.low.as_slice() == [0, 0, 0].as_slice()
-        && solution.high.as_slice() == [0, 0, 15000].as_slice()
-}
-
-fn solves_three(alloc: Global, bundle: &Bundle) -> Result<bool, AllocError>
-    requires { IsBundle bundle.now }
-{
-    let solution = solved(alloc, bundle)?;
-    Ok(is_of_three(&solution) && verify(bundle, &solution))
-}
-
-fn solves_row_of_three(alloc: Global) -> Result<bool, AllocError> {
-    let bundle = row(alloc, small_item(0, 5000, 0, false), 3, 4000)?;
-    solves_three(alloc, &bundle)
-}
-
-#[test]
-fn solves_a_row(rt: HostRuntime) -> Result<(), Fail> {
-    assert!(rt; solves_row_of_three(rt.alloc())?);
-    Ok(())
 }
 
 /// Whether the solution is that of a thousand items around 0.

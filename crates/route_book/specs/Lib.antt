@@ -2,6 +2,8 @@
 pub mod Exchange
 pub mod Kept
 pub mod Search
+pub mod Differ
+pub mod Keeping
 pub mod Solids
 pub mod Shapes
 pub mod Reach

@@ -3,8 +3,10 @@ ghost use Rattle.std.specs.Prelude.{◌≡◌, All, IfOk, IsSome, Some, length, 
 ghost use Rattle.std.specs.List.{AllZip};
 ghost use Rattle.scene_model.specs.Stale.{answer_of};
 
+use crate::exchange::exchange;
 use std::alloc::{AllocError, Global};
 use std::marker::Model;
+use std::snapshot::Snapshot;
 use walk_model::{Answer, Route};
 
 /// Answers in the order of their connectors' numbers.
@@ -26,6 +28,8 @@ impl Model for AnswerList {
 }
 
 impl AnswerList {
+    ghost use Rattle.route_book.specs.Differ.{Differ};
+    ghost use Rattle.route_book.specs.Exchange.{AreByRisingEdge};
     ghost use Rattle.route_book.specs.Search.{AreRising, newer};
 
     /// The routes as answers of the connectors with these numbers.
@@ -55,6 +59,28 @@ impl AnswerList {
         ensures { result.now ≡ self.now }
     {
         &self.items
+    }
+
+    /// The law that the answers are in order. Does nothing.
+    pub(crate) fn rising(&self)
+        ensures { AreByRisingEdge self.now }
+    {
+        let _ = &self.items;
+    }
+
+    /// Exchanges the answers at the places with those that are away. Takes no memory.
+    pub(crate) fn exchange(
+        &mut self,
+        places: &[usize],
+        away: &mut [Answer],
+        there: &Snapshot<AnswerList>,
+    )
+        requires differ { Differ self.old there.now.value places.now away.old }
+        requires order { AreByRisingEdge there.now.value }
+        ensures answers { self.new ≡ there.now.value }
+        ensures away { Differ there.now.value self.old places.now away.new }
+    {
+        exchange(&mut self.items, places, away, there);
     }
 
     /// The answer of the connector with the number.

@@ -12,6 +12,7 @@ ghost use Rattle.scene_model.specs.Valid.{IsValid};
 
 use crate::answers::AnswerList;
 use crate::comparison::Comparison;
+use crate::exchange::Kept;
 use crate::search::{Searches, connector_numbers};
 use par_route::Gate;
 use route_search::Tally;
@@ -19,6 +20,7 @@ use scene_store::Scene;
 use std::alloc::{AllocError, Global};
 use std::marker::Model;
 use std::mem;
+use std::snapshot::Snapshot;
 use std::thread::Threads;
 use visibility_graph::Graph;
 use walk_model::Answer;
@@ -35,12 +37,12 @@ pub struct Book {
 
 /// The answers of the present scene and those of another scene. The model is these two lists.
 ///
-/// The second list is kept twice, so that `Book::swap` takes no memory.
+/// Only the answers that differ are kept, or the second list, if they are not equally long.
 #[derive(Drop)]
 pub struct Changes {
-    here: AnswerList,
-    there: AnswerList,
-    spare: AnswerList,
+    here: Snapshot<AnswerList>,
+    there: Snapshot<AnswerList>,
+    kept: Kept,
 }
 
 /// The numbers of a new scene's connectors, and of those of them that have to be searched again,
@@ -61,14 +63,15 @@ impl Model for Book {
 }
 
 impl Model for Changes {
-    ghost use Rattle.std.specs.Prelude.{◌≡◌};
     ghost use Rattle.route_book.specs.Exchange.{Exchange};
 
     ghost Value = { Exchange };
 
-    ghost view = { λ c. record { here = c.here; there = c.there } };
+    ghost view = { λ c. record { here = c.here.value; there = c.there.value } };
 
-    ghost invariant = { λ c. c.spare ≡ c.there };
+    ghost use Rattle.route_book.specs.Keeping.{IsKept};
+
+    ghost invariant = { λ c. IsKept c.here.value c.there.value c.kept };
 }
 
 impl Book {
@@ -293,9 +296,9 @@ impl Book {
     {
         let Book { answers: there, .. } = other;
         Ok(Changes {
-            here: self.answers.copy(self.alloc)?,
-            spare: there.copy(self.alloc)?,
-            there,
+            here: Snapshot::of(&self.answers),
+            there: Snapshot::of(&there),
+            kept: Kept::of(self.alloc, &self.answers, there)?,
         })
     }
 
@@ -349,7 +352,7 @@ impl Book {
         ensures book { self.new ≡ changes.old.there }
         ensures changes { changes.new ≡ turned changes.old }
     {
-        mem::swap(&mut self.answers, &mut changes.spare);
+        changes.kept.exchange(&mut self.answers, &changes.there);
         mem::swap(&mut changes.here, &mut changes.there);
     }
 

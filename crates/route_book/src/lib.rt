@@ -6,6 +6,7 @@
 mod answers;
 mod book;
 mod comparison;
+mod exchange;
 mod laws;
 mod line;
 mod reach;

@@ -4,15 +4,9 @@
 #[cfg(test)]
 mod choices;
 #[cfg(test)]
-mod exits;
-#[cfg(test)]
 mod floors;
 #[cfg(test)]
 mod found;
-#[cfg(test)]
-mod labels;
-#[cfg(test)]
-mod lists;
 #[cfg(test)]
 mod pieces;
 #[cfg(test)]
@@ -20,11 +14,7 @@ mod scenes;
 #[cfg(test)]
 mod searches;
 #[cfg(test)]
-mod stretches;
-#[cfg(test)]
 mod ties;
-#[cfg(test)]
-mod touches;
 #[cfg(test)]
 mod verdicts;
 #[cfg(test)]

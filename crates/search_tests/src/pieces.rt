@@ -7,7 +7,7 @@ ghost use Rattle.search_tests.specs.Idle.{idle_task};
 
 use crate::choices::idle;
 use line_arena::LineArena;
-use par_route::{CountGate, Gate, HoldGate, OpenGate, route_all, route_each};
+use par_route::{CountGate, Gate, HoldGate, route_all, route_each};
 use route_search::Tally;
 use std::alloc::{AllocError, Global};
 use std::test::Fail;
@@ -117,12 +117,6 @@ fn has_two_pieces_under_way(rt: HostRuntime) -> Result<(), Fail> {
     let gate = HoldGate::new();
     answered(&rt, rt.alloc(), 3, 2, &gate)?;
     assert!(rt; gate.has_seen_both());
-    Ok(())
-}
-
-#[test]
-fn passes_an_open_gate(rt: HostRuntime) -> Result<(), Fail> {
-    assert_eq!(rt; answered(&rt, rt.alloc(), 4, 3, &OpenGate)?, (4, 0, 4));
     Ok(())
 }
 

@@ -1,5 +1,5 @@
 //! Worked routes over scenes.
-ghost use Rattle.std.specs.Prelude.{◌≡◌, ◌≢◌, All, IfOk, IsSomeAnd, IsTrue};
+ghost use Rattle.std.specs.Prelude.{◌≢◌, All, IfOk, IsSomeAnd, IsTrue};
 ghost use Rattle.plane_geom.specs.Floor.{IsFloor};
 ghost use Rattle.scene_model.specs.Loads.{IsLoadablePin};
 ghost use Rattle.scene_model.specs.Scene.{edge_with};

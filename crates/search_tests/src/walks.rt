@@ -7,10 +7,7 @@ use plane_geom::{Dir, Point, Points};
 use std::alloc::{AllocError, Global};
 use std::cmp::Ordering;
 use std::test::Fail;
-use walk_model::{
-    Answer, Choice, Choices, Route, Task, WrittenRoute, compare_routes, cost_of, passed_between,
-    passes, run_count,
-};
+use walk_model::{Answer, Choice, Choices, Route, Task, compare_routes};
 
 const PIN: Point = Point { x: 0, y: 0 };
 
@@ -18,100 +15,6 @@ const PORT: Point = Point { x: 14, y: 0 };
 
 /// A short line that doubles back.
 const BACK: [Point; 3] = [PIN, Point { x: 2, y: 0 }, Point { x: 1, y: 0 }];
-
-/// The costs of a line straight on, of one that turns, of one that doubles back, and of no line.
-fn costs() -> (u64, u64, u64, u64) {
-    let straight = [
-        Point { x: 0, y: 0 },
-        Point { x: 100, y: 0 },
-        Point { x: 100, y: 0 },
-        Point { x: 150, y: 0 },
-    ];
-    let turned = [
-        Point { x: 0, y: 0 },
-        Point { x: 100, y: 0 },
-        Point { x: 100, y: 0 },
-        Point { x: 100, y: 30 },
-    ];
-    let doubled_back = [
-        Point { x: 0, y: 0 },
-        Point { x: 100, y: 0 },
-        Point { x: 40, y: 0 },
-    ];
-    (
-        cost_of(&straight, 50),
-        cost_of(&turned, 50),
-        cost_of(&doubled_back, 50),
-        cost_of(&[], 50),
-    )
-}
-
-#[test]
-fn counts_steps_bends_and_runs(rt: HostRuntime) {
-    assert_eq!(rt; (costs(), run_count(&BACK)), ((150, 180, 260, 0), 2));
-}
-
-/// A line to the East and then to the South.
-const LINE: [Point; 3] = [
-    Point { x: 0, y: 0 },
-    Point { x: 100, y: 0 },
-    Point { x: 100, y: 30 },
-];
-
-/// Two checkpoints, and whether the line passes them in order.
-const IN_ORDER: [(&str, [Point; 2], bool); 5] = [
-    (
-        "ends",
-        [Point { x: 0, y: 0 }, Point { x: 100, y: 30 }],
-        true,
-    ),
-    (
-        "equal",
-        [Point { x: 40, y: 0 }, Point { x: 40, y: 0 }],
-        true,
-    ),
-    (
-        "wrong order",
-        [Point { x: 60, y: 0 }, Point { x: 40, y: 0 }],
-        false,
-    ),
-    (
-        "corner",
-        [Point { x: 100, y: 0 }, Point { x: 100, y: 10 }],
-        true,
-    ),
-    (
-        "off the line",
-        [Point { x: 40, y: 0 }, Point { x: 40, y: 1 }],
-        false,
-    ),
-];
-
-#[test]
-fn passes_in_order(rt: HostRuntime) {
-    for (case, via, passed) in &IN_ORDER {
-        assert_eq!(rt; passes(&LINE, via), *passed, "{case}");
-    }
-}
-
-/// The checkpoints that the line passes between three pairs of its points.
-fn passed() -> (usize, usize, usize) {
-    let via = [
-        Point { x: 40, y: 0 },
-        Point { x: 100, y: 0 },
-        Point { x: 100, y: 10 },
-    ];
-    (
-        passed_between(&LINE, 40, 110, &via),
-        passed_between(&LINE, 41, 110, &via),
-        passed_between(&LINE, 40, 109, &via),
-    )
-}
-
-#[test]
-fn passes_between_two_points(rt: HostRuntime) {
-    assert_eq!(rt; passed(), (3, 0, 2));
-}
 
 fn route(alloc: Global, end: u32, points: [Point; 3]) -> Result<Route, AllocError>
     ensures { IfOk result (λ r. r.points ≡ points) }
@@ -219,38 +122,4 @@ fn answer(alloc: Global) -> Result<Answer, AllocError> {
         edge: 1,
         route: Some(route),
     })
-}
-
-fn copied_answer(alloc: Global) -> Result<Answer, AllocError> {
-    let answer = answer(alloc)?;
-    answer.copy(alloc)
-}
-
-/// Whether it is the answer above.
-fn is_answer(answer: &Answer) -> bool {
-    match &answer.route {
-        Some(route) => route.cost == 14 && route.points.as_slice() == [PIN, PORT].as_slice(),
-        None => false,
-    }
-}
-
-#[test]
-fn copies_an_answer(rt: HostRuntime) -> Result<(), Fail> {
-    let answer = copied_answer(rt.alloc())?;
-    assert!(rt; is_answer(&answer));
-    Ok(())
-}
-
-fn written(alloc: Global) -> Result<WrittenRoute, AllocError> {
-    Ok(WrittenRoute {
-        edge: 1,
-        points: Points(Vec::from_slice(alloc, &[PIN, PORT])?),
-    })
-}
-
-#[test]
-fn writes_a_line(rt: HostRuntime) -> Result<(), Fail> {
-    let written = written(rt.alloc())?;
-    assert!(rt; written.points.as_slice().len() == 2);
-    Ok(())
 }

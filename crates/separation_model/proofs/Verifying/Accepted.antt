@@ -14,6 +14,9 @@ use Rattle.separation_model.specs.Checked.{HasLengths, HasMultipliers, IsMultipl
 multipliers_of_list : (ms : List ℤ) → All IsSmall ms → All (λ m. pos 0 ≤ℤ m) ms → All IsMultiplier ms
 multipliers_of_list ms small sign k d l = record { sign = sign k d l; small = omega (arith, ints, small k d l, sign k d l) }
 
+pub lengths_of : (b : Bundle) (s : Solution) → IsAccepted b s → HasLengths b s
+lengths_of b s a = record { dens = a.certified.meets.dens; places = a.certified.meets.places; mults = a.certified.mults; lows = a.certified.lows; highs = a.certified.highs }
+
 pub multipliers_of : (b : Bundle) (s : Solution) → IsAccepted b s → HasMultipliers s
 multipliers_of b s a = record {
   mults = multipliers_of_list s.mult.items a.small_mults a.certified.mult_sign;
@@ -28,6 +31,9 @@ limits_of b s a i l = record {
   small = a.small_places i (pos 0) (omega (arith, l, a.certified.meets.places));
   tight = a.certified.tight_limits i l;
 }
+
+pub rules_of : (b : Bundle) (s : Solution) → IsAccepted b s → EachIndex b.rules.items (KeepsRuleAt b s)
+rules_of b s a j l = record { met = a.certified.meets.rules j no_rule l; tight = a.certified.tight_rules j l }
 
 pub rest_of : (b : Bundle) (s : Solution) → IsAccepted b s → EachIndex b.items.items (IsAtRest b s)
 rest_of b s a i l = record { small = a.small_sums i l; balanced = a.certified.balanced i l }

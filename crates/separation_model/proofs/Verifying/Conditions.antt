@@ -154,12 +154,38 @@ rest_from b s i left right low high displacement rightward leftward left_is righ
   λ h. (omega (arith, ints, h.small, left_is, right_is, low_is, high_is, r_is, l_is), is ∙ h.balanced ∙ omega (arith, ints, left_is, right_is, low_is, high_is, r_is, l_is)),
 )
 
+-- each of two sums is at most what both may be
+pub part : (a b : ℤ) → pos 0 ≤ℤ b → (a +ℤ b) ≤ℤ pos (2 ^ 126) → a ≤ℤ pos (2 ^ 126)
+part a b h k = omega (arith, ints)
+
+pub other_part : (a b : ℤ) → pos 0 ≤ℤ a → (a +ℤ b) ≤ℤ pos (2 ^ 126) → b ≤ℤ pos (2 ^ 126)
+other_part a b h k = omega (arith, ints)
+
+-- the code's sum of a sum so far and a multiplier
+one_is : (a m : ℤ) → pos 0 ≤ℤ a → a ≤ℤ pos (2 ^ 126) → IsMultiplier m → to_z w128 (of_z w128 a) +ℤ to_z w128 (of_z w128 m) ≡ a +ℤ m
+one_is a m low high ok =
+    let fits : FitsSigned w128 a = omega (arith, ints) in
+    ap (λ v. v +ℤ to_z w128 (of_z w128 m)) (to_z-of_z w128 a fits) ∙ ap (λ v. a +ℤ v) (bits_back m ok)
+
+pub more_fits : (a m : ℤ) → pos 0 ≤ℤ a → a ≤ℤ pos (2 ^ 126) → IsMultiplier m → FitsSigned w128 (a +ℤ m)
+more_fits a m low high ok = omega (arith, ints, ok.sign, ok.small)
+
+pub one_fits : (a m : ℤ) → pos 0 ≤ℤ a → a ≤ℤ pos (2 ^ 126) → IsMultiplier m → FitsSigned w128 (to_z w128 (of_z w128 a) +ℤ to_z w128 (of_z w128 m))
+one_fits a m low high ok = subst (FitsSigned w128) (sym (one_is a m low high ok)) (more_fits a m low high ok)
+
+pub one_read : (a m : ℤ) → pos 0 ≤ℤ a → a ≤ℤ pos (2 ^ 126) → IsMultiplier m → to_z w128 (of_z w128 (to_z w128 (of_z w128 a) +ℤ to_z w128 (of_z w128 m))) ≡ a +ℤ m
+one_read a m low high ok = ap (λ v. to_z w128 (of_z w128 v)) (one_is a m low high ok) ∙ to_z-of_z w128 (a +ℤ m) (more_fits a m low high ok)
+
+-- such a sum is not negative
+pub more_low : (x a m : ℤ) → x ≡ a +ℤ m → pos 0 ≤ℤ a → IsMultiplier m → pos 0 ≤ℤ x
+more_low x a m e low ok = omega (arith, ints, ok.sign)
+
 -- the code's sums of what the rules and the limits push by
 pub both_sums : (left right from_left from_right low high : ℤ) → IsPush left right from_left from_right → IsMultiplier low → IsMultiplier high →
     (to_z w128 (of_z w128 (to_z w128 (of_z w128 from_left) +ℤ to_z w128 (of_z w128 low))) ≡ from_left +ℤ low)
     × (to_z w128 (of_z w128 (to_z w128 (of_z w128 from_right) +ℤ to_z w128 (of_z w128 high))) ≡ from_right +ℤ high)
 both_sums left right from_left from_right low high push l h =
-    (omega (arith, ints, l.sign, l.small, push.left_low, push.right_low, push.small), omega (arith, ints, h.sign, h.small, push.left_low, push.right_low, push.small))
+    (one_read from_left low push.left_low (part from_left from_right push.right_low push.small) l, one_read from_right high push.right_low (other_part from_left from_right push.left_low push.small) h)
 
 pub together_small : (rightward leftward left right low high : ℤ) → rightward ≡ left +ℤ low → leftward ≡ right +ℤ high → (left +ℤ right) ≤ℤ pos (2 ^ 126) → low ≤ℤ pos (2 ^ 100) → high ≤ℤ pos (2 ^ 100) →
     (rightward +ℤ leftward) ≤ℤ pos (2 ^ 126 + 2 ^ 101)

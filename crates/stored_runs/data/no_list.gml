@@ -1,0 +1,1 @@
+graph 1 # no list

@@ -1,0 +1,1 @@
+graph [ node 1 node [ id 1.0 ] ]

@@ -1,0 +1,1 @@
+graph [ router [ buffer "4" ] ]

@@ -1,0 +1,5 @@
+graph [
+  node [ id 1 graphics [ x 0 y 0 w 20 h 20 ] ]
+  node [ id 2 graphics [ x 100 y 0 w 20 h 20 ] pin [ class 1 x -10 y 0 dirs "W" cost 5 ] pin [ class 1 x -5 y 0 dirs "W" ] ]
+  edge [ source 1 target 2 targetPin 1 ]
+]
