@@ -147,6 +147,16 @@ class Draws(unittest.TestCase):
         self.assertEqual(run('-', data=DOT).stdout, svg)
 
     @unittest.skipUnless(shutil.which('dot'), 'Graphviz is not installed')
+    def test_the_looks_of_dot_are_drawn(self):
+        svg = run('-', data=b'digraph { a [shape=box style="rounded,filled" fillcolor="#dbeafe"]; b [shape=cylinder]; '
+                            b'a -> b [color=red style=dashed dir=both] }').stdout.decode()
+        self.assertRegex(svg, r'<rect [^>]*rx="9" class="shape filled" style="fill: #dbeafe"')
+        self.assertRegex(svg, r'id="node-2".*<polygon [^>]*class="shape"')
+        self.assertRegex(svg, r'id="edge-1".*stroke-dasharray: 5 4')
+        self.assertIn('.k0, .box .k0 { stroke: #ff0000; }', svg)
+        self.assertEqual(len(re.findall('id="edge-1-(source|target)"', svg)), 2)
+
+    @unittest.skipUnless(shutil.which('dot'), 'Graphviz is not installed')
     def test_dot_that_is_none(self):
         done = run('-', data=b'digraph { a -> ')
         self.assertEqual((done.returncode, done.stdout), (2, b''))

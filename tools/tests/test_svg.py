@@ -208,8 +208,17 @@ class Labels(unittest.TestCase):
         self.assertEqual(((label[0] + label[2]) / 2, round((label[1] + label[3]) / 2)), (150, 0))
 
     def test_a_label_does_not_hide_a_short_line(self):
-        label = Picture(graph(box(1, 0, 0), box(2, 90, 0), edge(1, 2, (20, 0), (70, 0), more='label "quite long"'))).labels()
-        self.assertFalse(places.overlap(label['quite long'], places.around((20, 0), (70, 0))))
+        # (the line is as long as the label, which would meet no box and no head on it)
+        length = drawing.width_of('quite long') * 9 + 6
+        line = (20, 0), (20 + length, 0)
+        label = Picture(graph(box(1, 0, 0), box(2, 40 + length, 0), edge(
+            1, 2, *line, more='label "quite long"', looks_of='targetArrow "none"'))).labels()
+        self.assertFalse(places.overlap(label['quite long'], places.around(*line)))
+
+    def test_a_label_keeps_off_a_box_beside_its_line(self):
+        label = Picture(graph(box(1, 0, 0), box(2, 400, 0), box(3, 200, -23), edge(
+            1, 2, (20, 0), (380, 0), more='label "free"'))).labels()['free']
+        self.assert_apart(label, (180, -43, 220, -3))
 
     def test_the_picture_holds_all_labels(self):
         picture = Picture(graph(box(1, 0, 0, 10, 10), box(2, 0, 300, 10, 10),
