@@ -1,0 +1,202 @@
+"""Routes the diagrams of other tools, for reroute-dot and reroute-elk: boxes and edges in, the corners of lines out.
+
+    diagram = adapter.Diagram()
+    a, b = diagram.box(0, 0, 20, 20), diagram.box(100, 0, 20, 20)    # centre and size; y grows downwards
+    diagram.edge(a, b, [adapter.Pin(10, 0, 'E')])                    # one end at one of these pins, the other is free
+    routed = diagram.route()
+    routed.lines                                                     # [[(x, y), ..] or None, ..], in the order of the edges
+
+Free ends get their pins by `pins.py`. The rest are the shapes that both programs need: where a line meets the outline of a
+box, and where beside a line its label stands.
+"""
+import collections
+import math
+import os
+import shutil
+import sys
+
+import gml
+import pins
+
+VERSION = '0.1.0'
+MOST_BOXES, MOST_EDGES, MOST_PINS = 256, 512, 256
+FARTHEST = 1_000_000
+TOLERANCE = 0.05
+
+Pin = collections.namedtuple('Pin', 'x y sides')        # its offset from the centre of its box, and letters of E, S, W, N
+Box = collections.namedtuple('Box', 'x y w h is_group')
+Edge = collections.namedtuple('Edge', 'ends pins')
+Routed = collections.namedtuple('Routed', 'lines buffer without_pin')
+
+
+class TooLarge(Exception):
+    """The diagram has more boxes or edges than Reroute takes."""
+
+
+def live_program(name=None):
+    """The program reroute_live: the one named, that of the environment, one beside the running program, or on the path."""
+    beside = os.path.join(os.path.dirname(os.path.realpath(sys.argv[0])), 'reroute_live')
+    found = name or os.environ.get('REROUTE_LIVE') or (beside if os.access(beside, os.X_OK) else 'reroute_live')
+    if not shutil.which(found):
+        raise gml.Fault(f'{found} is no program that can be run; --live names one')
+    return found
+
+
+def milli(value):
+    return round(value * 1000)
+
+
+class Diagram:
+    """Boxes, which are numbered from 0, and edges between them."""
+
+    def __init__(self):
+        self.boxes, self.edges = [], []
+
+    def box(self, x, y, w, h, is_group=False):
+        """Adds a box, by its centre and size. Lines may pass through a group."""
+        if not all(math.isfinite(value) and abs(value) <= FARTHEST for value in (x, y, w, h)):
+            raise gml.Fault(f'a box lies beyond {FARTHEST:,} units')
+        half_w, half_h = milli(max(w, 0) / 2), milli(max(h, 0) / 2)
+        self.boxes.append(Box(milli(x), milli(y), 2 * half_w, 2 * half_h, is_group))
+        return len(self.boxes) - 1
+
+    def edge(self, tail, head, tail_pins=(), head_pins=()):
+        """Adds an edge. An end with pins leaves by the one by which its line is cheapest; one without is free."""
+        self.edges.append(Edge((tail, head), (tuple(tail_pins), tuple(head_pins))))
+
+    def spots(self, at, choices):
+        """Pins as Reroute reads them, on the box."""
+        half_w, half_h = self.boxes[at].w // 2, self.boxes[at].h // 2
+        return tuple((max(-half_w, min(half_w, milli(pin.x))), max(-half_h, min(half_h, milli(pin.y))), pin.sides)
+                     for pin in choices)
+
+    def fixed_pins(self):
+        """The pins of each class of each box, and the class of each end that is fixed.
+
+        Where there are more pins than may be, ends have no choice, and then those that come last are free.
+        """
+        fixed = [(place, k, at, self.spots(at, choices)) for place, edge in enumerate(self.edges)
+                 for k, (at, choices) in enumerate(zip(edge.ends, edge.pins)) if choices]
+        most = None if sum(len(spots) for *_, spots in fixed) <= MOST_PINS else 1
+        found, classes, left = collections.defaultdict(list), {}, MOST_PINS
+        for place, k, at, spots in fixed:
+            spots = spots[:most]
+            if spots not in found[at]:
+                if len(spots) > left:
+                    continue
+                found[at].append(spots)
+                left -= len(spots)
+            classes[place, k] = found[at].index(spots) + 1
+        return found, classes
+
+    def gml(self):
+        """The diagram as Reroute reads it."""
+        if len(self.boxes) > MOST_BOXES or len(self.edges) > MOST_EDGES:
+            raise TooLarge(f'{len(self.boxes)} boxes and {len(self.edges)} edges; '
+                           f'Reroute takes at most {MOST_BOXES} and {MOST_EDGES}')
+        found, classes = self.fixed_pins()
+        graph = []
+        for at, box in enumerate(self.boxes):
+            place = [(key, gml.units(value)) for key, value in zip('xywh', box)]
+            node = [('id', at + 1), ('isGroup', 1)] if box.is_group else [('id', at + 1)]
+            node.append(('graphics', place))
+            node += [('pin', [('class', kind), ('x', gml.units(x)), ('y', gml.units(y)), ('dirs', f'"{sides}"')])
+                     for kind, spots in enumerate(found[at], 1) for x, y, sides in spots]
+            graph.append(('node', node))
+        for place, edge in enumerate(self.edges):
+            ends = [('source', edge.ends[0] + 1), ('target', edge.ends[1] + 1)]
+            ends += [(key, classes[place, k]) for k, key in enumerate(('sourcePin', 'targetPin')) if (place, k) in classes]
+            graph.append(('edge', ends))
+        return gml.written([('graph', graph)]).encode('ascii')
+
+    def route(self, live=None, **options):
+        """The lines of the edges; options are those of `pins.choose`."""
+        if not self.edges:
+            return Routed([], None, 0)
+        choice = pins.choose(self.gml(), live=live_program(live), **options)
+        lines = [choice.lines.get(place) for place in range(1, len(self.edges) + 1)]
+        return Routed([line and [(x / 1000, y / 1000) for x, y in line] for line in lines], choice.buffer / 1000, choice.bare)
+
+
+# ---- lines ----
+
+def are_near(a, b):
+    return abs(a - b) < TOLERANCE
+
+
+def plain(line):
+    """The line without points that lie on the one before, or between their neighbours on one run."""
+    kept = []
+    for x, y in line:
+        if kept and are_near(kept[-1][0], x) and are_near(kept[-1][1], y):
+            continue
+        if len(kept) > 1 and any(are_near(kept[-2][i], kept[-1][i]) and are_near(kept[-1][i], (x, y)[i]) for i in (0, 1)):
+            kept.pop()
+        kept.append((x, y))
+    return kept
+
+
+def meetings(start, end, polygon):
+    """Where a run meets the sides of a polygon, as parts of its length."""
+    (x, y), (u, v) = start, end
+    for (a, b), (c, d) in zip(polygon, polygon[1:] + polygon[:1]):
+        across = (u - x) * (d - b) - (v - y) * (c - a)
+        if across:
+            part = ((a - x) * (d - b) - (b - y) * (c - a)) / across
+            along = ((a - x) * (v - y) - (b - y) * (u - x)) / across
+            if -1e-9 <= part <= 1 + 1e-9 and -1e-9 <= along <= 1 + 1e-9:
+                yield part
+
+
+def clipped(line, polygon):
+    """The line from where it last leaves the polygon; None where it does not meet it."""
+    for i in range(len(line) - 2, -1, -1):
+        (x, y), (u, v) = line[i:i + 2]
+        part = max(meetings(line[i], line[i + 1], polygon), default=None)
+        if part is not None:
+            return [(x + part * (u - x), y + part * (v - y)), *line[i + 1:]]
+    return None
+
+
+def rectangle(x, y, w, h):
+    """The corners of a box, by its centre and size."""
+    return [(x - w / 2, y - h / 2), (x + w / 2, y - h / 2), (x + w / 2, y + h / 2), (x - w / 2, y + h / 2)]
+
+
+# ---- labels ----
+
+class Labels:
+    """Places labels beside lines, each where it covers least of the boxes, lines and labels that are there."""
+
+    def __init__(self, boxes, lines):
+        """Boxes by their centre and size."""
+        self.taken = [(10, (x - w / 2, y - h / 2, x + w / 2, y + h / 2)) for x, y, w, h in boxes]
+        self.taken += [(3, (min(x, u), min(y, v), max(x, u), max(y, v)))
+                       for line in lines for (x, y), (u, v) in zip(line, line[1:])]
+
+    def cost(self, x, y, w, h):
+        left, low, right, high = x - w / 2, y - h / 2, x + w / 2, y + h / 2
+        return sum(cost for cost, (a, b, c, d) in self.taken if left <= c and right >= a and low <= d and high >= b)
+
+    def spots(self, line, w, h):
+        """Places beside the runs of the line, the longest run first."""
+        for (x, y), (u, v) in sorted(zip(line, line[1:]), key=lambda run: -math.dist(*run)):
+            for part in (0.5, 0.3, 0.7, 0.15, 0.85):
+                at_x, at_y = x + (u - x) * part, y + (v - y) * part
+                if abs(y - v) < abs(x - u):
+                    yield from ((at_x, at_y + h / 2 + 2), (at_x, at_y - h / 2 - 2))
+                else:
+                    yield from ((at_x + w / 2 + 3, at_y), (at_x - w / 2 - 3, at_y))
+
+    def place(self, line, w, h):
+        """The centre of the label."""
+        best = None
+        for spot in self.spots(line, w, h):
+            cost = self.cost(*spot, w, h)
+            if best is None or cost < best[0]:
+                best = cost, spot
+            if not cost:
+                break
+        x, y = best[1]
+        self.taken.append((20, (x - w / 2, y - h / 2, x + w / 2, y + h / 2)))
+        return x, y
