@@ -182,21 +182,39 @@ class Labels:
         """Places beside the runs of the line, the longest run first."""
         for (x, y), (u, v) in sorted(zip(line, line[1:]), key=lambda run: -math.dist(*run)):
             for part in (0.5, 0.3, 0.7, 0.15, 0.85):
-                at_x, at_y = x + (u - x) * part, y + (v - y) * part
-                if abs(y - v) < abs(x - u):
-                    yield from ((at_x, at_y + h / 2 + 2), (at_x, at_y - h / 2 - 2))
-                else:
-                    yield from ((at_x + w / 2 + 3, at_y), (at_x - w / 2 - 3, at_y))
+                yield from self.beside(x + (u - x) * part, y + (v - y) * part, abs(y - v) < abs(x - u), w, h)
+
+    def end_spots(self, run, w, h):
+        """Places beside a run, the nearest to where it begins first."""
+        (x, y), (u, v) = run
+        length, room = math.dist(*run), (h if are_near(x, u) else w) / 2 + 2
+        for far in (room, room + 8, room + 16, room + 32):
+            part = min(far, length) / length
+            yield from self.beside(x + (u - x) * part, y + (v - y) * part, are_near(y, v), w, h)
+
+    def beside(self, x, y, is_flat, w, h):
+        """The places of a label on both sides of a run."""
+        if is_flat:
+            return (x, y + h / 2 + 2), (x, y - h / 2 - 2)
+        return (x + w / 2 + 4, y), (x - w / 2 - 4, y)
 
     def place(self, line, w, h):
-        """The centre of the label."""
-        best = None
-        for spot in self.spots(line, w, h):
+        """The centre of the label of a line."""
+        return self.best(self.spots(line, w, h), w, h)
+
+    def place_at_end(self, run, w, h):
+        """The centre of a label where a run begins."""
+        return self.best(self.end_spots(run, w, h), w, h)
+
+    def best(self, spots, w, h):
+        """The first of the places that cover least, which is taken from now on."""
+        found = None
+        for spot in spots:
             cost = self.cost(*spot, w, h)
-            if best is None or cost < best[0]:
-                best = cost, spot
+            if found is None or cost < found[0]:
+                found = cost, spot
             if not cost:
                 break
-        x, y = best[1]
+        x, y = found[1]
         self.taken.append((20, (x - w / 2, y - h / 2, x + w / 2, y + h / 2)))
         return x, y
