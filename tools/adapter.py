@@ -52,6 +52,11 @@ class Diagram:
     def __init__(self):
         self.boxes, self.edges = [], []
 
+    def copy(self):
+        found = Diagram()
+        found.boxes, found.edges = list(self.boxes), list(self.edges)
+        return found
+
     def box(self, x, y, w, h, is_group=False):
         """Adds a box, by its centre and size. Lines may pass through a group."""
         if not all(math.isfinite(value) and abs(value) <= FARTHEST for value in (x, y, w, h)):
