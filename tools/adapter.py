@@ -186,7 +186,7 @@ class Labels:
     def spots(self, line, w, h):
         """Places beside the runs of the line, the longest run first."""
         for (x, y), (u, v) in sorted(zip(line, line[1:]), key=lambda run: -math.dist(*run)):
-            for part in (0.5, 0.3, 0.7, 0.15, 0.85):
+            for part in (0.5, 0.4, 0.6, 0.3, 0.7, 0.2, 0.8, 0.1, 0.9):
                 yield from self.beside(x + (u - x) * part, y + (v - y) * part, abs(y - v) < abs(x - u), w, h)
 
     def end_spots(self, run, w, h):
