@@ -22,6 +22,7 @@ VERSION = '0.1.0'
 MOST_BOXES, MOST_EDGES, MOST_PINS = 256, 512, 256
 FARTHEST = 1_000_000
 TOLERANCE = 0.05
+BUFFERS = (12, 8, 4, 2, 1)
 
 Pin = collections.namedtuple('Pin', 'x y sides')        # its offset from the centre of its box, and letters of E, S, W, N
 Box = collections.namedtuple('Box', 'x y w h is_group')
@@ -114,13 +115,29 @@ class Diagram:
             graph.append(('edge', ends))
         return gml.written([('graph', graph)]).encode('ascii')
 
-    def route(self, live=None, **options):
-        """The lines of the edges; options are those of `pins.choose`."""
+    def shares_pins(self):
+        """Whether several ends are fixed to one pin. Their lines part where the buffer ends."""
+        found = [(at, spot) for edge in self.edges for at, choices in zip(edge.ends, edge.pins) for spot in self.spots(at, choices)]
+        return len(set(found)) < len(found)
+
+    def route(self, live=None, buffer=None, **options):
+        """The lines of the edges, in units; further options are those of `pins.choose`.
+
+        Without a buffer, the picture decides on it, but where pins are shared it is as large as fits: the picture would
+        have the shortest common runs.
+        """
         if not self.edges:
             return Routed([], None, 0)
-        choice = pins.choose(self.gml(), live=live_program(live), **options)
-        lines = [choice.lines.get(place) for place in range(1, len(self.edges) + 1)]
-        return Routed([line and [(x / 1000, y / 1000) for x, y in line] for line in lines], choice.buffer / 1000, choice.bare)
+        best, program = None, live_program(live)
+        for wanted in BUFFERS if buffer is None and self.shares_pins() else [buffer]:
+            choice = pins.choose(self.gml(), live=program, **({} if wanted is None else {'buffer': milli(wanted)}), **options)
+            lines = [choice.lines.get(place) for place in range(1, len(self.edges) + 1)]
+            lines = [line and [(x / 1000, y / 1000) for x, y in line] for line in lines]
+            if best is None or lines.count(None) < best.lines.count(None):
+                best = Routed(lines, choice.buffer / 1000, choice.bare)
+            if None not in lines:
+                break
+        return best
 
 
 # ---- lines ----

@@ -349,8 +349,9 @@ class InterfaceTest(DotTest):
         self.assertEqual(len(spots_of(graph_of(done.stdout)['edges'][0])[1]), 4)
 
     def test_an_arrow_head_fits_a_short_run(self):
-        graph = graph_of(self.routed('digraph { ranksep=0.05; node [shape=box]; a->b }'))
-        self.assertLess(float(graph['edges'][0].get('arrowsize', 1)), 1)
+        graph = graph_of(self.routed('digraph { ranksep=0.2; node [shape=box]; a:s->b:n; a:s->c:n [arrowsize=0.2] }'))
+        self.assertLess(float(graph['edges'][0]['arrowsize']), 0.9)
+        self.assertEqual(graph['edges'][1]['arrowsize'], '0.2')
 
     def test_faults(self):
         many = 'digraph { ' + ' '.join(f'n{k} -> n{k + 1};' for k in range(300)) + ' }'
