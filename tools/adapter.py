@@ -11,12 +11,10 @@ box, and where beside a line its label stands.
 """
 import collections
 import math
-import os
-import shutil
-import sys
 
 import gml
 import pins
+import session
 
 VERSION = '0.1.0'
 MOST_BOXES, MOST_EDGES, MOST_PINS = 256, 512, 256
@@ -32,15 +30,6 @@ Routed = collections.namedtuple('Routed', 'lines buffer without_pin')
 
 class TooLarge(Exception):
     """The diagram has more boxes or edges than Reroute takes."""
-
-
-def live_program(name=None):
-    """The program reroute_live: the one named, that of the environment, one beside the running program, or on the path."""
-    beside = os.path.join(os.path.dirname(os.path.realpath(sys.argv[0])), 'reroute_live')
-    found = name or os.environ.get('REROUTE_LIVE') or (beside if os.access(beside, os.X_OK) else 'reroute_live')
-    if not shutil.which(found):
-        raise gml.Fault(f'{found} is no program that can be run; --live names one')
-    return found
 
 
 def milli(value):
@@ -128,7 +117,7 @@ class Diagram:
         """
         if not self.edges:
             return Routed([], None, 0)
-        best, program = None, live_program(live)
+        best, program = None, session.live_program(live)
         for wanted in BUFFERS if buffer is None and self.shares_pins() else [buffer]:
             choice = pins.choose(self.gml(), live=program, **({} if wanted is None else {'buffer': milli(wanted)}), **options)
             lines = [choice.lines.get(place) for place in range(1, len(self.edges) + 1)]

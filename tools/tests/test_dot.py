@@ -359,7 +359,7 @@ class InterfaceTest(DotTest):
         self.fault([DOT, '/nowhere/at.all'], 2, "'/nowhere/at.all'")
         self.fault([DOT], 3, '301 boxes and 300 edges; Reroute takes at most 256 and 512', many)
         self.fault([sys.executable, DOT], 2, 'dot is not there; it comes with Graphviz', 'digraph { a->b }', env={**ENVIRONMENT, 'PATH': '/nowhere'})
-        self.fault([DOT, '--live', '/nowhere/live'], 2, '/nowhere/live is no program', 'digraph { a->b }')
+        self.fault([DOT, '--live', '/nowhere/live'], 2, '/nowhere/live cannot be run', 'digraph { a->b }')
         self.fault([DOT, '-K', 'nothing'], 2, 'nothing', 'digraph { a->b }')
 
     def test_help_and_version(self):
