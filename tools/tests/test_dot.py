@@ -288,13 +288,22 @@ class InterfaceTest(DotTest):
     """What goes in, and which faults are named."""
 
     def test_places_are_kept(self):
-        placed = run(['neato', '-Goverlap=false', '-Tdot'], 'graph { a--b--c--d--a; a--c }').stdout
-        again = graph_of(self.routed(placed))
-        self.assertEqual([one['pos'] for one in graph_of(placed)['objects']], [one['pos'] for one in again['objects']])
-        for edge in again['edges']:
-            corners_of(spots_of(edge)[1])
-        anew = graph_of(self.routed(placed, '-K', 'dot'))
-        self.assertNotEqual([one['pos'] for one in graph_of(placed)['objects']], [one['pos'] for one in anew['objects']])
+        for wish in ('', 'layout=fdp; '):
+            placed = run(['neato', '-Goverlap=false', '-Tdot'], f'graph {{ {wish}a--b--c--d--a; a--c }}').stdout
+            places = re.findall(rb'pos="([\d.]+,[\d.]+)"', placed)
+            again = graph_of(self.routed(placed))
+            self.assertEqual([one['pos'] for one in again['objects']], [place.decode() for place in places])
+            for edge in again['edges']:
+                corners_of(spots_of(edge)[1])
+        anew = graph_of(self.routed(run(['neato', '-Tdot'], 'graph { a--b--c--a }').stdout, '-K', 'dot'))
+        self.assertEqual(len({one['pos'].split(',')[1] for one in anew['objects']}), 3)
+
+    def test_labels_beside_ends_and_outside(self):
+        graph = graph_of(self.routed('digraph { ranksep=1; a -> b [headlabel=many, taillabel=one, xlabel=of] }'))
+        line = line_of(graph['edges'][0])
+        for key, spot in (('head_lp', line[-1]), ('tail_lp', line[0])):
+            self.assertLess(math.dist(spot, [float(v) for v in graph['edges'][0][key].split(',')]), 36)
+        self.assertLess(distance([float(v) for v in graph['edges'][0]['xlp'].split(',')], line), 24)
 
     def test_the_same_bytes_each_time(self):
         text = run(['dot', '-Tdot', f'{EXAMPLES}/layers.gv']).stdout
