@@ -272,6 +272,9 @@ class ExamplesTest(DotTest):
                     self.assertEqual(old, new)
                 places = [{one['name']: one['pos'] for one in some['objects'] if 'pos' in one} for some in (before, graph)]
                 self.assertEqual(*places)
+                loops = [[one['pos'] for one in some['edges'] if one['tail'] == one['head']] for some in (before, graph)]
+                self.assertEqual(*loops)
+                self.assertTrue(all(0 < float(one.get('arrowsize', 1)) <= 1 for one in graph['edges']))
 
     def test_labels_stand_beside_their_lines(self):
         for name, _, edges in self.each():
