@@ -322,6 +322,8 @@ class InterfaceTest(DotTest):
             with self.subTest(wish):
                 graph = graph_of(self.routed(f'digraph {{ {wish}; a->b [label=x]; a->b [label=y]; a->c; b->d; c->d }}'))
                 self.assertEqual([len(corners_of(spots_of(edge)[1])) > 1 for edge in graph['edges']], [True] * 5)
+        labelled = self.routed('digraph { a->b [label=x] }', '-Gsplines=ortho')
+        self.assertEqual(spots_of(graph_of(labelled)['edges'][0]), spots_of(graph_of(self.routed('digraph { a->b [label=x] }'))['edges'][0]))
         self.assertNotIn('pos', graph_of(self.routed('digraph { splines=none; a->b }'))['edges'][0])
 
     def test_several_graphs(self):
