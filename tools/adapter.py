@@ -16,7 +16,6 @@ import gml
 import pins
 import session
 
-VERSION = '0.1.0'
 MOST_BOXES, MOST_EDGES, MOST_PINS = 256, 512, 256
 FARTHEST = 1_000_000
 TOLERANCE = 0.05

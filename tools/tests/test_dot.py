@@ -272,6 +272,9 @@ class ExamplesTest(DotTest):
                     self.assertEqual(old, new)
                 places = [{one['name']: one['pos'] for one in some['objects'] if 'pos' in one} for some in (before, graph)]
                 self.assertEqual(*places)
+                loops = [[one['pos'] for one in some['edges'] if one['tail'] == one['head']] for some in (before, graph)]
+                self.assertEqual(*loops)
+                self.assertTrue(all(0 < float(one.get('arrowsize', 1)) <= 1 for one in graph['edges']))
 
     def test_labels_stand_beside_their_lines(self):
         for name, _, edges in self.each():
@@ -319,6 +322,8 @@ class InterfaceTest(DotTest):
             with self.subTest(wish):
                 graph = graph_of(self.routed(f'digraph {{ {wish}; a->b [label=x]; a->b [label=y]; a->c; b->d; c->d }}'))
                 self.assertEqual([len(corners_of(spots_of(edge)[1])) > 1 for edge in graph['edges']], [True] * 5)
+        labelled = self.routed('digraph { a->b [label=x] }', '-Gsplines=ortho')
+        self.assertEqual(spots_of(graph_of(labelled)['edges'][0]), spots_of(graph_of(self.routed('digraph { a->b [label=x] }'))['edges'][0]))
         self.assertNotIn('pos', graph_of(self.routed('digraph { splines=none; a->b }'))['edges'][0])
 
     def test_several_graphs(self):
