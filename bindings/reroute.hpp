@@ -1,34 +1,85 @@
-// reroute.hpp: the library for C as one C++11 class. Lengths are doubles in units, kept to thousandths.
+// reroute.hpp: the library for C as one class of C++11; from C++17 on `cost` answers a std::optional.
+// Lengths are doubles in units, kept to thousandths.
 #pragma once
 #include "reroute.h"
 #include <cmath>
 #include <cstddef>
 #include <cstdint>
+#include <map>
 #include <new>
 #include <stdexcept>
 #include <string>
+#include <type_traits>
+#include <utility>
 #include <vector>
+#if __cplusplus >= 201703L
+#include <optional>
+#endif
 
 namespace reroute {
 
 struct Point { double x, y; };
+inline bool operator==(const Point &a, const Point &b) { return a.x == b.x && a.y == b.y; }
+inline bool operator!=(const Point &a, const Point &b) { return !(a == b); }
+
+// The corners of a line, and those of connectors by their numbers.
+using Corners = std::vector<Point>;
+using Lines = std::map<uint32_t, Corners>;
+
+enum class Setting { penalty, buffer, nudge };
 
 // A call that was refused. No transaction is open after it, and nothing else changed.
 struct Refused : std::runtime_error {
     reroute_fault fault;
     std::size_t line; // of a script, from 1; otherwise 0
-    explicit Refused(reroute_fault f, std::size_t l = 0)
-        : std::runtime_error(std::string("reroute: ") + reroute_fault_name(f.code) + " " + std::to_string(f.value)), fault(f),
-          line(l) {}
+    explicit Refused(reroute_fault f, std::size_t l = 0) : std::runtime_error(text(f, l)), fault(f), line(l) {}
+    // Whether the refusal names something, which is then fault.value.
+    bool hasValue() const { return hasValue(fault.code); }
+
+private:
+    static bool hasValue(uint32_t code) {
+        switch (code) {
+        case REROUTE_SYNTAX: case REROUTE_NO_TRANSACTION: case REROUTE_ALREADY_OPEN: case REROUTE_NOTHING_TO_UNDO:
+        case REROUTE_NOTHING_TO_REDO: case REROUTE_NO_SESSION: case REROUTE_NO_GRAPH: case REROUTE_ROUTER_BAD_NUMBER:
+        case REROUTE_ROUTER_OUT_OF_RANGE: case REROUTE_TOO_MANY_NODES: case REROUTE_TOO_MANY_EDGES:
+        case REROUTE_TOO_MANY_PINS: case REROUTE_TOO_MANY_VIAS:
+            return false;
+        default:
+            return true;
+        }
+    }
+    static std::string text(reroute_fault f, std::size_t l) {
+        std::string said = l ? "reroute: line " + std::to_string(l) + ": " : std::string("reroute: ");
+        said += reroute_fault_name(f.code);
+        return hasValue(f.code) ? said + " " + std::to_string(f.value) : said;
+    }
 };
 
+// A scene of boxes and connectors, with the lines of the connectors. It can be moved; one that was moved from refuses all
+// calls. A length that is not finite, or whose thousandths do not fit 64 bits, is a std::invalid_argument before any call.
 class Session {
-    reroute_session session_;
-    static int64_t milli(double value) { return std::llround(value * 1000); }
+    mutable reroute_session session_; // (the calls that read take it as the others do)
+    Lines told_;
+
+    static int64_t milli(double value) {
+        if (!(std::isfinite(value) && std::fabs(value) <= 9e15)) throw std::invalid_argument("reroute: no length");
+        return std::llround(value * 1000);
+    }
+    static double units(int64_t value) { return static_cast<double>(value) / 1000; }
     static const uint8_t *bytes(const std::string &text) { return reinterpret_cast<const uint8_t *>(text.data()); }
-    static void done(reroute_fault fault) {
+    static void done(reroute_fault fault, std::size_t line = 0) {
         if (fault.code == REROUTE_MEMORY) throw std::bad_alloc();
-        if (fault.code != REROUTE_OK) throw Refused(fault);
+        if (fault.code != REROUTE_OK) throw Refused(fault, line);
+    }
+    static reroute_directions directions(const std::string &sides) {
+        if (sides.empty() || sides.find_first_not_of("ESWN") != std::string::npos)
+            throw std::invalid_argument("reroute: sides are letters of ESWN");
+        auto has = [&](char side) { return sides.find(side) != std::string::npos; };
+        return {has('E'), has('S'), has('W'), has('N')};
+    }
+    reroute_session *at() const {
+        if (!session_.held) throw Refused({REROUTE_NO_SESSION, 0});
+        return &session_;
     }
 
 public:
@@ -38,110 +89,172 @@ public:
     ~Session() { reroute_end(&session_); }
     Session(const Session &) = delete;
     Session &operator=(const Session &) = delete;
-
-    // Makes edits in one transaction; an exception drops all of them.
-    template <typename Edits> void transaction(Edits edits) {
-        done(reroute_begin(&session_));
-        try {
-            edits(*this);
-        } catch (...) {
-            reroute_abort(&session_);
-            throw;
-        }
-        done(reroute_commit(&session_));
+    Session(Session &&other) noexcept : session_(other.session_), told_(std::move(other.told_)) {
+        other.session_.held = nullptr;
     }
-    void undo() { done(reroute_undo(&session_)); }
-    void redo() { done(reroute_redo(&session_)); }
+    Session &operator=(Session &&other) noexcept {
+        std::swap(session_, other.session_);
+        told_.swap(other.told_);
+        return *this;
+    }
 
+    void begin() { done(reroute_begin(at())); }
+    void commit() { done(reroute_commit(at())); }
+    void abort() { done(reroute_abort(at())); }
+    void undo() { done(reroute_undo(at())); }
+    void redo() { done(reroute_redo(at())); }
+    // Makes edits(session) in one transaction, and answers what it returns; an exception drops all of them.
+    template <typename Edits> auto transaction(Edits edits) -> decltype(edits(std::declval<Session &>())) {
+        begin();
+        return Open(*this).made(edits, true);
+    }
+    // Makes edits(session) in a transaction that is dropped at the end, and answers what it returns. Ask for a preview in it.
+    template <typename Edits> auto trial(Edits edits) -> decltype(edits(std::declval<Session &>())) {
+        begin();
+        return Open(*this).made(edits, false);
+    }
+
+    // A box by its centre and its size; its id is yours.
     void addBox(int64_t id, double x, double y, double w, double h) {
-        done(reroute_add_box(&session_, id, milli(x), milli(y), milli(w), milli(h)));
+        done(reroute_add_box(at(), id, milli(x), milli(y), milli(w), milli(h)));
     }
-    void moveBox(int64_t id, double x, double y) { done(reroute_move_box(&session_, id, milli(x), milli(y))); }
-    void sizeBox(int64_t id, double w, double h) { done(reroute_size_box(&session_, id, milli(w), milli(h))); }
-    void dropBox(int64_t id) { done(reroute_drop_box(&session_, id)); }
-    void addPin(int64_t id, uint32_t pinClass, double dx, double dy, reroute_directions directions = {true, true, true, true}) {
-        done(reroute_add_pin(&session_, id, pinClass, milli(dx), milli(dy), directions));
+    void move(int64_t id, double x, double y) { done(reroute_move_box(at(), id, milli(x), milli(y))); }
+    void resize(int64_t id, double w, double h) { done(reroute_size_box(at(), id, milli(w), milli(h))); }
+    void drop(int64_t id) { done(reroute_drop_box(at(), id)); }
+    // A pin, from the centre of its box, which lines may leave to these sides.
+    void addPin(int64_t id, uint32_t pinClass, double dx, double dy, const std::string &sides = "ESWN") {
+        done(reroute_add_pin(at(), id, pinClass, milli(dx), milli(dy), directions(sides)));
     }
-    void dropPin(int64_t id, uint32_t place) { done(reroute_drop_pin(&session_, id, place)); }
-    // Connects two boxes, and returns the number of the connector.
-    uint32_t connect(int64_t from, int64_t to, uint32_t fromClass = 0, uint32_t toClass = 0) {
+    void dropPin(int64_t id, uint32_t place) { done(reroute_drop_pin(at(), id, place)); }
+    // Connects two boxes, and answers the number of the connector. Class 0 is the centre of a box.
+    uint32_t connect(int64_t start, int64_t end, uint32_t startClass = 0, uint32_t endClass = 0) {
         uint32_t number = 0;
-        done(reroute_connect(&session_, from, fromClass, to, toClass, &number));
+        done(reroute_connect(at(), start, startClass, end, endClass, &number));
         return number;
     }
-    void cut(uint32_t connector) { done(reroute_cut(&session_, connector)); }
-    void setClasses(uint32_t connector, uint32_t fromClass, uint32_t toClass) {
-        done(reroute_set_classes(&session_, connector, fromClass, toClass));
+    void setClasses(uint32_t connector, uint32_t startClass, uint32_t endClass) {
+        done(reroute_set_classes(at(), connector, startClass, endClass));
     }
+    void cut(uint32_t connector) { done(reroute_cut(at(), connector)); }
+    // A point that the line has to pass, before the checkpoint that has this place now, from 1.
     void addCheckpoint(uint32_t connector, uint32_t place, double x, double y) {
-        done(reroute_add_checkpoint(&session_, connector, place, milli(x), milli(y)));
+        done(reroute_add_checkpoint(at(), connector, place, milli(x), milli(y)));
     }
-    void dropCheckpoint(uint32_t connector, uint32_t place) { done(reroute_drop_checkpoint(&session_, connector, place)); }
-    void setPenalty(double value) { done(reroute_set_penalty(&session_, milli(value))); }
-    void setBuffer(double value) { done(reroute_set_buffer(&session_, milli(value))); }
-    void setNudge(double value) { done(reroute_set_nudge(&session_, milli(value))); }
+    void dropCheckpoint(uint32_t connector, uint32_t place) { done(reroute_drop_checkpoint(at(), connector, place)); }
+    void set(Setting setting, double value) {
+        done(setting == Setting::penalty ? reroute_set_penalty(at(), milli(value))
+             : setting == Setting::buffer ? reroute_set_buffer(at(), milli(value)) : reroute_set_nudge(at(), milli(value)));
+    }
 
-    // Calls changed(connector, points) for each line that is not among those of the last time.
-    template <typename Changed> void forChanged(Changed changed) {
-        std::size_t count = 0;
-        done(reroute_lines(&session_, &count));
-        reportChanged(count, changed);
+    // The lines of all connectors that have one.
+    Lines lines() { return told_ = read(reroute_lines); }
+    // The lines that differ from those that lines() or changes() told last. A connector whose line is gone, since it was cut
+    // or has no legal route any more, has no corners.
+    Lines changes() {
+        Lines now = read(reroute_lines), found = differences(now);
+        told_.swap(now);
+        return found;
     }
-    // The same for the lines that these edits would give. They are dropped again, and nothing but the lines that were
-    // reported changes.
-    template <typename Edits, typename Changed> void preview(Edits edits, Changed changed) {
-        std::size_t count = 0;
-        done(reroute_begin(&session_));
-        try {
-            edits(*this);
-            done(reroute_preview(&session_, &count));
-        } catch (...) {
-            reroute_abort(&session_);
-            throw;
-        }
-        done(reroute_abort(&session_));
-        reportChanged(count, changed);
+    // The lines that a commit of the open transaction would give. Nothing changes.
+    Lines preview() { return read(reroute_preview); }
+    // What changes() would tell after that commit. What was told last stays.
+    Lines previewChanges() { return differences(preview()); }
+    // The lines that these edits would give, which are dropped again.
+    template <typename Edits> Lines previewLines(Edits edits) {
+        return trial([&](Session &session) {
+            edits(session);
+            return session.preview();
+        });
     }
-    // Whether the connector has a route, and what it costs.
-    bool cost(uint32_t connector, double &cost) {
-        uint64_t milli = 0;
-        if (!reroute_cost(&session_, connector, &milli)) return false;
-        cost = milli / 1000.0;
+
+    // Whether the connector has a route, and what it costs before nudging.
+    bool cost(uint32_t connector, double &cost) const {
+        uint64_t found = 0;
+        if (!reroute_cost(at(), connector, &found)) return false;
+        cost = static_cast<double>(found) / 1000;
         return true;
     }
-    uint64_t searched() { return reroute_searched(&session_); }
+#if __cplusplus >= 201703L
+    std::optional<double> cost(uint32_t connector) const {
+        double found = 0;
+        return cost(connector, found) ? std::optional<double>(found) : std::nullopt;
+    }
+#endif
+    // The number that the next connector gets.
+    uint32_t next() const { return reroute_next(at()); }
+    uint64_t searched() const { return reroute_searched(at()); }
+    std::size_t boxCount() const { return reroute_box_count(at()); }
+    std::size_t connectorCount() const { return reroute_connector_count(at()); }
+
     // The diagram in GML, with the present scene and its lines put in.
-    std::string gml() {
+    std::string gml() const {
         std::size_t length = 0;
         uint8_t none = 0;
-        done(reroute_write_gml(&session_, &none, 0, &length));
+        done(reroute_write_gml(at(), &none, 0, &length));
         std::string text(length, '\0');
-        if (length) done(reroute_write_gml(&session_, reinterpret_cast<uint8_t *>(&text[0]), length, &length));
+        if (length) done(reroute_write_gml(at(), reinterpret_cast<uint8_t *>(&text[0]), length, &length));
         return text;
     }
-    // Plays a script up to its first line that is refused; an exception says which that is.
+    // Plays a script up to its first line that is refused; the exception says which that is.
     void play(const std::string &script) {
         std::size_t line = 0;
-        reroute_fault fault = reroute_play(&session_, bytes(script), script.size(), &line);
-        if (fault.code != REROUTE_OK && fault.code != REROUTE_MEMORY) throw Refused(fault, line);
-        done(fault);
+        reroute_fault fault = reroute_play(at(), bytes(script), script.size(), &line);
+        done(fault, line);
     }
-    std::size_t boxCount() { return reroute_box_count(&session_); }
-    std::size_t connectorCount() { return reroute_connector_count(&session_); }
 
 private:
-    template <typename Changed> void reportChanged(std::size_t count, Changed changed) {
-        for (std::size_t place = 0; place < count; place++) {
-            reroute_line_info line = reroute_line(&session_, place);
-            if (line.changed) changed(line.connector, points(place, line.corners));
+    // An open transaction, which is dropped unless it is committed.
+    struct Open {
+        reroute_session *session;
+        Session &owner;
+        explicit Open(Session &of) : session(of.at()), owner(of) {}
+        ~Open() { if (session) reroute_abort(session); }
+        Open(const Open &) = delete;
+        Open &operator=(const Open &) = delete;
+
+        template <typename Edits> auto made(Edits &edits, bool isKept) -> decltype(edits(std::declval<Session &>())) {
+            return made(edits, isKept, std::is_void<decltype(edits(owner))>());
         }
+        template <typename Edits> void made(Edits &edits, bool isKept, std::true_type) {
+            edits(owner);
+            end(isKept);
+        }
+        template <typename Edits>
+        auto made(Edits &edits, bool isKept, std::false_type) -> decltype(edits(std::declval<Session &>())) {
+            decltype(edits(owner)) answer = edits(owner);
+            end(isKept);
+            return answer;
+        }
+        void end(bool isKept) {
+            if (!isKept) return;
+            session = nullptr;
+            owner.commit();
+        }
+    };
+
+    Lines read(reroute_fault (*call)(reroute_session *, std::size_t *)) {
+        Lines found;
+        std::size_t count = 0;
+        done(call(at(), &count));
+        for (std::size_t place = 0; place < count; place++) {
+            reroute_line_info line = reroute_line(at(), place);
+            Corners &corners = found[line.connector];
+            corners.reserve(line.corners);
+            reroute_point corner;
+            for (std::size_t n = 0; reroute_corner(at(), place, n, &corner); n++)
+                corners.push_back({units(corner.x), units(corner.y)});
+        }
+        return found;
     }
-    std::vector<Point> points(std::size_t place, std::size_t corners) {
-        std::vector<Point> points;
-        reroute_point corner;
-        for (std::size_t at = 0; at < corners && reroute_corner(&session_, place, at, &corner); at++)
-            points.push_back({corner.x / 1000.0, corner.y / 1000.0});
-        return points;
+    Lines differences(const Lines &now) const {
+        Lines found;
+        for (const auto &line : now) {
+            auto old = told_.find(line.first);
+            if (old == told_.end() || old->second != line.second) found.insert(line);
+        }
+        for (const auto &line : told_)
+            if (!now.count(line.first)) found[line.first];
+        return found;
     }
 };
 

@@ -1,41 +1,68 @@
-"""A diagram in GML is opened; it is shown what its line would be with a box elsewhere; then a script moves the box back and
-forth, and the diagram is written and opened again.
+"""A drag, on the screen's own copy of the lines: 50 previews, cancelled; the same again, released; one released over
+another box, which leaves connectors without a line; and both undone.
 
-python3 drag_a_box.py finds bindings/reroute.py beside the examples, or on PYTHONPATH.
+python3 drag_a_box.py [PROGRAM]: in this process, or over PROGRAM, which is reroute_live. It finds the package where it is
+installed, or beside the examples.
 """
 import os
 import sys
 
-sys.path.append(os.path.join(os.path.dirname(os.path.realpath(__file__)), '..', '..', 'bindings'))
+sys.path.append(os.path.join(os.path.dirname(os.path.realpath(__file__)), '..', '..', 'bindings', 'python'))
 import reroute  # noqa: E402
+import reroute.live  # noqa: E402
 
-DIAGRAM = b'''graph [
-  node [ id 1 graphics [ x 0 y 0 w 20 h 20 ] ]
-  node [ id 2 graphics [ x 100 y 0 w 20 h 20 ] ]
-  node [ id 3 graphics [ x 50 y 80 w 20 h 40 ] ]
-  edge [ source 1 target 2 ]
-]
-'''
-SCRIPT = b'''begin
-move 3 50 0
-commit
-undo
-'''
+STEPS = 50
 
 
-def print_lines(lines, title):
-    """Prints lines, in thousandths."""
+def show(lines, title):
     print(f'{title}:')
     for connector, corners in lines.items():
-        print(f'  connector {connector}:', *(f'({x * 1000:.0f}, {y * 1000:.0f})' for x, y in corners))
+        print(f'  connector {connector}:', *([f'({x:g}, {y:g})' for x, y in corners] or ['no line']))
 
 
-with reroute.Session(gml=DIAGRAM) as session:
-    print_lines(session.lines(), 'Box 3 out of the way')
-    with session.proposal():
-        session.move_box(3, 50, 0)
-        print_lines(session.preview(), 'Box 3 between the others')
-    session.play(SCRIPT)
-    written = session.gml()
-with reroute.Session(gml=written) as session:
-    print_lines(session.lines(), 'Box 3 back')
+def drag(session, screen, start, end):
+    """Shows box 3 at 50 places on its way: the lines at the last one, and how many places redrew something."""
+    shown, redrawn = screen, 0
+    for step in range(1, STEPS + 1):
+        with session.trial():
+            session.move(3, *(a + (b - a) * step / STEPS for a, b in zip(start, end)))
+            now = {**screen, **session.preview_changes()}
+        redrawn += now != shown
+        shown = now
+    return shown, redrawn
+
+
+def release(session, screen, end):
+    """Drops box 3, and draws what changed; a connector without a line has no corners."""
+    with session.transaction():
+        session.move(3, *end)
+    screen.update(session.changes())
+
+
+def main(session):
+    rest, between, over = (50, 80), (50, 0), (100, 0)
+    with session.transaction():
+        session.add_box(1, 0, 0, 20, 20)
+        session.add_box(2, 100, 0, 20, 20)
+        session.add_box(3, *rest, 20, 40)
+        session.connect(1, 2)
+        session.connect(2, 3)
+    screen = session.lines()
+    show(screen, 'Before')
+    held, redrawn = drag(session, screen, rest, between)
+    show(held, 'Held between the others')
+    show(screen, f'Cancelled after {STEPS} previews, of which {redrawn} redrew lines')
+    drag(session, screen, rest, between)
+    release(session, screen, between)
+    show(screen, 'Released between the others')
+    drag(session, screen, between, over)
+    release(session, screen, over)
+    show(screen, 'Released over box 2')
+    session.undo()
+    session.undo()
+    screen.update(session.changes())
+    show(screen, 'Undone twice')
+
+
+with reroute.live.Session(sys.argv[1]) if len(sys.argv) > 1 else reroute.Session() as session:
+    main(session)

@@ -6,11 +6,11 @@
 // Prints the lines that changed, in thousandths.
 static void print_changed(reroute::Session &session, const char *title) {
     std::printf("%s:\n", title);
-    session.forChanged([](uint32_t connector, const std::vector<reroute::Point> &corners) {
-        std::printf("  connector %u:", static_cast<unsigned>(connector));
-        for (const auto &corner : corners) std::printf(" (%.0f, %.0f)", corner.x * 1000, corner.y * 1000);
+    for (const auto &line : session.changes()) {
+        std::printf("  connector %u:", static_cast<unsigned>(line.first));
+        for (const auto &corner : line.second) std::printf(" (%.0f, %.0f)", corner.x * 1000, corner.y * 1000);
         std::printf("\n");
-    });
+    }
 }
 
 int main() {
@@ -22,7 +22,7 @@ int main() {
         s.connect(1, 2);
     });
     print_changed(session, "Box 3 out of the way");
-    session.transaction([](reroute::Session &s) { s.moveBox(3, 50, 0); });
+    session.transaction([](reroute::Session &s) { s.move(3, 50, 0); });
     print_changed(session, "Box 3 between the others");
     session.undo();
     print_changed(session, "Box 3 back");

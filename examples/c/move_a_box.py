@@ -1,11 +1,11 @@
 """Two boxes with a connector; a third box is moved between them, and the move is undone.
 
-python3 move_a_box.py finds bindings/reroute.py beside the examples, or on PYTHONPATH.
+python3 move_a_box.py finds the package where it is installed, or beside the examples.
 """
 import os
 import sys
 
-sys.path.append(os.path.join(os.path.dirname(os.path.realpath(__file__)), '..', '..', 'bindings'))
+sys.path.append(os.path.join(os.path.dirname(os.path.realpath(__file__)), '..', '..', 'bindings', 'python'))
 import reroute  # noqa: E402
 
 
@@ -24,7 +24,7 @@ with reroute.Session() as session:
         session.connect(1, 2)
     print_lines(session, 'Box 3 out of the way')
     with session.transaction():
-        session.move_box(3, 50, 0)
+        session.move(3, 50, 0)
     print_lines(session, 'Box 3 between the others')
     session.undo()
     print_lines(session, 'Box 3 back')

@@ -1,0 +1,61 @@
+/** Reroute from Node, over the program `reroute_live`. Lengths are in units, kept to thousandths. */
+export type Corner = readonly [x: number, y: number];
+export type Lines = Map<number, readonly Corner[]>;
+export type Id = number | bigint;
+
+/** A command that was refused. No transaction is open after it, and nothing else changed. */
+export class Refused extends Error {
+  /** As reroute.h numbers them: 4 for X4, 99 where no memory is left. */
+  readonly code: number;
+  /** As `UnknownNode`. */
+  readonly reason: string;
+  readonly value: number | bigint | null;
+}
+
+/** The program could not be started, or has ended. */
+export class Ended extends Error {}
+
+/** The lines that changed, those that are gone without corners; in `for await` also each later change. */
+export interface Changes extends Lines, AsyncIterable<Lines> {}
+
+/** A scene with its lines, beside a running program. */
+export class Session {
+  private constructor();
+  /** By default the program of this package, or else `reroute_live` of the path; `diagram` is the name of a file. */
+  static open(program?: string, options?: { diagram?: string | null; workers?: 1 | 2 | 3 | 4 }): Promise<Session>;
+  /** Ends the program, and answers its exit status, or null if it had none. */
+  close(): Promise<number | null>;
+
+  /** Edits that hold together: a refusal or an error among them drops all of them. Others wait for them. */
+  transaction<T>(edits: (session: this) => T | Promise<T>): Promise<T>;
+  /** Makes edits that are dropped again, and answers the lines that they would give. */
+  trial(edits: (session: this) => unknown): Promise<Lines>;
+  undo(): Promise<void>;
+  redo(): Promise<void>;
+
+  addBox(box: Id, x: number, y: number, w: number, h: number): Promise<void>;
+  move(box: Id, x: number, y: number): Promise<void>;
+  resize(box: Id, w: number, h: number): Promise<void>;
+  drop(box: Id): Promise<void>;
+  addPin(box: Id, pinClass: number, dx: number, dy: number, sides?: string): Promise<void>;
+  dropPin(box: Id, place: number): Promise<void>;
+  connect(start: Id, end: Id, startClass?: number, endClass?: number): Promise<number>;
+  setClasses(edge: number, startClass: number, endClass: number): Promise<void>;
+  cut(edge: number): Promise<void>;
+  addCheckpoint(edge: number, place: number, x: number, y: number): Promise<void>;
+  dropCheckpoint(edge: number, place: number): Promise<void>;
+  set(setting: 'penalty' | 'buffer' | 'nudge', value: number): Promise<void>;
+
+  lines(): Lines;
+  /** What differs from what `lines` or `changes` told last. */
+  changes(): Changes;
+  /** The lines that a commit of the open transaction would give. */
+  preview(): Promise<Lines>;
+  /** What `changes` would tell after that commit. */
+  previewChanges(): Promise<Lines>;
+
+  gmlBytes(): Promise<Uint8Array>;
+  gml(): Promise<string>;
+  /** Sends one line of the protocol; it does not wait for a transaction. */
+  say(command: string): Promise<(string | Uint8Array)[]>;
+}

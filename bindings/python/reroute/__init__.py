@@ -1,0 +1,44 @@
+"""Right-angled connectors for diagrams: the cheapest line of each round the other boxes, kept apart from the others.
+
+    >>> from reroute import Session
+    >>> with Session() as session:
+    ...     with session.transaction():
+    ...         session.add_box(1, 0, 0, 20, 20)
+    ...         session.add_box(2, 100, 0, 20, 20)
+    ...         connector = session.connect(1, 2)
+    ...     session.lines()[connector]
+    [(0.0, 0.0), (100.0, 0.0)]
+
+Lengths are in units of the diagram, kept to thousandths. `changes()` tells the lines that differ from those told last:
+
+    >>> session = Session('graph [ node [ id 1 graphics [ x 0 y 0 w 20 h 20 ] ] '
+    ...                   'node [ id 2 graphics [ x 100 y 0 w 20 h 20 ] ] edge [ source 1 target 2 ] ]')
+    >>> screen = session.lines()
+    >>> with session.trial():
+    ...     session.move(2, 100, 50)
+    ...     session.preview_changes()
+    {1: [(0.0, 0.0), (0.0, 50.0), (100.0, 50.0)]}
+    >>> with session.transaction():
+    ...     session.cut(1)
+    >>> session.changes()
+    {1: []}
+    >>> session.close()
+
+Where a call is refused, its transaction is dropped:
+
+    >>> with Session() as session, session.transaction():
+    ...     session.move(5, 0, 0)
+    Traceback (most recent call last):
+    reroute._faults.Refused: X4 UnknownNode 5
+
+For a graph of networkx `route_graph` gives all lines at once, and `python -m reroute IN.gml -o OUT.svg` draws a file.
+`reroute.live` has the same calls over the program `reroute_live`. The library is taken from the variable REROUTE_LIBRARY
+if it is set, else from beside this package, else from where the system finds libreroute.so.0.
+"""
+from ._faults import Code, Refused
+from ._graph import route_graph
+from ._screen import Corners, Lines
+from ._session import Route, Session
+
+__all__ = ['Code', 'Corners', 'Lines', 'Refused', 'Route', 'Session', 'route_graph']
+__version__ = '0.1.0'

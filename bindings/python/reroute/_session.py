@@ -1,0 +1,246 @@
+"""A session of the engine in this process."""
+import contextlib
+import ctypes
+import dataclasses
+import os
+import weakref
+from typing import Any, Iterator, List, Optional, Tuple, Union
+
+from ._faults import Refused, milli, whole
+from ._library import CALLS, Directions, Handle, I, Point, U, Z, default_path, loaded
+from ._screen import Corners, Lines, Point as Corner, Told
+
+__all__ = ['Route', 'Session']
+
+SIDES = 'ESWN'
+SETTINGS = ('penalty', 'buffer', 'nudge')
+NO_MEMORY = 99
+
+
+@dataclasses.dataclass(frozen=True)
+class Route:
+    """The line of a connector, and what its route costs."""
+    connector: int
+    corners: Tuple[Corner, ...]
+    cost: float
+
+
+def fitting(kind: Any, word: Any) -> Any:
+    """A parameter that the C type holds: ctypes would take a number modulo 2**64 or 2**32."""
+    return whole(word, 64) if kind is I else whole(word, 32) if kind is U else word
+
+
+def directions(sides: str) -> Directions:
+    if not sides or set(sides) - set(SIDES):
+        raise ValueError(f'sides are letters of {SIDES}, and not {sides!r}')
+    return Directions(*(side in sides for side in SIDES))
+
+
+def checked(fault: Any, line: int = 0) -> None:
+    if fault.code == NO_MEMORY:
+        raise MemoryError
+    if fault.code:
+        raise Refused(fault.code, fault.value, line)
+
+
+def closed(library: Any, handle: Handle, room: Any) -> None:
+    """Closes a session whose room is kept until then."""
+    library.reroute_close(handle)
+
+
+class Session(Told):
+    """A scene of boxes and connectors, with the lines of the connectors: the empty scene, or that of a diagram in GML.
+
+    Use it in a `with`, which closes it; one that is left open is closed when nothing refers to it any more. A session is
+    used by one thread at a time. `library` is the file of libreroute; without it, see `REROUTE_LIBRARY`.
+
+    A number that is no length, or that the engine's types do not hold, is a ValueError, OverflowError or TypeError before
+    any call. What the engine refuses is `Refused`.
+    """
+
+    def __init__(self, gml: Union[bytes, str, None] = None, *, library: Optional[str] = None) -> None:
+        super().__init__()
+        self._library = loaded(library or default_path())
+        # (words of 16 bytes, since the room is aligned to 16)
+        room = ctypes.create_string_buffer(self._library.reroute_size() + 16)
+        start = ctypes.addressof(room)
+        self._handle = Handle(start + -start % 16)
+        self._library.reroute_ready(self._handle.held)
+        if gml is None:
+            self._call('open')
+        else:
+            text = gml.encode() if isinstance(gml, str) else bytes(gml)
+            self._call('open_gml', text, len(text))
+        self._close = weakref.finalize(self, closed, self._library, self._handle, room)
+
+    @classmethod
+    def open(cls, path: Union[str, 'os.PathLike[str]'], *, library: Optional[str] = None) -> 'Session':
+        """A session on the diagram of a GML file."""
+        with open(path, 'rb') as file:
+            return cls(file.read(), library=library)
+
+    def __enter__(self) -> 'Session':
+        return self
+
+    def __exit__(self, *_: Any) -> None:
+        self.close()
+
+    def close(self) -> None:
+        """Gives the memory back; every later call is refused."""
+        self._close()
+
+    def _call(self, name: str, *words: Any) -> None:
+        kinds = CALLS[name][1:]
+        checked(getattr(self._library, f'reroute_{name}')(self._handle, *map(fitting, kinds, words)))
+
+    # ---- transactions ----
+
+    def begin(self) -> None:
+        self._call('begin')
+
+    def commit(self) -> None:
+        self._call('commit')
+
+    def abort(self) -> None:
+        self._call('abort')
+
+    @contextlib.contextmanager
+    def transaction(self) -> Iterator['Session']:
+        """Edits that hold together: any exception among them drops all of them."""
+        self.begin()
+        try:
+            yield self
+        except BaseException:
+            self._library.reroute_abort(self._handle)
+            raise
+        self.commit()
+
+    @contextlib.contextmanager
+    def trial(self) -> Iterator['Session']:
+        """Edits that are dropped at the end. Ask for their `preview` or `preview_changes` among them."""
+        self.begin()
+        try:
+            yield self
+        finally:
+            self._library.reroute_abort(self._handle)
+
+    def undo(self) -> None:
+        self._call('undo')
+
+    def redo(self) -> None:
+        self._call('redo')
+
+    # ---- edits of the open transaction ----
+
+    def add_box(self, box: int, x: float, y: float, w: float, h: float) -> None:
+        """A box by its centre and its size; its id is yours."""
+        self._call('add_box', box, milli(x), milli(y), milli(w), milli(h))
+
+    def move(self, box: int, x: float, y: float) -> None:
+        self._call('move_box', box, milli(x), milli(y))
+
+    def resize(self, box: int, w: float, h: float) -> None:
+        self._call('size_box', box, milli(w), milli(h))
+
+    def drop(self, box: int) -> None:
+        self._call('drop_box', box)
+
+    def add_pin(self, box: int, pin_class: int, dx: float, dy: float, sides: str = SIDES) -> None:
+        """A pin, from the centre of its box, which lines may leave to these sides."""
+        self._call('add_pin', box, pin_class, milli(dx), milli(dy), directions(sides))
+
+    def drop_pin(self, box: int, place: int) -> None:
+        self._call('drop_pin', box, place)
+
+    def connect(self, start: int, end: int, start_class: int = 0, end_class: int = 0) -> int:
+        """Connects two boxes, and answers the number of the connector. Class 0 is the centre of a box."""
+        number = U()
+        self._call('connect', start, start_class, end, end_class, number)
+        return number.value
+
+    def set_classes(self, connector: int, start_class: int, end_class: int) -> None:
+        self._call('set_classes', connector, start_class, end_class)
+
+    def cut(self, connector: int) -> None:
+        self._call('cut', connector)
+
+    def add_checkpoint(self, connector: int, place: int, x: float, y: float) -> None:
+        """A point that the line has to pass, before the checkpoint that has this place now, from 1."""
+        self._call('add_checkpoint', connector, place, milli(x), milli(y))
+
+    def drop_checkpoint(self, connector: int, place: int) -> None:
+        self._call('drop_checkpoint', connector, place)
+
+    def set(self, setting: str, value: float) -> None:
+        """Sets `penalty`, `buffer` or `nudge`."""
+        if setting not in SETTINGS:
+            raise ValueError(f'a setting is one of {", ".join(SETTINGS)}, and not {setting!r}')
+        self._call(f'set_{setting}', milli(value))
+
+    # ---- lines ----
+
+    def _lines(self) -> Lines:
+        return self._read('lines')
+
+    def preview(self) -> Lines:
+        """The lines that a commit of the open transaction would give. Nothing changes."""
+        return self._read('preview')
+
+    def _read(self, call: str) -> Lines:
+        count, found = Z(), {}
+        self._call(call, count)
+        for place in range(count.value):
+            line = self._library.reroute_line(self._handle, place)
+            found[line.connector] = self._corners(place, line.corners)
+        return found
+
+    def _corners(self, place: int, count: int) -> Corners:
+        corner, found = Point(), []
+        for at in range(count):
+            self._library.reroute_corner(self._handle, place, at, corner)
+            found.append((corner.x / 1000, corner.y / 1000))
+        return found
+
+    def cost(self, connector: int) -> Optional[float]:
+        """What the connector's route costs, before nudging, or None if it has none."""
+        cost = ctypes.c_uint64()
+        is_routed = self._library.reroute_cost(self._handle, whole(connector, 32), cost)
+        return cost.value / 1000 if is_routed else None
+
+    def routes(self) -> List[Route]:
+        """The connectors that have a line, in the order of their numbers, with what their routes cost."""
+        return [Route(connector, tuple(corners), self.cost(connector)) for connector, corners in self._lines().items()]
+
+    @property
+    def next(self) -> int:
+        """The number that the next connector gets."""
+        return self._library.reroute_next(self._handle)
+
+    @property
+    def searched(self) -> int:
+        """How many searches the session has made."""
+        return self._library.reroute_searched(self._handle)
+
+    @property
+    def box_count(self) -> int:
+        return self._library.reroute_box_count(self._handle)
+
+    @property
+    def connector_count(self) -> int:
+        return self._library.reroute_connector_count(self._handle)
+
+    # ---- texts ----
+
+    def gml(self) -> bytes:
+        """The diagram in GML, with the present scene and its lines put in."""
+        length = Z()
+        self._call('write_gml', ctypes.create_string_buffer(1), 0, length)
+        text = ctypes.create_string_buffer(length.value)
+        self._call('write_gml', text, length.value, length)
+        return text.raw
+
+    def play(self, script: Union[bytes, str]) -> None:
+        """Plays a script up to its first line that is refused; `line` of the exception is its number."""
+        text, line = script.encode() if isinstance(script, str) else bytes(script), Z()
+        fault = self._library.reroute_play(self._handle, text, len(text), line)
+        checked(fault, line.value)
