@@ -44,7 +44,7 @@ def checked(fault: Any, line: int = 0) -> None:
 
 
 def closed(library: Any, handle: Handle, room: Any) -> None:
-    """Closes a session whose room is kept until then."""
+    """Closes a session whose room is there until then; later calls read that it is closed, so the session keeps it too."""
     library.reroute_close(handle)
 
 
@@ -62,8 +62,8 @@ class Session(Told):
         super().__init__()
         self._library = loaded(library or default_path())
         # (words of 16 bytes, since the room is aligned to 16)
-        room = ctypes.create_string_buffer(self._library.reroute_size() + 16)
-        start = ctypes.addressof(room)
+        self._room = ctypes.create_string_buffer(self._library.reroute_size() + 16)
+        start = ctypes.addressof(self._room)
         self._handle = Handle(start + -start % 16)
         self._library.reroute_ready(self._handle.held)
         if gml is None:
@@ -71,7 +71,7 @@ class Session(Told):
         else:
             text = gml.encode() if isinstance(gml, str) else bytes(gml)
             self._call('open_gml', text, len(text))
-        self._close = weakref.finalize(self, closed, self._library, self._handle, room)
+        self._close = weakref.finalize(self, closed, self._library, self._handle, self._room)
 
     @classmethod
     def open(cls, path: Union[str, 'os.PathLike[str]'], *, library: Optional[str] = None) -> 'Session':
