@@ -18,6 +18,7 @@ import { spawn } from 'node:child_process';
 import { existsSync } from 'node:fs';
 import { resolve } from 'node:path';
 import { fileURLToPath } from 'node:url';
+import { inspect } from 'node:util';
 
 const BESIDE = fileURLToPath(new URL('./bin/reroute_live', import.meta.url));
 const MOST_BYTES = 4096;
@@ -52,13 +53,13 @@ const number = text => (Number.isSafeInteger(Number(text)) ? Number(text) : BigI
 // ---- the words of a command ----
 
 function unit(value) {
-  if (typeof value !== 'number') throw new TypeError(`${String(value)} is no number`);
+  if (typeof value !== 'number') throw new TypeError(`${inspect(value)} is no number`);
   if (!(Math.abs(value) <= FARTHEST)) throw new RangeError(`${value} is no length`);
   return value.toFixed(3);
 }
 
 function whole(value, bits) {
-  if (typeof value !== 'bigint' && !Number.isSafeInteger(value)) throw new TypeError(`${String(value)} is no whole number`);
+  if (typeof value !== 'bigint' && !Number.isSafeInteger(value)) throw new TypeError(`${inspect(value)} is no whole number`);
   const fits = bits === 64 ? BigInt.asIntN(64, BigInt(value)) : BigInt.asUintN(32, BigInt(value));
   if (fits !== BigInt(value)) throw new RangeError(`${value} does not fit ${bits} bits`);
   return String(value);
@@ -68,12 +69,12 @@ const id = value => whole(value, 64);
 const count = value => whole(value, 32);
 
 function letters(sides) {
-  if (!/^[ESWN]+$/.test(sides)) throw new TypeError(`sides are letters of ESWN, and not ${String(sides)}`);
+  if (!/^[ESWN]+$/.test(sides)) throw new TypeError(`sides are letters of ESWN, and not ${inspect(sides)}`);
   return sides;
 }
 
 function known(setting) {
-  if (!SETTINGS.includes(setting)) throw new TypeError(`a setting is one of ${SETTINGS.join(', ')}, and not ${String(setting)}`);
+  if (!SETTINGS.includes(setting)) throw new TypeError(`a setting is one of ${SETTINGS.join(', ')}, and not ${inspect(setting)}`);
   return setting;
 }
 
@@ -130,7 +131,7 @@ export class Session {
 
   /** Starts the program, on the diagram of a file if one is named. Without a program, the one of this package or of the path. */
   static async open(program = existsSync(BESIDE) ? BESIDE : 'reroute_live', { diagram = null, workers = 1 } = {}) {
-    if (![1, 2, 3, 4].includes(workers)) throw new RangeError(`there are 1 to 4 workers, and not ${String(workers)}`);
+    if (![1, 2, 3, 4].includes(workers)) throw new RangeError(`there are 1 to 4 workers, and not ${inspect(workers)}`);
     const session = new Session(program, ['--workers', String(workers), ...(diagram === null ? [] : [resolve(diagram)])]);
     await session.#refresh();
     return session;

@@ -69,11 +69,16 @@ class Session(Told):
         try:
             self._process = subprocess.Popen(words, stdin=subprocess.PIPE, stdout=subprocess.PIPE, stderr=self._errors)
         except OSError as fault:
+            self._errors.close()
             raise Ended(f'{program} cannot be started: {fault.strerror}') from None
         self._lock, self._is_open, self._is_closed = threading.RLock(), False, False
         self._known: Lines = {}
         self._next = 0
-        self._refresh()
+        try:
+            self._refresh()
+        except BaseException:
+            self.close()
+            raise
 
     def __enter__(self) -> 'Session':
         return self
