@@ -1,6 +1,7 @@
 """Routes the edges of a diagram in this process, and writes it, or draws it as SVG."""
 import argparse
 import os
+import shutil
 import subprocess
 import sys
 from typing import Optional
@@ -8,8 +9,8 @@ from typing import Optional
 from . import Refused, Session, __version__
 
 HERE = os.path.dirname(os.path.realpath(__file__))
-# Where the program that draws stands in an installed package, and in the repository.
-DRAWERS = (f'{HERE}/_tools/reroute-svg', f'{HERE}/../../../tools/reroute-svg')
+# Where the program that draws stands in an installed package, in the repository, and on the path.
+DRAWERS = (f'{HERE}/_tools/reroute-svg', f'{HERE}/../../../tools/reroute-svg', shutil.which('reroute-svg') or '')
 
 
 class Failed(Exception):
