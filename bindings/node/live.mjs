@@ -74,7 +74,7 @@ function letters(sides) {
 }
 
 function known(setting) {
-  if (!SETTINGS.includes(setting)) throw new TypeError(`a setting is one of ${SETTINGS.join(', ')}, and not ${inspect(setting)}`);
+  if (!SETTINGS.includes(setting)) throw new TypeError(`${inspect(setting)} is none of ${SETTINGS.join(', ')}`);
   return setting;
 }
 
@@ -129,7 +129,7 @@ export class Session {
   #within = new AsyncLocalStorage(); // the transaction that the code is in
   #next = 0;
 
-  /** Starts the program, on the diagram of a file if one is named. Without a program, the one of this package or of the path. */
+  /** Starts the program, the one of this package or of the path if none is named; on the diagram of a file if one is named. */
   static async open(program = existsSync(BESIDE) ? BESIDE : 'reroute_live', { diagram = null, workers = 1 } = {}) {
     if (![1, 2, 3, 4].includes(workers)) throw new RangeError(`there are 1 to 4 workers, and not ${inspect(workers)}`);
     const session = new Session(program, ['--workers', String(workers), ...(diagram === null ? [] : [resolve(diagram)])]);

@@ -22,7 +22,8 @@ static void print(const reroute::Lines &shown, const char *title) {
 
 // Shows box 3 at 50 places on its way, and answers how many of them redrew something. What is shown is what was told, with
 // the changes of a preview over it; so the screen is then that of the last place.
-static int drag(reroute::Session &session, const reroute::Lines &before, reroute::Lines &shown, reroute::Point from, reroute::Point to) {
+static int drag(reroute::Session &session, const reroute::Lines &before, reroute::Lines &shown, reroute::Point from,
+                reroute::Point to) {
     int redrawn = 0;
     for (int step = 1; step <= steps; step++) {
         const double part = static_cast<double>(step) / steps;

@@ -15,7 +15,8 @@ HEAD = r'''
 #include <cstdlib>
 #include <limits>
 #define EXPECT(what) do { if (!(what)) { std::printf("not so: %s\n", #what); std::exit(1); } } while (0)
-#define THROWS(kind, what) do { bool thrown = false; try { what; } catch (const kind &) { thrown = true; } EXPECT(thrown); } while (0)
+#define THROWS(kind, what) \
+    do { bool thrown = false; try { what; } catch (const kind &) { thrown = true; } EXPECT(thrown); } while (0)
 using reroute::Corners;
 using reroute::Lines;
 using reroute::Session;
@@ -168,13 +169,13 @@ target_link_libraries(static PRIVATE reroute::static)
 
     def configured(self, version):
         """Installs the library, and configures a project that asks for a version of it."""
-        install = [sys.executable, f'{TOP}/tools/build-library', '--built', '--install', f'{self.folder}/prefix', os.path.dirname(LIBRARY)]
-        subprocess.run(install, check=True, capture_output=True)
+        subprocess.run([sys.executable, f'{TOP}/tools/build-library', '--built', '--install', f'{self.folder}/prefix',
+                        os.path.dirname(LIBRARY)], check=True, capture_output=True)
         os.makedirs(f'{self.folder}/editor', exist_ok=True)
         with open(f'{self.folder}/editor/CMakeLists.txt', 'w') as file:
             file.write(self.PROJECT.format(version=version, examples=f'{TOP}/examples/c'))
-        return subprocess.run(['cmake', '-S', f'{self.folder}/editor', '-B', f'{self.folder}/build', f'-DCMAKE_PREFIX_PATH={self.folder}/prefix'],
-                              capture_output=True, text=True)
+        return subprocess.run(['cmake', '-S', f'{self.folder}/editor', '-B', f'{self.folder}/build',
+                               f'-DCMAKE_PREFIX_PATH={self.folder}/prefix'], capture_output=True, text=True)
 
     def setUp(self):
         super().setUp()

@@ -24,6 +24,7 @@ from reroute import Code, Refused, Session  # noqa: E402
 # A box between two others makes their line go round it, by the buffer of 4 and half its height.
 STRAIGHT, AROUND = [(0, 0), (100, 0)], [(0, 0), (0, -24), (100, -24), (100, 0)]
 SIDE = 2**64 / 1000
+STRAIGHT_FILE = f'{TOP}/examples/straight.gml'
 
 
 def run(*words, **more):
@@ -63,15 +64,16 @@ class NumbersTest(LibraryTest):
         self.assertEqual(session.gml(), before)
 
     def test_lengths_beyond_64_bits(self):
-        for call, words in (('move', (1, SIDE, 0)), ('move', (1, 0, -SIDE)), ('resize', (1, SIDE + 5, 20)), ('set', ('buffer', SIDE + 4)),
-                            ('add_box', (9, SIDE, 0, 20, 20)), ('add_pin', (1, 1, SIDE, 0)), ('add_checkpoint', (1, 1, 0, SIDE))):
+        for call, words in (('move', (1, SIDE, 0)), ('move', (1, 0, -SIDE)), ('resize', (1, SIDE + 5, 20)),
+                            ('set', ('buffer', SIDE + 4)), ('add_box', (9, SIDE, 0, 20, 20)), ('add_pin', (1, 1, SIDE, 0)),
+                            ('add_checkpoint', (1, 1, 0, SIDE))):
             with self.subTest(call, words=words):
                 self.assert_nothing_done(OverflowError, call, *words)
 
     def test_whole_numbers_beyond_their_bits(self):
-        for call, words in (('add_box', (2**64 + 7, 300, 0, 20, 20)), ('move', (2**64 + 1, 5, 5)), ('drop', (2**64 + 3,)), ('cut', (2**32 + 1,)),
-                            ('cut', (-1,)), ('add_pin', (1, 2**32 + 5, 0, 0)), ('set_classes', (2**32 + 1, 0, 0)), ('connect', (1, 3, 2**32)),
-                            ('connect', (2**64 + 1, 3))):
+        for call, words in (('add_box', (2**64 + 7, 300, 0, 20, 20)), ('move', (2**64 + 1, 5, 5)), ('drop', (2**64 + 3,)),
+                            ('cut', (2**32 + 1,)), ('cut', (-1,)), ('add_pin', (1, 2**32 + 5, 0, 0)),
+                            ('set_classes', (2**32 + 1, 0, 0)), ('connect', (1, 3, 2**32)), ('connect', (2**64 + 1, 3))):
             with self.subTest(call, words=words):
                 self.assert_nothing_done(OverflowError, call, *words)
         with self.assertRaises(OverflowError):
@@ -158,7 +160,8 @@ print(resource.getrusage(resource.RUSAGE_SELF).ru_maxrss - before)
             session.move(3, 0, 50)
             session.drop(1)
         refused = caught.exception
-        self.assertEqual((refused.code, refused.reason, refused.value, str(refused)), (Code.NODE_IN_USE, 'NodeInUse', 1, 'X7 NodeInUse 1'))
+        self.assertEqual((refused.code, refused.reason, refused.value), (Code.NODE_IN_USE, 'NodeInUse', 1))
+        self.assertEqual(str(refused), 'X7 NodeInUse 1')
         self.assertIsInstance(refused.code, Code)
         with self.assertRaisesRegex(Refused, r'^X2 NoTransaction$'):
             session.move(3, 0, 50)
@@ -262,18 +265,19 @@ class GraphTest(LibraryTest):
 class CommandTest(LibraryTest):
     def test_a_picture_and_a_diagram(self):
         with tempfile.TemporaryDirectory() as folder:
-            said = run('-m', 'reroute', f'{TOP}/examples/move_a_box.gml', '-s', f'{TOP}/examples/move_a_box.script', '-o', f'{folder}/out.svg')
+            diagram = f'{TOP}/examples/move_a_box'
+            said = run('-m', 'reroute', f'{diagram}.gml', '-s', f'{diagram}.script', '-o', f'{folder}/out.svg')
             self.assertEqual(said, ('', 0, ''))
             with open(f'{folder}/out.svg') as file:
                 self.assertTrue(file.read().startswith('<svg'))
-        text, status, _ = run('-m', 'reroute', f'{TOP}/examples/straight.gml')
+        text, status, _ = run('-m', 'reroute', STRAIGHT_FILE)
         self.assertEqual(status, 0)
         self.assertIn('Line', text)
 
     def test_faults_are_one_line(self):
         for words, wanted in (((f'{TOP}/nowhere.gml',), 'nowhere.gml'), ((f'{TOP}/README.md',), r'README\.md: Syntax at 19'),
-                              ((f'{TOP}/examples/straight.gml', '-s', f'{TOP}/examples/refused.script'), r'refused\.script: line \d+: X'),
-                              ((f'{TOP}/examples/straight.gml', '-o', '/nowhere/out.gml'), 'nowhere')):
+                              ((STRAIGHT_FILE, '-s', f'{TOP}/examples/refused.script'), r'refused\.script: line \d+: X'),
+                              ((STRAIGHT_FILE, '-o', '/nowhere/out.gml'), 'nowhere')):
             text, status, said = run('-m', 'reroute', *words)
             self.assertEqual((text, status, said.count('\n')), ('', 1, 1))
             self.assertRegex(said, wanted)

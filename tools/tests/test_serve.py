@@ -11,7 +11,7 @@ import unittest
 TOP = os.path.dirname(os.path.dirname(os.path.dirname(os.path.realpath(__file__))))
 LIVE = os.path.abspath(os.environ.get('REROUTE_LIVE') or f'{TOP}/out/reroute_live')
 SERVE = f'{TOP}/examples/page/serve.py'
-PATIENCE = 30
+PATIENCE = 120
 DRAWN = b'begin\nnode 901 9000 0 20 20\nnode 902 9100 0 20 20\nedge 901 902 0 0\ncommit'
 
 
@@ -19,7 +19,8 @@ class ServeTest(unittest.TestCase):
     def setUp(self):
         if not os.path.exists(LIVE):
             self.skipTest(f'{LIVE} is not there')
-        self.server = subprocess.Popen([sys.executable, SERVE, LIVE, '--port', '0'], stdout=subprocess.PIPE, stderr=subprocess.PIPE, text=True)
+        self.server = subprocess.Popen([sys.executable, SERVE, LIVE, '--port', '0'], stdout=subprocess.PIPE,
+                                       stderr=subprocess.PIPE, text=True)
         self.addCleanup(self.stop)
         self.port = int(re.search(r':(\d+)/', self.server.stdout.readline())[1])
 
@@ -101,12 +102,15 @@ class ServeTest(unittest.TestCase):
         key = self.page()
         with socket.create_connection(('127.0.0.1', self.port)) as connection:
             connection.setsockopt(socket.SOL_SOCKET, socket.SO_LINGER, b'\1\0\0\0\0\0\0\0')
-            connection.sendall(f'POST /say HTTP/1.1\r\nHost: 127.0.0.1:{self.port}\r\nX-Key: {key}\r\nContent-Length: 5\r\n\r\nlines'.encode())
+            connection.sendall(f'POST /say HTTP/1.1\r\nHost: 127.0.0.1:{self.port}\r\nX-Key: {key}\r\n'
+                               'Content-Length: 5\r\n\r\nlines'.encode())
         self.assertEqual(self.say(key, b'lines')[0], 200)
 
     def test_a_port_in_use_is_said_plainly(self):
-        done = subprocess.run([sys.executable, SERVE, LIVE, '--port', str(self.port)], capture_output=True, text=True, timeout=PATIENCE)
-        self.assertEqual((done.returncode, done.stdout, done.stderr), (1, '', f'serve.py: port {self.port} is in use; --port takes another\n'))
+        words = [sys.executable, SERVE, LIVE, '--port', str(self.port)]
+        done = subprocess.run(words, capture_output=True, text=True, timeout=PATIENCE)
+        wanted = f'serve.py: port {self.port} is in use; --port takes another\n'
+        self.assertEqual((done.returncode, done.stdout, done.stderr), (1, '', wanted))
 
     def test_arguments_that_are_none(self):
         for words, status in ((['--port', '99999'], 2), (['--port', 'x'], 2), (['/nowhere/reroute_live'], 1)):

@@ -59,7 +59,8 @@ def loaded(path: str) -> c.CDLL:
     except (OSError, AttributeError) as fault:
         raise ImportError(f'libreroute cannot be loaded: {fault}; REROUTE_LIBRARY may name it') from None
     if version >> 8 != CALLS_OF:
-        raise ImportError(f'{path} is version {version >> 16}.{version >> 8 & 255}.{version & 255} of libreroute, and not 0.1')
+        spelled = f'{version >> 16}.{version >> 8 & 255}.{version & 255}'
+        raise ImportError(f'{path} is version {spelled} of libreroute, and not 0.1')
     for name, (result, *words) in CALLS.items():
         call = getattr(library, f'reroute_{name}')
         call.restype, call.argtypes = result, [HANDLE, *words]
