@@ -98,8 +98,8 @@ class PackageTest(unittest.TestCase):
             self.skipTest('dpkg-deb is not installed')
         for name in self.files:
             if name.endswith('.deb'):
-                output(['dpkg-deb', '-x', f'{self.out}/{name}', f'{self.folder}/root'], self.folder)
-        return f'{self.folder}/root/usr'
+                output(['dpkg-deb', '-x', f'{self.out}/{name}', f'{self.folder}/installed'], self.folder)
+        return f'{self.folder}/installed/usr'
 
     def test_two_runs_make_the_same_bytes(self):
         staged(f'{self.folder}/another/prefix')
