@@ -268,6 +268,9 @@ export class Session {
     });
   }
 
+  /** The same, and answers what `changes` would tell after a commit of them. What was told last stays. */
+  async trialChanges(edits) { return new Map(differences(this.#told, await this.trial(edits))); }
+
   async #drop() {
     await this.say('abort').catch(error => {
       if (!(error instanceof Refused || error instanceof Ended)) throw error;

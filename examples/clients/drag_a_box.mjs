@@ -19,8 +19,7 @@ async function drag(session, screen, start, end) {
   let redrawn = 0;
   for (let step = 1; step <= STEPS; step++) {
     const [x, y] = start.map((from, at) => from + ((end[at] - from) * step) / STEPS);
-    const lines = await session.trial(() => session.move(3, x, y));
-    const now = new Map([...screen.keys()].map(connector => [connector, lines.get(connector) ?? []]));
+    const now = new Map([...screen, ...await session.trialChanges(() => session.move(3, x, y))]);
     redrawn += String([...now]) !== String([...shown]);
     shown = now;
   }

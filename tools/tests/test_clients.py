@@ -236,6 +236,7 @@ const heard = [];
 session.lines();
 const listening = (async () => { for await (const changes of session.changes()) heard.push(text(changes)); })();
 say(text(await session.trial(() => session.move(3, 50, 0))), text(session.changes()));
+say(text(await session.trialChanges(() => session.cut(1))), text(session.changes()));
 await session.transaction(async () => { session.move(3, 50, 0); say(text(await session.previewChanges())); });
 say(text(session.changes()), text(session.changes()));
 await session.transaction(() => session.cut(1));
@@ -244,7 +245,7 @@ await session.undo();
 await session.close();
 await listening;
 say(heard.length, heard.join(' '));
-''', r'-24.* \[\]$', '-24', r'^\[\[1,.*-24.* \[\]$', r'^\[\[1,\[\]\]\]$', r'^3 .*-24.* \[\[1,\[\]\]\] .*-24')
+''', r'-24.* \[\]$', r'^\[\[1,\[\]\]\] \[\]$', '-24', r'^\[\[1,.*-24.* \[\]$', r'^\[\[1,\[\]\]\]$', r'^3 .*-24.* \[\[1,\[\]\]\] .*-24')
 
     def test_programs_that_end_or_do_not_start(self):
         short = self.program(SHORT)

@@ -30,6 +30,8 @@ export class Session {
   transaction<T>(edits: (session: this) => T | Promise<T>): Promise<T>;
   /** Makes edits that are dropped again, and answers the lines that they would give. */
   trial(edits: (session: this) => unknown): Promise<Lines>;
+  /** The same, and answers what `changes` would tell after a commit of them. */
+  trialChanges(edits: (session: this) => unknown): Promise<Lines>;
   undo(): Promise<void>;
   redo(): Promise<void>;
 
