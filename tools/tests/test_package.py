@@ -15,7 +15,7 @@ TOP = os.path.dirname(os.path.dirname(os.path.dirname(os.path.realpath(__file__)
 REROUTE = os.path.abspath(os.environ.get('REROUTE') or f'{TOP}/out/reroute')
 LIVE = os.path.abspath(os.environ.get('REROUTE_LIVE') or f'{TOP}/out/reroute_live')
 LIBRARY = os.path.abspath(os.environ.get('REROUTE_LIBRARY') or f'{TOP}/out/library/libreroute.so.0')
-PATIENCE = 300
+PATIENCE = 900
 PROJECT = '''cmake_minimum_required(VERSION 3.16)
 project(editor CXX)
 find_package(reroute 0.1 REQUIRED CONFIG)
