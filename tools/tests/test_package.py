@@ -136,6 +136,7 @@ class PackageTest(unittest.TestCase):
         checked = output(['npx', '--offline', 'reroute', 'check', 'examples/straight.gml'], self.folder)
         self.assertEqual(checked, 'edge 1: cost 100.000\n')
         package = json.loads(self.files['npm/package.json'])
+        self.assertEqual((package['version'], package['bin']['reroute']), (VersionTest.VERSION, 'bin/reroute'))
         for target in package['exports'].values():
             for path in target.values() if isinstance(target, dict) else [target]:
                 self.assertIn(os.path.normpath(f'npm/{path}'), self.files)
@@ -207,6 +208,13 @@ class VersionTest(unittest.TestCase):
         if not os.path.exists(LIVE):
             self.skipTest(f'{LIVE} is not there')
         self.assertEqual(output([LIVE, '--version'], TOP), f'reroute_live {self.VERSION}\n')
+
+    def test_tools_that_tell_it(self):
+        for tool, name in {**module('install').TOOLS, 'package': 'package'}.items():
+            if "add_argument('--version'" in text_of(f'tools/{tool}'):
+                with self.subTest(tool):
+                    said = output([sys.executable, f'{TOP}/tools/{tool}', '--version'], TOP)
+                    self.assertEqual(said, f'{name} {self.VERSION}\n')
 
 
 if __name__ == '__main__':
