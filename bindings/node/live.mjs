@@ -86,7 +86,8 @@ function apply(reported, lines) {
     if (words[0] === 'no') lines.delete(Number(words[2]));
     else {
       const numbers = words.slice(2).map(Number);
-      lines.set(Number(words[1]), numbers.flatMap((x, at) => (at % 2 ? [] : [[x, numbers[at + 1]]])));
+      const corners = numbers.flatMap((x, at) => (at % 2 ? [] : [Object.freeze([x, numbers[at + 1]])]));
+      lines.set(Number(words[1]), Object.freeze(corners)); // (they are handed out, and compared later)
     }
   }
   return lines;

@@ -229,6 +229,16 @@ say(text(session.changes()));
 await session.close();
 ''', '^Refused X4 UnknownNode 77$', r'\[100,0\]', r'-24')
 
+    def test_lines_given_out_cannot_be_changed(self):
+        self.assert_says('''
+const session = await drawn();
+await tried(async () => session.lines().get(1).push([1, 1]));
+await tried(async () => { session.lines().get(1)[0][0] = 5; });
+session.lines().clear();
+say(session.lines().size, session.changes().size);
+await session.close();
+''', '^TypeError', '^TypeError', '^1 0$')
+
     def test_changes(self):
         self.assert_says('''
 const session = await drawn();
