@@ -1,0 +1,118 @@
+// The page's other back end: the names of reroute-worker.mjs that the page uses, over serve.py and the program reroute_live.
+import { Refused, SceneReader } from './reroute.mjs';
+
+const unit = value => {
+  if (!Number.isFinite(value)) throw new RangeError(`${value} is no length`);
+  return value.toFixed(3);
+};
+
+/** What the edits of a transaction are, as lines of a script. */
+class Edits {
+  lines = [];
+  #next;
+  constructor(next) { this.#next = next; }
+  addBox(id, x, y, w, h) { this.lines.push(`node ${id} ${unit(x)} ${unit(y)} ${unit(w)} ${unit(h)}`); }
+  move(id, x, y) { this.lines.push(`move ${id} ${unit(x)} ${unit(y)}`); }
+  resize(id, w, h) { this.lines.push(`size ${id} ${unit(w)} ${unit(h)}`); }
+  drop(id) { this.lines.push(`drop ${id}`); }
+  addPin(id, pinClass, dx, dy, sides = 'ESWN') { this.lines.push(`pin ${id} ${pinClass} ${unit(dx)} ${unit(dy)} ${sides}`); }
+  dropPin(id, place) { this.lines.push(`unpin ${id} ${place}`); }
+  connect(start, end, startClass = 0, endClass = 0) {
+    this.lines.push(`edge ${start} ${end} ${startClass} ${endClass}`);
+    return this.#next++;
+  }
+  cut(edge) { this.lines.push(`cut ${edge}`); }
+}
+
+/** The replies to some lines: what they report, and the bytes of a diagram among them. */
+function replies(bytes) {
+  const said = { lines: new Map(), gone: [], gml: null, next: null };
+  const text = Array.from(bytes, byte => String.fromCharCode(byte)).join('');
+  for (let at = 0; at < text.length;) {
+    const end = text.indexOf('\n', at), line = text.slice(at, end), [first, ...words] = line.split(' ');
+    at = end + 1;
+    if (first === 'line') {
+      const numbers = words.slice(1).map(Number);
+      said.lines.set(Number(words[0]), numbers.flatMap((x, place) => (place % 2 ? [] : [[x, numbers[place + 1]]])));
+    } else if (first === 'no') said.gone.push(Number(words[1]));
+    else if (first === 'next') said.next = Number(words[0]);
+    else if (first === 'gml') {
+      said.gml = bytes.slice(at, at + Number(words[0]));
+      at += Number(words[0]);
+    } else if (first === 'refused') {
+      const why = line.slice('refused '.length).replace(/^.*diagram: /, '');
+      throw Refused.fromText(why) ?? new Error(why);
+    }
+  }
+  return said;
+}
+
+export class Reroute {
+  static async load() { return new Reroute(); }
+}
+
+/** A session of the program. */
+export class Session {
+  #key;
+  #reader;
+  #next;
+  #changes = { lines: new Map(), gone: [] }; // what was reported and not yet asked for
+
+  constructor(key) { this.#key = key; }
+  static async fromGml(gml, { key }) {
+    const session = new Session(key);
+    session.#hear(await session.#say('/open', gml));
+    await session.#count();
+    session.#reader = new SceneReader(session.#next);
+    return session;
+  }
+  async close() {}
+
+  async #say(path, body) {
+    const reply = await fetch(path, { method: 'POST', headers: { 'X-Key': this.#key }, body });
+    const bytes = new Uint8Array(await reply.arrayBuffer());
+    if (!reply.ok) throw new Error(new TextDecoder().decode(bytes).trim() || `the server answered ${reply.status}`);
+    return replies(bytes);
+  }
+
+  #hear({ lines, gone }) {
+    for (const [edge, corners] of lines) this.#changes.lines.set(edge, corners);
+    for (const edge of gone) this.#changes.lines.delete(edge);
+    this.#changes.gone = [...new Set([...this.#changes.gone, ...gone])].filter(edge => !lines.has(edge));
+  }
+  async #count() { this.#next = (await this.#say('/say', 'next')).next; }
+
+  /** Sends lines, and tells the reader of them. */
+  async #play(lines) {
+    try {
+      this.#hear(await this.#say('/say', lines.join('\n')));
+    } catch (error) {
+      this.#reader.did('refused');
+      throw error;
+    }
+    for (const line of lines) this.#reader.did(...line.split(' '));
+    await this.#count();
+  }
+
+  async transaction(edits) {
+    const made = new Edits(this.#next), answer = await edits(made);
+    await this.#play(['begin', ...made.lines, 'commit']);
+    return answer;
+  }
+  async trialChanges(edits) {
+    const made = new Edits(this.#next);
+    await edits(made);
+    const { lines, gone } = await this.#say('/say', ['begin', ...made.lines, 'preview', 'abort'].join('\n'));
+    return { lines, gone };
+  }
+  undo() { return this.#play(['undo']); }
+  redo() { return this.#play(['redo']); }
+  async changes() {
+    const changes = this.#changes;
+    this.#changes = { lines: new Map(), gone: [] };
+    return changes;
+  }
+  async scene() { return this.#reader.scene(new TextDecoder().decode(await this.gmlBytes())); }
+  async gmlBytes() { return (await this.#say('/say', 'gml')).gml; }
+  get next() { return Promise.resolve(this.#next); }
+}
