@@ -83,6 +83,11 @@ function decoded(word) {
   });
 }
 
+/** The text of a diagram's bytes: UTF-8 or, as GML has it, Latin-1. */
+export function textOf(bytes) {
+  try { return new TextDecoder('utf-8', { fatal: true }).decode(bytes); } catch { return new TextDecoder('iso-8859-1').decode(bytes); }
+}
+
 /** The pairs of a text in GML: a key, its value, which is a list of pairs or a word, and where key and value begin and end. */
 export function pairsOf(text) {
   const all = [], above = [];
@@ -476,7 +481,7 @@ export class Session {
     }
   }
   /** The same as a string. */
-  gml() { return new TextDecoder().decode(this.gmlBytes()); }
+  gml() { return textOf(this.gmlBytes()); }
 
   /** Plays the lines of a script, up to the first that is refused; `line` of the error is its number. */
   play(script) {

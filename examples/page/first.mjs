@@ -2,7 +2,7 @@
 export const HINT = 13; // the box that it asks to drag
 export const FIRST = `graph [
   router [ buffer 12 nudge 8 ]
-  node [ id 14 label "Warehouse" isGroup 1 graphics [ x 420 y 265 w 330 h 265 ] ]
+  node [ id 14 label "Depot" isGroup 1 graphics [ x 420 y 265 w 330 h 265 ] ]
   node [ id 1 label "Shop" graphics [ x 60 y 60 w 96 h 46 ]
     pin [ class 1 x 48 y 0 dirs "E" ]
     pin [ class 2 x -16 y 23 dirs "S" ] ]

@@ -1,5 +1,7 @@
 // The page's other back end: the names of reroute-worker.mjs that the page uses, over serve.py and the program reroute_live.
-import { Refused, SceneReader } from './reroute.mjs';
+import { Refused, SceneReader, textOf } from './reroute.mjs';
+
+export { Refused };
 
 const unit = value => {
   if (!Number.isFinite(value)) throw new RangeError(`${value} is no length`);
@@ -112,7 +114,7 @@ export class Session {
     this.#changes = { lines: new Map(), gone: [] };
     return changes;
   }
-  async scene() { return this.#reader.scene(new TextDecoder().decode(await this.gmlBytes())); }
+  async scene() { return this.#reader.scene(textOf(await this.gmlBytes())); }
   async gmlBytes() { return (await this.#say('/say', 'gml')).gml; }
   get next() { return Promise.resolve(this.#next); }
 }

@@ -49,7 +49,7 @@ function act(what, doing) {
 /** Asks the engine, and says how long it took. */
 async function timed(doing) {
   const began = performance.now(), answer = await doing();
-  $('time').textContent = `answered in ${(performance.now() - began).toFixed(1)} ms`;
+  $('time').textContent = `${(performance.now() - began).toFixed(1)} ms`;
   return answer;
 }
 
@@ -133,7 +133,7 @@ function addBox() {
   return act(() => `${nameOf(chosen.box)} added; drag it, or pull a connector from its blue dot`, async () => {
     const id = Math.max(0, ...[...boxes.keys()].map(Number)) + 1, [x, y] = room();
     await commit(s => s.addBox(id, x, y, NEW.w, NEW.h), { newNames: new Map(names).set(id, `Box ${id}`) });
-    chosen = { box: id };
+    focus({ box: id });
     view.show(boxes.get(id));
   });
 }
@@ -165,7 +165,7 @@ function connect(from, to) {
   start = pull = null;
   if (from === to) return act('a connector has two boxes', () => {});
   return act(`connected ${nameOf(from)} to ${nameOf(to)}`, async () => {
-    chosen = { edge: await commit(await connecting(from, to)) };
+    focus({ edge: await commit(await connecting(from, to)) });
   });
 }
 
@@ -531,6 +531,13 @@ function release(isMade) {
     if (mine.box === hint) hint = null;
     act(() => `moved ${nameOf(mine.box)}`, () => commit(s => s.move(mine.box, ...at)));
   }
+}
+
+/** Chooses something that was made, for the keyboard too. */
+function focus(what) {
+  chosen = what;
+  draw();
+  sheet.querySelector(what.box === undefined ? `[data-edge="${what.edge}"]` : `[data-box="${what.box}"]`)?.focus({ preventScroll: true });
 }
 
 function choose(what) {

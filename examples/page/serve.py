@@ -15,6 +15,10 @@ import tempfile
 import threading
 
 HERE = os.path.dirname(os.path.realpath(__file__))
+BINDINGS = f'{os.path.dirname(os.path.dirname(HERE))}/bindings'
+# What the page consists of, by path.
+FILES = {'/': f'{HERE}/index.html', '/reroute.mjs': f'{BINDINGS}/reroute.mjs',
+         **{f'/{name}': f'{HERE}/{name}' for name in ('page.mjs', 'live.mjs', 'drawing.mjs', 'words.mjs', 'first.mjs')}}
 MOST_BYTES = 16_777_216
 
 
@@ -85,12 +89,15 @@ class Page(http.server.BaseHTTPRequestHandler):
         self.wfile.write(body)
 
     def do_GET(self):
-        if self.path != '/':
+        if self.path not in FILES:
             self.answer(404, 'text/plain', b'there is one page alone\n')
             return
-        with open(f'{HERE}/index.html', 'rb') as file:
-            page = file.read().replace(b'{{key}}', self.server.key.encode())
-        self.answer(200, 'text/html; charset=utf-8', page)
+        with open(FILES[self.path], 'rb') as file:
+            text = file.read()
+        if self.path == '/':
+            self.answer(200, 'text/html; charset=utf-8', text.replace(b'{{key}}', self.server.key.encode()))
+        else:
+            self.answer(200, 'text/javascript; charset=utf-8', text)
 
     def do_POST(self):
         # (the key keeps other pages that the browser has open from using the session)

@@ -1,13 +1,15 @@
 #!/usr/bin/env python3
-"""Tries the page in headless Chromium: try_page.py PROGRAM [--picture FILE.png]
+"""Tries the page in headless Chromium: try_page.py [FOLDER] [--live PROGRAM] [--pictures PICTURES]
 
-Drags a box, and looks at the lines that follow while the diagram of the program stays as it is. Releases the box, looks
-at the lines in the page, compares them with the diagram, undoes, and looks again.
-Then it moves a box by the keyboard, adds and removes one, and lays a box on the end of a connector, which leaves it
-without a route. Status 0 where all is as it should be, 1 where something is not, 2 where there is no Chromium.
+FOLDER is what tools/build-wasm has made, out/wasm where it is left out: its page is tried as a server of files gives it, and as
+the one file that opens from a disk. With --live it is tried over PROGRAM, which is reroute_live, behind serve.py too. Pictures of
+what was seen are put into PICTURES. Status 0 where all is as it should be, 1 where something is not, 2 for arguments that are not
+understood, 3 where there is no Chromium.
 """
 import argparse
 import base64
+import functools
+import http.server
 import json
 import os
 import re
@@ -15,9 +17,14 @@ import shutil
 import subprocess
 import sys
 import tempfile
+import threading
+import time
+import xml.etree.ElementTree
 
 HERE = os.path.dirname(os.path.realpath(__file__))
-PORT = 8643
+TOP = os.path.dirname(os.path.dirname(HERE))
+EXAMPLES = f'{TOP}/examples'
+READY = 'new Promise(done => { const look = () => document.body?.dataset.ready ? done() : setTimeout(look, 10); look(); })'
 
 
 class Browser:
@@ -39,25 +46,52 @@ class Browser:
             preexec_fn=lend, close_fds=False, stdout=subprocess.DEVNULL, stderr=subprocess.DEVNULL)
         self.number = 0
         self.rest = b''
-        self.session = None
-        target = self.call('Target.createTarget', url='about:blank')['targetId']
-        self.session = self.call('Target.attachToTarget', targetId=target, flatten=True)['sessionId']
+        self.dialogs = 0  # which were answered with yes
+        self.downloads = f'{folder}/downloads'
+        os.makedirs(self.downloads)
+        self.call(None, 'Browser.setDownloadBehavior', behavior='allow', downloadPath=self.downloads)
 
-    def call(self, method, **words):
+    def send(self, session, method, words):
         self.number += 1
-        message = {'id': self.number, 'method': method, 'params': words}
-        if self.session:
-            message['sessionId'] = self.session
+        message = {'id': self.number, 'method': method, 'params': words, **({'sessionId': session} if session else {})}
         os.write(self.to, json.dumps(message).encode() + b'\0')
+        return self.number
+
+    def call(self, session, method, **words):
+        number = self.send(session, method, words)
         while True:
             while b'\0' not in self.rest:
                 self.rest += os.read(self.of, 1 << 20)
             text, self.rest = self.rest.split(b'\0', 1)
             heard = json.loads(text)
-            if heard.get('id') == self.number:
+            if heard.get('method') == 'Page.javascriptDialogOpening':
+                self.dialogs += 1
+                self.send(heard['sessionId'], 'Page.handleJavaScriptDialog', {'accept': True})
+            if heard.get('id') == number:
                 if 'error' in heard:
                     raise RuntimeError(heard['error'])
                 return heard['result']
+
+    def tab(self, address):
+        target = self.call(None, 'Target.createTarget', url='about:blank')['targetId']
+        return Tab(self, self.call(None, 'Target.attachToTarget', targetId=target, flatten=True)['sessionId'], address)
+
+    def close(self):
+        self.process.terminate()
+        self.process.wait()
+
+
+class Tab:
+    """A tab with the page."""
+
+    def __init__(self, browser, session, address):
+        self.browser, self.session = browser, session
+        self.call('Page.enable')
+        self.call('Page.navigate', url=address)
+        self.value(READY)
+
+    def call(self, method, **words):
+        return self.browser.call(self.session, method, **words)
 
     def value(self, expression):
         done = self.call('Runtime.evaluate', expression=expression, awaitPromise=True, returnByValue=True)
@@ -65,125 +99,443 @@ class Browser:
             raise RuntimeError(done['exceptionDetails'])
         return done['result'].get('value')
 
-    def mouse(self, kind, x, y):
-        self.call('Input.dispatchMouseEvent', type=kind, x=x, y=y, button='left', buttons=0 if kind == 'mouseReleased' else 1, clickCount=1)
+    def reload(self):
+        self.value('window.isOld = true')
+        self.call('Page.reload')
+        for _ in range(250):
+            try:
+                if self.value('!window.isOld && document.body?.dataset.ready === "yes"'):
+                    break
+            except RuntimeError:
+                pass  # (the old document is gone, and the new one is not there)
+            time.sleep(0.02)
+        self.idle()
+
+    def idle(self):
+        return self.value('reroute.isIdle()')
+
+    def mouse(self, kind, x, y, clicks=1):
+        self.call('Input.dispatchMouseEvent', type=kind, x=x, y=y, button='left', buttons=0 if kind == 'mouseReleased' else 1,
+                  clickCount=clicks)
+
+    def click(self, x, y, clicks=1):
+        for at in range(1, clicks + 1):
+            self.mouse('mousePressed', x, y, at)
+            self.mouse('mouseReleased', x, y, at)
+        self.idle()
+
+    def wheel(self, x, y, by, control=False):
+        self.call('Input.dispatchMouseEvent', type='mouseWheel', x=x, y=y, deltaX=0, deltaY=by, modifiers=2 if control else 0)
+
+    def touch(self, kind, *points):
+        self.call('Input.dispatchTouchEvent', type=kind, touchPoints=[{'x': x, 'y': y, 'id': at} for at, (x, y) in enumerate(points)])
 
     def key(self, key, control=False):
         for kind in ('keyDown', 'keyUp'):
             self.call('Input.dispatchKeyEvent', type=kind, key=key, modifiers=2 if control else 0)
-        self.value('reroute.isIdle()')
+        self.idle()
 
-    def picture(self, name):
-        with open(name, 'wb') as file:
-            file.write(base64.b64decode(self.call('Page.captureScreenshot', format='png')['data']))
+    def write(self, text):
+        self.call('Input.insertText', text=text)
 
+    def press(self, button):
+        self.value(f"document.getElementById('{button}').click()")
+        self.idle()
 
-def lines_of(browser):
-    return {edge: corners for edge, corners in browser.value('[...reroute.lines]')}
+    def open(self, path):
+        root = self.call('DOM.getDocument')['root']['nodeId']
+        node = self.call('DOM.querySelector', nodeId=root, selector='#open')['nodeId']
+        before = self.text('said')
+        self.call('DOM.setFileInputFiles', nodeId=node, files=[path])
+        for _ in range(200):
+            if self.text('said') != before:
+                break
+            time.sleep(0.02)
+        self.idle()
 
+    def saved(self, button, name):
+        """The bytes that a button saves."""
+        path = f'{self.browser.downloads}/{name}'
+        if os.path.exists(path):
+            os.remove(path)
+        self.press(button)
+        for _ in range(250):
+            if os.path.exists(path):
+                break
+            time.sleep(0.02)
+        with open(path, 'rb') as file:
+            return file.read()
 
-def shown_by(browser):
-    return {edge: corners for edge, corners in browser.value('[...reroute.shown().lines]')}
+    def text(self, element):
+        return self.value(f"document.getElementById('{element}').textContent")
+
+    def count(self, selector):
+        return self.value(f'document.querySelectorAll({json.dumps(selector)}).length')
+
+    def middle(self, selector):
+        return self.value(f'''(() => {{ const r = document.querySelector({json.dumps(selector)}).getBoundingClientRect();
+            return [r.x + r.width / 2, r.y + r.height / 2]; }})()''')
+
+    def box(self, number):
+        return self.middle(f'[data-box="{number}"] rect')
+
+    def lines(self):
+        """The lines that are reported."""
+        return {edge: corners for edge, corners in self.value('[...reroute.lines]')}
+
+    def shown(self):
+        return {edge: corners for edge, corners in self.value('[...reroute.shown().lines]')}
+
+    def program(self):
+        """The lines of the program's diagram, by the places of its edges."""
+        return lines_in(self.value('reroute.gml()'))
+
+    def drag(self, start, end, look=None):
+        """Drags from a place to another, and looks before it is released."""
+        (x, y), (u, v) = start, end
+        self.mouse('mousePressed', x, y)
+        for part in range(1, 11):
+            self.mouse('mouseMoved', x + (u - x) * part / 10, y + (v - y) * part / 10)
+            self.idle()
+        if look:
+            look()
+        self.mouse('mouseReleased', u, v)
+        self.idle()
+
+    def drag_box(self, number, dx, dy, look=None):
+        x, y = self.box(number)
+        self.drag((x, y), (x + dx, y + dy), look)
 
 
 def lines_in(gml):
-    """The lines of a diagram, by the numbers of its edges."""
-    edges = re.findall(r'  edge \[(.*?)\n  \]', gml, re.S)
+    """The lines of a diagram, by the places of its edges."""
+    edges = re.findall(r'^  edge \[(.*?)\n  \]', gml, re.S | re.M)
     points = [[[float(x), float(y)] for x, y in re.findall(r'x (\S+)\s+y (\S+)', edge)] for edge in edges]
     return {number: corners for number, corners in enumerate(points, 1) if corners}
 
 
-def drag(browser, box, dx, dy, look=None):
-    """Drags a box, and looks before it is released."""
-    x, y = browser.value(f'''(() => {{ const r = document.querySelector('[data-box="{box}"]').getBoundingClientRect();
-        return [r.x + r.width / 2, r.y + r.height / 2]; }})()''')
-    browser.mouse('mousePressed', x, y)
-    for part in range(1, 11):
-        browser.mouse('mouseMoved', x + dx * part / 10, y + dy * part / 10)
-        browser.value('reroute.isIdle()')
-    browser.value('reroute.isIdle()')
-    if look:
-        look()
-    browser.mouse('mouseReleased', x + dx, y + dy)
-    browser.value('reroute.isIdle()')
+class Trial:
+    """What is tried of one page, and what was not as it should be."""
 
+    def __init__(self, browser, address, pictures, name):
+        self.browser, self.address, self.pictures, self.name, self.faults = browser, address, pictures, name, []
+        self.tab = browser.tab(address)
 
-def tried(browser, picture):
-    """What is not as it should be."""
-    faults = []
-
-    def expect(what, is_so):
-        print(f'{"passed" if is_so else "FAILED"}: {what}')
+    def expect(self, what, is_so, seen=''):
+        print(f'{"passed" if is_so else "FAILED"}: {self.name}: {what}{"" if is_so else f" {seen}"}', flush=True)
         if not is_so:
-            faults.append(what)
+            self.faults.append(what)
 
-    browser.value('''new Promise(done => { const look = () => document.body?.dataset.ready ? done() : setTimeout(look, 20); look(); })''')
-    before = lines_of(browser)
-    expect('each connector has a line', len(before) == 16)
-    during = {}
+    def picture(self, what):
+        if self.pictures:
+            with open(f'{self.pictures}/{self.name}_{what}.png', 'wb') as file:
+                file.write(base64.b64decode(self.tab.call('Page.captureScreenshot', format='png')['data']))
 
-    def look():
-        during.update(shown_by(browser))
-        expect('while a box is dragged, lines follow', during != before)
-        expect("and the program's diagram stays", lines_in(browser.value('reroute.gml()')) == before)
+    def all(self, is_live):
+        for part in (self.beginning, self.dragging, self.keys, self.boxes, self.connecting, self.naming, self.viewing, self.touching,
+                     self.files, self.refusals, self.reload, self.tabs, self.looks):
+            part()
+        said = self.tab.text('back')
+        self.expect('it says what runs there', ('reroute_live' if is_live else 'not proved') in said, said)
 
-    drag(browser, 6, 140, 60, look)
-    after = lines_of(browser)
-    expect('a drag changes lines', after != before)
-    expect('to those that were shown before the box was released', after == during)
-    expect('changed lines are marked', browser.value("document.querySelectorAll('.line.changed').length > 0"))
-    if picture:
-        browser.picture(picture)
-    drawn = browser.value("[...document.querySelectorAll('polyline')].map(l => [Number(l.dataset.edge), l.getAttribute('points')])")
-    expect('the page draws the lines that were reported', bool(drawn) and all(
-        points == ' '.join(f'{x:.15g},{y:.15g}' for x, y in after[edge]) for edge, points in drawn))
-    expect("they are those of the program's diagram", lines_in(browser.value('reroute.gml()')) == after)
-    browser.value("document.getElementById('undo').click()")
-    browser.value('reroute.isIdle()')
-    expect('one undo takes the whole drag back', lines_of(browser) == before)
-    browser.key('y', control=True)
-    expect('a key redoes it', lines_of(browser) == after)
-    browser.key('z', control=True)
-    expect('a key undoes it', lines_of(browser) == before)
-    browser.value('''document.querySelector('[data-box="1"]').focus()''')
-    browser.key('ArrowDown')
-    expect('an arrow moves the box that is chosen', lines_of(browser) != before)
-    browser.key('z', control=True)
-    browser.key('n')
-    expect('a box is added', browser.value("document.querySelectorAll('.box').length") == 13)
-    browser.key('Delete')
-    expect('a box is removed', browser.value("document.querySelectorAll('.box').length") == 12)
-    x, y = browser.value('''(() => { const at = id => { const r = document.querySelector(`[data-box="${id}"]`).getBoundingClientRect(); return [r.x, r.y]; };
-        const [a, b] = [at(4), at(3)]; return [a[0] - b[0], a[1] - b[1]]; })()''')
-    drag(browser, 3, x, y)
-    expect('a connector without a route is dashed, and a note says why',
-           browser.value("document.querySelectorAll('.line.none').length > 0 && document.getElementById('note').textContent.includes('no legal route')"))
-    expect('the picture can be exported', browser.value('reroute.svg()').startswith('<svg'))
-    return faults
+    def beginning(self):
+        tab = self.tab
+        self.expect('each connector of the first diagram has a line', len(tab.lines()) == 16)
+        self.expect('with pins, heads and round corners', tab.count('.pin') == 32 and tab.count('.head') == 16 and tab.value(
+            "[...document.querySelectorAll('.line')].some(it => it.getAttribute('d').includes('Q'))"))
+        layers = tab.value("[...document.querySelectorAll('#sheet > g')].map(it => it.firstElementChild?.getAttribute('class') ?? '')")
+        opacity = tab.value("getComputedStyle(document.querySelector('.group rect')).fillOpacity")
+        self.expect('groups lie behind the lines and are not opaque', layers[0] == 'group' and layers[1].startswith('wire')
+                    and float(opacity) < 0.3, (layers, opacity))
+        self.picture('first')
+
+    def dragging(self):
+        tab, during = self.tab, {}
+        before = tab.lines()
+
+        def look():
+            during.update(tab.shown())
+            self.expect('while a box is dragged, lines follow', during != before)
+            self.expect("and the program's diagram stays", tab.program() == before)
+            self.picture('drag')
+
+        tab.drag_box(13, 40, -250, look)
+        after = tab.lines()
+        self.expect('a release gives the lines that were shown', after == during and after != before)
+        self.expect('changed lines are marked', tab.count('.wire.changed') > 0)
+        self.expect('no text is selected', tab.value('getSelection().toString()') == '')
+        self.expect("the lines are those of the program's diagram", tab.program() == after)
+        drawn = tab.value("[...document.querySelectorAll('.wire')].every(it => it.querySelector('.line').getAttribute('d').startsWith('M'))")
+        self.expect('every line is drawn', drawn)
+        tab.press('undo')
+        self.expect('one undo takes the whole drag back', tab.lines() == before)
+        tab.key('y', control=True)
+        self.expect('a key redoes it', tab.lines() == after)
+        tab.key('z', control=True)
+        self.expect('a key undoes it', tab.lines() == before)
+        x, y = tab.middle('.group text')
+        tab.drag((x, y), (x + 30, y + 40))
+        self.expect('a group is dragged by its name', abs(tab.middle('.group text')[1] - y - 40) < 1)
+        tab.press('undo')
+        x, y = tab.box(2)
+        tab.mouse('mousePressed', x, y)
+        tab.mouse('mouseMoved', x + 80, y + 90)
+        tab.idle()
+        tab.key('Escape')
+        tab.mouse('mouseReleased', x + 80, y + 90)
+        tab.idle()
+        self.expect('Escape gives a drag up', tab.shown() == before and tab.program() == before)
+
+    def keys(self):
+        tab = self.tab
+        before = tab.lines()
+        tab.value('''document.querySelector('[data-box="1"]').focus()''')
+        for _ in range(4):
+            tab.key('ArrowDown')
+        self.expect('arrows move the box that is chosen', tab.lines() != before)
+        tab.key('z', control=True)
+        self.expect('and four of them are one step', tab.lines() == before)
+        tab.key('Tab')
+        self.expect('Tab goes on to the next', tab.value("document.activeElement.dataset.box ?? document.activeElement.dataset.edge") is not None)
+
+    def overlapping(self):
+        """How many boxes stand on others."""
+        return self.tab.value('''(() => { const all = [...document.querySelectorAll('.box rect')].map(it => it.getBoundingClientRect());
+            return all.filter((a, i) => all.some((b, j) => i < j && a.left < b.right && b.left < a.right && a.top < b.bottom && b.top < a.bottom)).length; })()''')
+
+    def boxes(self):
+        tab = self.tab
+        before = tab.lines()
+        for _ in range(3):
+            tab.key('n')
+        self.expect('new boxes stand where there is room', tab.count('.box') == 16 and self.overlapping() == 0
+                    and len(tab.lines()) == 16 and tab.count('.none') == 0, (tab.count('.box'), self.overlapping()))
+        self.picture('added')
+        tab.key('Delete')
+        self.expect('a box is removed', tab.count('.box') == 15)
+        for _ in range(4):
+            tab.press('undo')
+        self.expect('all of that is undone', tab.count('.box') == 13 and tab.lines() == before)
+        (x, y), (u, v) = tab.box(4), tab.box(3)
+        tab.drag_box(3, x - u, y - v)
+        self.expect('a connector without a route is dashed, and a note says why', tab.count('.wire.none') > 0 and
+                    'stands too close to' in tab.text('note'), tab.text('note'))
+        self.picture('no_route')
+        tab.press('undo')
+        self.expect('it is back after an undo', tab.lines() == before and tab.text('note') == '')
+
+    def connecting(self):
+        tab = self.tab
+        before, pins = tab.lines(), tab.count('.pin')
+        tab.click(*tab.box(9))
+        tab.press('connect')
+        tab.click(*tab.box(12))
+        self.expect('a button and a click connect two boxes', len(tab.lines()) == 17 and tab.count('.pin') == pins + 2)
+        tab.key('Delete')
+        self.expect('its removal removes its pins', tab.lines() == before and tab.count('.pin') == pins)
+        tab.click(*tab.box(3))
+        shown = []
+        tab.drag(tab.middle('.handle'), tab.box(12), lambda: (shown.append(tab.shown()), self.picture('pull')))
+        self.expect('one is pulled from the handle to a box, and shown before the release', shown[0] == tab.lines() and len(shown[0]) == 17)
+        tab.press('undo')
+        tab.drag(tab.middle('.handle') if tab.count('.handle') else tab.box(13), (600, 600))
+        self.expect('a release over the paper connects nothing', len(tab.lines()) == 16)
+        tab.press('undo')
+        tab.press('undo')
+        tab.press('undo')
+
+    def naming(self):
+        tab = self.tab
+        tab.click(*tab.box(1), clicks=2)
+        self.expect('a double click asks for a name', tab.count('#name') == 1)
+        tab.write('Käufer & "Co" mit einem langen Namen')
+        tab.key('Enter')
+        lines = tab.count('[data-box="1"] tspan')
+        self.expect('the name is wrapped in the box', lines >= 2, lines)
+        self.expect('and saved in GML', 'label "K&#228;ufer &#38; &#34;Co&#34; mit einem langen Namen"' in tab.value('reroute.gml()'))
+        self.picture('named')
+        tab.press('undo')
+        self.expect('an undo gives the old name back', tab.value('''document.querySelector('[data-box="1"] title').textContent''') == 'Shop')
+
+    def scale(self):
+        return self.tab.value('reroute.view.scale')
+
+    def viewing(self):
+        tab = self.tab
+        first = self.scale()
+        tab.press('in')
+        self.expect('a button zooms', self.scale() > first)
+        x, y = tab.box(6)
+        tab.wheel(x, y, -120, control=True)
+        u, v = tab.box(6)
+        self.expect('the wheel zooms about the pointer', self.scale() > 1.3 * first and abs(u - x) + abs(v - y) < 3, (x, y, u, v))
+        tab.wheel(x, y, 60)
+        self.expect('and without Ctrl it pans', abs(tab.box(6)[1] - v + 60) < 1, (tab.box(6), v))
+        x, y = tab.box(6)
+        tab.drag((20, 400), (70, 380))
+        u, v = tab.box(6)
+        self.expect('the paper is dragged', abs(u - x - 50) < 1 and abs(v - y + 20) < 1, (x, y, u, v))
+        tab.press('fit')
+        self.expect('a button shows everything', abs(self.scale() - first) < 0.2 and self.inside())
+
+    def inside(self):
+        """Whether all boxes are in sight."""
+        return self.tab.value('''(() => { const s = document.getElementById('sheet').getBoundingClientRect();
+            return [...document.querySelectorAll('.box rect')].every(it => { const r = it.getBoundingClientRect();
+                return r.left >= s.left && r.right <= s.right && r.top >= s.top && r.bottom <= s.bottom; }); })()''')
+
+    def touching(self):
+        tab = self.tab
+        tab.call('Emulation.setTouchEmulationEnabled', enabled=True)
+        before, first = tab.lines(), self.scale()
+        x, y = tab.box(13)
+        tab.touch('touchStart', (x, y))
+        for part in range(1, 9):
+            tab.touch('touchMove', (x + 10 * part, y - 30 * part))
+            tab.idle()
+        tab.touch('touchEnd')
+        tab.idle()
+        self.expect('a finger drags a box', tab.lines() != before)
+        tab.press('undo')
+        tab.touch('touchStart', (500, 620), (600, 620))
+        for part in range(1, 6):
+            tab.touch('touchMove', (500 - 20 * part, 620), (600 + 20 * part, 620))
+        tab.touch('touchEnd')
+        self.expect('two fingers zoom', self.scale() > 1.5 * first and tab.lines() == before, (first, self.scale()))
+        tab.press('fit')
+        tab.call('Emulation.setTouchEmulationEnabled', enabled=False)
+
+    def files(self):
+        tab = self.tab
+        path = f'{self.browser.downloads}/labels.gml'
+        with open(path, 'wb') as file:
+            file.write(b'graph [\n  node [ id 1 label "&quot;Stripe&quot; &#228; &ouml; (T\xe4x)" graphics [ x 0 y 0 w 60 h 60 ] ]\n'
+                       b'  node [ id 2 label "Web front end (React)" graphics [ x 200 y 0 w 60 h 40 ] ]\n'
+                       b'  edge [ source 1 target 2 label "pays" ]\n]\n')
+        tab.open(path)
+        titles = tab.value("[...document.querySelectorAll('.box title')].map(it => it.textContent)")
+        self.expect('labels are decoded', titles[0] == '"Stripe" ä ö (Täx)', titles)
+        self.expect('and wrapped', tab.count('[data-box="2"] tspan') == 2)
+        self.expect('after a file is opened no line is marked', tab.count('.wire.changed') == 0)
+        self.expect('its bytes are kept', b'(T\xe4x)' in tab.saved('save', 'diagram.gml'))
+        self.picture('labels')
+        tab.open(f'{EXAMPLES}/editor.gml')
+        self.expect('a file is opened', tab.count('.box') == 2 and tab.count('.group') == 1, tab.text('said'))
+        saved = tab.saved('save', 'diagram.gml')
+        self.expect('and saved as the program writes it', saved == tab.value('reroute.gml()').encode('latin-1') and lines_in(saved.decode()) == tab.lines())
+        self.picture('opened')
+        picture = xml.etree.ElementTree.fromstring(tab.saved('export', 'diagram.svg'))
+        classes = [it.get('class') or '' for it in picture.iter()]
+        self.expect('the picture is saved as SVG', picture.get('viewBox') is not None and 'hit' not in classes and any('line' in one for one in classes))
+
+    def refusals(self):
+        tab = self.tab
+        before = tab.count('.box')
+        for text, wanted in (('graph [\n  node [ id 1\n    label "ab', 'line 3, column 14: the file ends'), ('<xml>', 'XML or JSON'), ('node [ ]', 'no list graph'),
+                             ('graph [\n  node [ id 1 graphics [ x 0 y 0 ] ]\n  node [ id 1 graphics [ x 9 y 0 ] ]\n]', 'line 3, column 3: node 2: an earlier node'),
+                             ('graph [ node [ id 1 graphics [ x 0 y 0 ] ]\nedge [ source 1 target 7 ] ]', 'line 2, column 1: edge 1: its source or its target')):
+            path = f'{self.browser.downloads}/bad.gml'
+            with open(path, 'w', encoding='utf-8') as file:
+                file.write(text)
+            tab.value("document.getElementById('said').textContent = ''")
+            tab.open(path)
+            self.expect(f'a refused file is told in words: {wanted}', wanted in tab.text('said'), tab.text('said'))
+        self.expect('and the page stays as it was', tab.count('.box') == before and tab.program() == tab.lines())
+
+    def reload(self):
+        tab = self.tab
+        tab.drag_box(1, 60, 40)
+        tab.click(*tab.box(1), clicks=2)
+        tab.write('kept')
+        tab.key('Enter')
+        time.sleep(0.4)
+        tab.idle()
+        before, dialogs, gml = tab.lines(), self.browser.dialogs, tab.value('reroute.gml()')
+        tab.reload()
+        self.expect('leaving the page with edits that are not saved asks', self.browser.dialogs == dialogs + 1, self.browser.dialogs - dialogs)
+        self.expect('after a reload the diagram is there, with its names', tab.lines() == before and tab.value('reroute.gml()') == gml)
+
+    def tabs(self):
+        mine = self.tab
+        before, other = mine.lines(), self.browser.tab(self.address)
+        self.expect('a second tab has a diagram of its own', len(other.lines()) == 16 and other.program() == other.lines())
+        other.drag_box(13, 40, -250)
+        self.expect('what is done there stays there', mine.lines() == before and mine.program() == before)
+        mine.drag_box(1, 0, 60)
+        self.expect('and the first one goes on', mine.program() == mine.lines() and other.program() == other.lines())
+        other.call('Page.close')
+
+    def looks(self):
+        """A phone's width, and a dark page."""
+        self.tab = self.browser.tab(self.address)
+        tab = self.tab
+        light = tab.value("getComputedStyle(document.querySelector('.box rect')).fill")
+        tab.call('Emulation.setEmulatedMedia', features=[{'name': 'prefers-color-scheme', 'value': 'dark'}])
+        self.expect('it has a dark look', tab.value("getComputedStyle(document.querySelector('.box rect')).fill") != light)
+        self.picture('dark')
+        tab.call('Emulation.setDeviceMetricsOverride', width=375, height=667, deviceScaleFactor=2, mobile=True)
+        tab.call('Emulation.setTouchEmulationEnabled', enabled=True)
+        tab.reload()
+        self.expect("on a phone nothing is wider than the screen", tab.value('document.documentElement.scrollWidth') == 375)
+        self.expect('all buttons are on it', tab.value('''[...document.querySelectorAll('button, label.button')].every(it => {
+            const r = it.getBoundingClientRect(); return r.left >= 0 && r.right <= 375 && r.top >= 0 && r.bottom <= 667 && r.width >= 34; })'''))
+        self.expect('and all boxes', self.inside())
+        self.picture('phone_dark')
+        tab.call('Emulation.setEmulatedMedia', features=[{'name': 'prefers-color-scheme', 'value': 'light'}])
+        self.picture('phone')
+
+
+def tried(command, address, given, name, is_live=False):
+    """What is not as it should be at an address."""
+    with tempfile.TemporaryDirectory(ignore_cleanup_errors=True) as folder:
+        browser = Browser(command, folder)
+        try:
+            trial = Trial(browser, address, given.pictures, name)
+            trial.all(is_live)
+            return trial.faults
+        finally:
+            browser.close()
+
+
+class Files(http.server.SimpleHTTPRequestHandler):
+    def log_message(self, *words):
+        pass
+
+
+def tried_module(command, given):
+    server = http.server.ThreadingHTTPServer(('127.0.0.1', 0), functools.partial(Files, directory=given.folder))
+    threading.Thread(target=server.serve_forever, daemon=True).start()
+    try:
+        return tried(command, f'http://127.0.0.1:{server.server_address[1]}/', given, 'served')
+    finally:
+        server.shutdown()
+
+
+def tried_live(command, given):
+    server = subprocess.Popen([sys.executable, f'{HERE}/serve.py', given.live, '--port', '0'], stdout=subprocess.PIPE)
+    try:
+        return tried(command, server.stdout.readline().decode().strip(), given, 'live', is_live=True)
+    finally:
+        server.terminate()
+        server.wait()
 
 
 def main():
     parser = argparse.ArgumentParser(description=__doc__, formatter_class=argparse.RawDescriptionHelpFormatter)
-    parser.add_argument('program', metavar='PROGRAM', type=os.path.abspath)
-    parser.add_argument('--picture', metavar='FILE.png')
+    parser.add_argument('folder', type=os.path.abspath, nargs='?', metavar='FOLDER', default=f'{TOP}/out/wasm')
+    parser.add_argument('--live', metavar='PROGRAM', type=os.path.abspath)
+    parser.add_argument('--pictures', metavar='PICTURES', type=os.path.abspath)
     given = parser.parse_args()
     command = shutil.which('chromium') or shutil.which('chromium-browser') or shutil.which('google-chrome')
     if not command:
         print('try_page.py: Chromium is not installed', file=sys.stderr)
+        return 3
+    if not os.path.exists(f'{given.folder}/reroute.html'):
+        print(f'try_page.py: there is no page in {given.folder}; tools/build-wasm makes it', file=sys.stderr)
         return 2
-    server = subprocess.Popen([sys.executable, f'{HERE}/serve.py', given.program, '--port', str(PORT)], stdout=subprocess.PIPE)
-    with tempfile.TemporaryDirectory(ignore_cleanup_errors=True) as folder:
-        browser = None
-        try:
-            address = server.stdout.readline().decode().strip()
-            browser = Browser(command, folder)
-            browser.call('Page.navigate', url=address)
-            faults = tried(browser, given.picture)
-        finally:
-            server.terminate()
-            if browser:
-                browser.process.terminate()
-                browser.process.wait()
+    faults = tried_module(command, given) + tried(command, f'file://{given.folder}/reroute.html', given, 'file')
+    if given.live:
+        faults += tried_live(command, given)
     return 1 if faults else 0
 
 

@@ -25,7 +25,7 @@ function listAt(text, key, nth) {
 
 /** What stands at a place where no GML can go on. */
 function seen(text, offset) {
-  if (offset >= text.length) return 'the file ends inside a list, or after a key';
+  if (offset >= text.length) return 'the file ends inside a list or a string, or after a key';
   return /^\s*<|^\s*\{/.test(text) ? 'this looks like XML or JSON, not GML' : `${JSON.stringify(text[offset])} can not stand here`;
 }
 
