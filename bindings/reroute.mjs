@@ -238,10 +238,11 @@ function release({ engine, room, handle }) {
 }
 const forgotten = new FinalizationRegistry(held => { try { release(held); } catch { /* the engine stopped */ } });
 
-/** What of `now` differs from `before`, by connector: lines, and the numbers of those that have none any more. */
+/** The lines of `now` that differ from those before, by connector; without corners for a connector that has none any more. */
 function differing(before, now) {
-  return { lines: new Map([...now].filter(([edge, corners]) => before.get(edge) !== corners)),
-    gone: [...before.keys()].filter(edge => !now.has(edge)) };
+  const changed = new Map([...now].filter(([edge, corners]) => before.get(edge) !== corners));
+  for (const edge of before.keys()) if (!now.has(edge)) changed.set(edge, []);
+  return changed;
 }
 
 /** A scene of boxes, pins and connectors, with the lines of the connectors. */
@@ -405,7 +406,8 @@ export class Session {
   /** The corners of each connector that has a line, by its number: these lines are reported. Those that stay are the same
       arrays; do not change them. */
   lines() { return new Map(this.#reported = this.#lines('lines')); }
-  /** The lines that are others than the reported ones, and the connectors that have none any more. Then they are reported. */
+  /** The lines that are others than the reported ones, without corners for a connector that has none any more. Then they are
+      reported. */
   changes() {
     const before = this.#reported;
     this.#reported = this.#lines('lines');

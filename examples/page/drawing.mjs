@@ -20,7 +20,7 @@ const rules = ({ ink, box, edge, chosen, fill, mark, group, wrong, lines }) => `
   .handle { fill: ${chosen}; stroke: ${box}; stroke-width: 2 }`;
 export const STYLE = `${rules({ ink: '#22303c', box: '#ffffff', edge: '#3c4a5a', chosen: '#1769d2', fill: '#e4effd', mark: '#ffe9a3', group: '#5b7083',
   wrong: '#c62828', lines: ['#0b6fa4', '#b3541e', '#3f7d3a', '#7a4fa3', '#a33a55', '#5d6470'] })}
-  @media (prefers-color-scheme: dark) {${rules({ ink: '#e4e9ee', box: '#222b34', edge: '#8fa1b3', chosen: '#6cb2ff', fill: '#1d3a5c', mark: '#5c4a12',
+  @media (prefers-color-scheme: dark) {${rules({ ink: '#e4e9ee', box: '#222b34', edge: '#8fa1b3', chosen: '#6cb2ff', fill: '#1d3a5c', mark: '#6e5a16',
     group: '#9fb3c6', wrong: '#ff7b72', lines: ['#5db4e6', '#e8955c', '#7cc276', '#b794e0', '#e58aa2', '#a9b3bf'] })} }`;
 
 const isInside = (box, [x, y]) => Math.abs(x - box.x) < box.w / 2 && Math.abs(y - box.y) < box.h / 2;

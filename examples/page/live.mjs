@@ -28,7 +28,7 @@ class Edits {
 
 /** The replies to some lines: what they report, and the bytes of a diagram among them. */
 function replies(bytes) {
-  const said = { lines: new Map(), gone: [], gml: null, next: null };
+  const said = { lines: new Map(), gml: null, next: null };
   const text = Array.from(bytes, byte => String.fromCharCode(byte)).join('');
   for (let at = 0; at < text.length;) {
     const end = text.indexOf('\n', at), line = text.slice(at, end), [first, ...words] = line.split(' ');
@@ -36,7 +36,7 @@ function replies(bytes) {
     if (first === 'line') {
       const numbers = words.slice(1).map(Number);
       said.lines.set(Number(words[0]), numbers.flatMap((x, place) => (place % 2 ? [] : [[x, numbers[place + 1]]])));
-    } else if (first === 'no') said.gone.push(Number(words[1]));
+    } else if (first === 'no') said.lines.set(Number(words[1]), []);
     else if (first === 'next') said.next = Number(words[0]);
     else if (first === 'gml') {
       said.gml = bytes.slice(at, at + Number(words[0]));
@@ -58,7 +58,7 @@ export class Session {
   #key;
   #reader;
   #next;
-  #changes = { lines: new Map(), gone: [] }; // what was reported and not yet asked for
+  #changes = new Map(); // the lines that were reported and not yet asked for
 
   constructor(key) { this.#key = key; }
   static async fromGml(gml, { key }) {
@@ -77,10 +77,8 @@ export class Session {
     return replies(bytes);
   }
 
-  #hear({ lines, gone }) {
-    for (const [edge, corners] of lines) this.#changes.lines.set(edge, corners);
-    for (const edge of gone) this.#changes.lines.delete(edge);
-    this.#changes.gone = [...new Set([...this.#changes.gone, ...gone])].filter(edge => !lines.has(edge));
+  #hear({ lines }) {
+    for (const [edge, corners] of lines) this.#changes.set(edge, corners);
   }
   async #count() { this.#next = (await this.#say('/say', 'next')).next; }
 
@@ -104,14 +102,13 @@ export class Session {
   async trialChanges(edits) {
     const made = new Edits(this.#next);
     await edits(made);
-    const { lines, gone } = await this.#say('/say', ['begin', ...made.lines, 'preview', 'abort'].join('\n'));
-    return { lines, gone };
+    return (await this.#say('/say', ['begin', ...made.lines, 'preview', 'abort'].join('\n'))).lines;
   }
   undo() { return this.#play(['undo']); }
   redo() { return this.#play(['redo']); }
   async changes() {
     const changes = this.#changes;
-    this.#changes = { lines: new Map(), gone: [] };
+    this.#changes = new Map();
     return changes;
   }
   async scene() { return this.#reader.scene(textOf(await this.gmlBytes())); }

@@ -53,9 +53,9 @@ async function timed(doing) {
   return answer;
 }
 
+/** Puts changes into lines; a line without corners is gone. */
 function take(changes, into) {
-  for (const [number, corners] of changes.lines) into.set(number, corners);
-  for (const number of changes.gone) into.delete(number);
+  for (const [number, corners] of changes) if (corners.length) into.set(number, corners); else into.delete(number);
   return into;
 }
 
@@ -63,7 +63,7 @@ function take(changes, into) {
 async function look() {
   const changes = await session.changes(), scene = await session.scene();
   take(changes, lines);
-  changed = new Set(changes.lines.keys());
+  changed = new Set(changes.keys());
   boxes = new Map(scene.boxes.map(box => [box.id, { ...box, label: names.get(box.id) ?? box.label ?? `Box ${box.id}` }]));
   connectors = new Map(scene.connectors.map(one => [one.number, one]));
   settings = scene.settings;
@@ -107,7 +107,7 @@ const redo = () => future.length && act('redone', () => back_or_forth('redo', fu
 /** Shows what edits would give, and these boxes in place of the present ones. */
 async function preview(edits, shownBoxes) {
   const changes = await timed(() => session.trialChanges(edits));
-  trial = { boxes: shownBoxes, lines: take(changes, new Map(lines)), changed: new Set([...changes.lines.keys(), ...changes.gone]) };
+  trial = { boxes: shownBoxes, lines: take(changes, new Map(lines)), changed: new Set(changes.keys()) };
 }
 const moved = (id, x, y) => new Map(boxes).set(id, { ...boxes.get(id), x, y });
 
@@ -154,7 +154,7 @@ function pinFor(box, corners) {
 /** The edits that connect two boxes, with a pin of its own for each end where the diagram has room for pins. */
 async function connecting(from, to) {
   const number = await session.next, plain = s => s.connect(from, to);
-  const line = (await session.trialChanges(plain)).lines.get(number);
+  const line = (await session.trialChanges(plain)).get(number);
   const pins = [...boxes.values()].reduce((all, box) => all + box.pins.length, 0);
   if (!line || pins + 2 > MOST_PINS) return plain;
   const first = pinFor(boxes.get(from), line), last = pinFor(boxes.get(to), [...line].reverse());
@@ -348,7 +348,8 @@ function made(name, attributes = {}, parent = null) {
   return it;
 }
 function put(it, attributes) {
-  for (const [name, value] of Object.entries(attributes)) if (it.getAttribute(name) !== String(value)) it.setAttribute(name, value);
+  const known = it.known ??= {}; // (to ask the element would take longer)
+  for (const [name, value] of Object.entries(attributes)) if (known[name] !== value) it.setAttribute(name, known[name] = value);
 }
 
 made('style', {}, sheet).textContent = drawing.STYLE;
@@ -380,11 +381,11 @@ function drawBox(it, id, { x, y, w, h, label, isGroup, pins }) {
   const [title, rect, text, dots] = it.children, kinds = [isGroup ? 'group' : 'box', chosen?.box === id && 'chosen', hint === id && 'hint'];
   put(it, { class: kinds.filter(Boolean).join(' '), transform: `translate(${x} ${y})`, 'aria-label': label });
   put(rect, { x: -w / 2, y: -h / 2, width: w, height: h });
-  const written = isGroup ? [drawing.wrapped(label, w, 16)[0]] : drawing.wrapped(label, w, h), state = `${written.join('\n')} ${w} ${h}`;
-  if (text.dataset.state !== state) {
-    text.dataset.state = state;
+  if (text.dataset.state !== `${label} ${w} ${h}`) {
+    text.dataset.state = `${label} ${w} ${h}`;
     title.textContent = label;
     text.textContent = '';
+    const written = isGroup ? [drawing.wrapped(label, w, 16)[0]] : drawing.wrapped(label, w, h);
     const left = isGroup ? -w / 2 + 8 : 0, top = isGroup ? -h / 2 + 12 : -(written.length - 1) * drawing.LINE_HEIGHT / 2;
     written.forEach((line, at) => { made('tspan', { x: left, y: top + at * drawing.LINE_HEIGHT }, text).textContent = line; });
   }
@@ -703,5 +704,5 @@ if (kept()) act('here is what this tab had before it was loaded again', () => {}
 $('back').textContent = isLive ? 'The program reroute_live routes behind this page; whether its build is proved, out/reroute_live.built says.'
   : 'The engine runs in this page, as WebAssembly: tested against the program, not proved. Its source is proved.';
 // For a script that tries the page.
-window.reroute = { lines, shown, gml, svg, view, isIdle: async () => { for (let last; last !== work;) { last = work; await last; } } };
+window.reroute = { lines, shown, gml, svg, view, drawnAfter: performance.now(), isIdle: async () => { for (let last; last !== work;) { last = work; await last; } } };
 document.body.dataset.ready = 'yes';

@@ -240,6 +240,7 @@ class Trial:
 
     def beginning(self):
         tab = self.tab
+        print(f'{self.name}: the first diagram was drawn {tab.value("Math.round(reroute.drawnAfter)")} ms after the navigation')
         self.expect('each connector of the first diagram has a line', len(tab.lines()) == 16)
         self.expect('with pins, heads and round corners', tab.count('.pin') == 32 and tab.count('.head') == 16 and tab.value(
             "[...document.querySelectorAll('.line')].some(it => it.getAttribute('d').includes('Q'))"))

@@ -1,0 +1,126 @@
+/** Reroute from JavaScript: `reroute.mjs` over `reroute.wasm`. Lengths are in units, kept to thousandths. */
+export type Corner = readonly [x: number, y: number];
+export type Lines = Map<number, readonly Corner[]>;
+export type Id = number | bigint;
+
+/** A call that was refused. No transaction is open after it, and nothing else changed. */
+export class Refused extends Error {
+  constructor(code: number, value?: number | bigint | null, line?: number);
+  /** As reroute.h numbers them: 4 for X4, 99 where there is no memory, from 101 on what is said of a diagram. */
+  readonly code: number;
+  /** As `UnknownNode`. */
+  readonly reason: string;
+  readonly value: number | bigint | null;
+  /** Of a script, from 1; otherwise 0. */
+  readonly line: number;
+  /** The refusal that the program has put in these words, or null. */
+  static fromText(text: string): Refused | null;
+}
+
+/** The engine: a module with its memory, which its sessions share. */
+export class Reroute {
+  /** By default `reroute.wasm` beside this file. The module loaded last is what `new Session()` takes. */
+  static load(source?: string | URL | BufferSource | WebAssembly.Module, options?: { mostBytes?: number }): Promise<Reroute>;
+  readonly memory: WebAssembly.Memory;
+  readonly version: number;
+}
+
+export interface Pin { readonly pinClass: number; readonly dx: number; readonly dy: number; readonly sides: string; readonly cost: number }
+export interface Box {
+  readonly id: Id;
+  readonly x: number;
+  readonly y: number;
+  readonly w: number;
+  readonly h: number;
+  readonly isGroup: boolean;
+  readonly label: string | null;
+  readonly pins: readonly Pin[];
+}
+export interface Connector {
+  readonly number: number;
+  readonly from: Id;
+  readonly to: Id;
+  readonly fromClass: number;
+  readonly toClass: number;
+  readonly label: string | null;
+  readonly checkpoints: readonly Corner[];
+  /** What its route costs, or null if it has none. */
+  readonly cost: number | null;
+}
+export interface Settings { readonly penalty: number; readonly buffer: number; readonly nudge: number }
+export interface Scene { readonly boxes: readonly Box[]; readonly connectors: readonly Connector[]; readonly settings: Settings }
+
+export interface Options { gml?: string | BufferSource | null; engine?: Reroute }
+
+/** A scene of boxes, pins and connectors, with the lines of the connectors. */
+export class Session {
+  constructor(options?: Options);
+  static open(options?: Options): Session;
+  static fromGml(gml: string | BufferSource, options?: Options): Session;
+  close(): void;
+
+  begin(): void;
+  commit(): void;
+  abort(): void;
+  undo(): void;
+  redo(): void;
+  /** Edits that hold together: a refusal or an error among them rolls all of them back. */
+  transaction<T>(edits: (session: this) => T): T;
+  /** Makes edits that are taken back, and answers the lines that they would give. */
+  trial(edits: (session: this) => void): Lines;
+  trial(edits: (session: this) => Promise<void>): Promise<Lines>;
+  /** Makes edits that are taken back, and answers what of the lines would differ from those that were reported. */
+  trialChanges(edits: (session: this) => void): Lines;
+  trialChanges(edits: (session: this) => Promise<void>): Promise<Lines>;
+
+  addBox(id: Id, x: number, y: number, w: number, h: number): void;
+  move(id: Id, x: number, y: number): void;
+  resize(id: Id, w: number, h: number): void;
+  drop(id: Id): void;
+  addPin(id: Id, pinClass: number, dx: number, dy: number, sides?: string): void;
+  dropPin(id: Id, place: number): void;
+  connect(start: Id, end: Id, startClass?: number, endClass?: number): number;
+  /** Moves the ends of a connector of the present scene to other boxes or classes, and answers its new number. */
+  reconnect(edge: number, ends: { from?: Id; to?: Id; fromClass?: number; toClass?: number }): number;
+  setClasses(edge: number, startClass: number, endClass: number): void;
+  cut(edge: number): void;
+  addCheckpoint(edge: number, place: number, x: number, y: number): void;
+  dropCheckpoint(edge: number, place: number): void;
+  set(setting: 'penalty' | 'buffer' | 'nudge', value: number): void;
+
+  /** All lines: they are reported. */
+  lines(): Lines;
+  /** The lines that differ from the reported ones, without corners for those that are gone. Then they are reported. */
+  changes(): Lines;
+  /** The lines that a commit of the open transaction would give. They are not reported by that. */
+  preview(): Lines;
+  /** What of them differs from the reported ones. */
+  previewChanges(): Lines;
+  cost(edge: number): number | null;
+  readonly searched: number;
+
+  /** The present scene; an open transaction makes no difference. */
+  scene(): Scene;
+  boxes(): readonly Box[];
+  connectors(): readonly Connector[];
+  settings(): Settings;
+  readonly boxCount: number;
+  readonly connectorCount: number;
+  readonly next: number;
+
+  gmlBytes(): Uint8Array;
+  gml(): string;
+  play(script: string | BufferSource): void;
+}
+
+/** A pair of a text in GML: its value is a word or a list, and `at`, `from` and `end` say where key and value stand. */
+export interface Pair { readonly key: string; readonly value: string | Pair[]; readonly at: number; readonly from: number; readonly end: number }
+export function pairsOf(text: string): Pair[];
+/** The text of a diagram's bytes: UTF-8 or, as GML has it, Latin-1. */
+export function textOf(bytes: Uint8Array): string;
+/** Reads the scene from the diagram that the engine writes; `did` is told of the commands in the words of a script. */
+export class SceneReader {
+  constructor(next: number);
+  did(command: string, number?: number | string): void;
+  scene(gml: string): { boxes: Box[]; connectors: Omit<Connector, 'cost'>[]; settings: Settings };
+}
