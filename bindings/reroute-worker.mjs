@@ -66,7 +66,7 @@ if (threads ? threads.workerData === NAME : globalThis.name === NAME && !globalT
 /** A thread that runs this file. */
 function started() {
   const address = new URL('reroute-worker.mjs', import.meta.url);
-  return threads ? new threads.Worker(address, { workerData: NAME }) : new Worker(address, { type: 'module', name: NAME });
+  return threads ? new threads.Worker(address, { workerData: NAME, execArgv: [] }) : new Worker(address, { type: 'module', name: NAME });
 }
 
 let loaded = null;
@@ -79,9 +79,10 @@ export class Reroute {
   #fault = null;
 
   /** As that of reroute.mjs; `thread` is a worker that runs this file under the name `reroute`, if you start it yourself. */
-  static async load(source = new URL('reroute.wasm', import.meta.url), { thread = started(), ...options } = {}) {
+  static async load(source, { thread = started(), ...options } = {}) {
     const engine = new Reroute(thread);
-    engine.version = await engine.ask(0, 'load', [source instanceof URL ? source.href : source, options]);
+    // (the module is compiled here while the thread starts)
+    engine.version = await engine.ask(0, 'load', [await direct.Reroute.compiled(source), options]);
     return loaded = engine;
   }
 

@@ -19,6 +19,8 @@ export class Refused extends Error {
 
 /** The engine: a module with its memory, which its sessions share. */
 export class Reroute {
+  /** The compiled module, which other threads may load. */
+  static compiled(source?: string | URL | BufferSource | WebAssembly.Module): Promise<WebAssembly.Module>;
   /** By default `reroute.wasm` beside this file. The module loaded last is what `new Session()` takes. */
   static load(source?: string | URL | BufferSource | WebAssembly.Module, options?: { mostBytes?: number }): Promise<Reroute>;
   readonly memory: WebAssembly.Memory;

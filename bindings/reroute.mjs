@@ -197,9 +197,14 @@ export class Reroute {
   #exports;
   #broken = null;
 
+  /** The compiled module, from its address or its bytes. */
+  static async compiled(source = new URL('reroute.wasm', import.meta.url)) {
+    return source instanceof WebAssembly.Module ? source : WebAssembly.compile(await bytesOf(source));
+  }
+
   /** Loads the module from its address, its bytes, or as it was compiled; `mostBytes` bounds its memory. */
-  static async load(source = new URL('reroute.wasm', import.meta.url), { mostBytes = 2 ** 32 } = {}) {
-    const module = source instanceof WebAssembly.Module ? source : await WebAssembly.compile(await bytesOf(source));
+  static async load(source, { mostBytes = 2 ** 32 } = {}) {
+    const module = await Reroute.compiled(source);
     loaded = new Reroute();
     loaded.memory = new WebAssembly.Memory({ initial: FIRST_PAGES, maximum: Math.max(FIRST_PAGES, Math.floor(mostBytes / 65536)) });
     loaded.#exports = (await WebAssembly.instantiate(module, { env: { memory: loaded.memory } })).exports;

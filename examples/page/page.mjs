@@ -685,7 +685,7 @@ async function load() {
   const bytes = $('module'), texts = $('engine');
   if (isLive || !bytes) return back.Reroute.load();
   const thread = new Worker(URL.createObjectURL(new Blob([texts.textContent], { type: 'text/javascript' })), { name: 'reroute' });
-  return back.Reroute.load(unbinary(atob(bytes.textContent)), { thread });
+  return back.Reroute.load(`data:application/wasm;base64,${bytes.textContent}`, { thread });
 }
 
 const HINT_WORDS = 'Drag the yellow box between the others: the lines make way.';
