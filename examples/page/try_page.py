@@ -260,7 +260,7 @@ class Trial:
             self.expect("and the program's diagram stays", tab.program() == before)
             self.picture('drag')
 
-        tab.drag_box(13, 40, -250, look)
+        tab.drag_box(13, 70, -412, look)
         after = tab.lines()
         self.expect('a release gives the lines that were shown', after == during and after != before)
         self.expect('changed lines are marked', tab.count('.wire.changed') > 0)
