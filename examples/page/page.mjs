@@ -70,15 +70,15 @@ async function look() {
   if (chosen && !(chosen.box === undefined ? connectors.has(chosen.edge) : boxes.has(chosen.box))) chosen = null;
 }
 
-/** Makes edits, and a step of the history of them; a step for the same `sake` within a second joins the last one. */
-async function commit(edits, { sake = null, newNames = names } = {}) {
+/** Makes edits, and a step of the history of them. One for the same `sake` joins the last step if it was asked for within a second
+    after that. */
+async function commit(edits, { sake = null, asked = 0, newNames = names } = {}) {
   trial = null;
   const answer = await timed(() => session.transaction(edits));
-  const last = past.at(-1), now = performance.now();
-  if (sake && last?.sake === sake && now - last.at < 1000) {
-    last.count += 1;
-    last.at = now;
-  } else past = [...past, { names, count: 1, sake, at: now }].slice(-MOST_STEPS);
+  const last = past.at(-1);
+  if (sake && last?.sake === sake && asked - last.at < 1000) last.count += 1;
+  else past = [...past, { names, count: 1, sake }].slice(-MOST_STEPS);
+  past.at(-1).at = performance.now();
   names = newNames;
   await stepped();
   return answer;
@@ -482,7 +482,7 @@ let drag = null; // { box, dx, dy, at } or { from } while a connector is pulled
 let wanted = null, isFollowing = false;
 const pointers = new Map(); // by id: where each is on the screen, of the one or two that are down
 let press = null; // where the first one went down, and what it does: a box, a handle or the paper
-let tapped = { box: null, at: 0 };
+let tapped = { box: undefined, at: 0 }; // where the last press was released, if it did not move
 
 const place = event => {
   const corner = sheet.getBoundingClientRect();
@@ -611,11 +611,11 @@ function lifted(event, isMade) {
   const mine = press;
   press = null;
   release(isMade && mine?.hasMoved);
-  if (!mine || mine.hasMoved || mine.what.box === undefined) return;
-  const isAgain = tapped.box === mine.what.box && event.timeStamp - tapped.at < 450;
-  tapped = { box: mine.what.box, at: event.timeStamp };
-  if (isAgain && isMade) rename(mine.what.box);
+  const box = mine?.hasMoved ? undefined : mine?.what.box, isAgain = box !== undefined && box === tapped.box && event.timeStamp - tapped.at < 450;
+  tapped = { box, at: event.timeStamp };
+  if (isAgain && event.pointerType === 'touch') rename(box);
 }
+sheet.addEventListener('dblclick', () => { if (tapped.box !== undefined) rename(tapped.box); });
 sheet.addEventListener('pointerup', event => lifted(event, true));
 sheet.addEventListener('pointercancel', event => lifted(event, false));
 sheet.addEventListener('wheel', event => {
@@ -633,12 +633,12 @@ sheet.addEventListener('focusin', event => {
 
 const ARROWS = { ArrowLeft: [-1, 0], ArrowRight: [1, 0], ArrowUp: [0, -1], ArrowDown: [0, 1] };
 
-function nudged(key, isFine) {
+function nudged(key, isFine, asked) {
   const id = chosen.box, by = isFine ? 1 : 10, [dx, dy] = ARROWS[key];
   if (id === hint) hint = null;
   return act(() => `moved ${nameOf(id)}`, () => {
     const { x, y } = boxes.get(id);
-    return commit(s => s.move(id, x + dx * by, y + dy * by), { sake: `move ${id}` });
+    return commit(s => s.move(id, x + dx * by, y + dy * by), { sake: `move ${id}`, asked });
   });
 }
 
@@ -661,7 +661,7 @@ document.addEventListener('keydown', event => {
     : { n: addBox, c: isBox && begin, f2: isBox && (() => rename(chosen.box)), delete: chosen && remove, backspace: chosen && remove, escape: giveUp,
       '+': () => view.zoom(1.25), '=': () => view.zoom(1.25), '-': () => view.zoom(0.8), 0: () => view.fit(),
       enter: start !== null && isBox && chosen.box !== start && (() => connect(start, chosen.box)) };
-  const doing = ARROWS[event.key] && isBox && !isControl ? () => nudged(event.key, event.shiftKey) : keys[key];
+  const doing = ARROWS[event.key] && isBox && !isControl ? () => nudged(event.key, event.shiftKey, event.timeStamp) : keys[key];
   if (!doing || event.altKey || event.target.tagName === 'INPUT' || (key === 'enter' && event.target.tagName === 'BUTTON')) return;
   event.preventDefault();
   doing();
