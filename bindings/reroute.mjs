@@ -376,6 +376,7 @@ export class Session {
   drop(id) { this.#step('drop', 'drop_box', whole(id)); }
   /** A pin of a class from 1, at an offset from the box's centre, where lines may leave to these sides. */
   addPin(id, pinClass, dx, dy, sides = 'ESWN') {
+    if (!/^[ESWN]*$/.test(sides)) throw new RangeError(`${sides} has other letters than E, S, W and N`);
     const directions = [...'ESWN'].reduce((bytes, side, at) => bytes | sides.includes(side) << 8 * at, 0);
     this.#step('pin', 'add_pin', whole(id), count(pinClass), milli(dx), milli(dy), directions);
   }

@@ -108,7 +108,7 @@ function pair() {
 await part('numbers that do not fit are refused before the engine is called', () => {
   const s = pair(), before = s.gml();
   for (const edits of [t => t.addBox(1.5, 0, 0, 1, 1), t => t.addBox(3, NaN, 0, 1, 1), t => t.addBox(3, 1e300, 0, 1, 1), t => t.move(1, Infinity, 0),
-    t => t.addBox(2n ** 63n, 0, 0, 1, 1), t => t.connect(1, 2, -1), t => t.cut(1.5), t => t.set('colour', 1), t => t.move(2 ** 64 / 1000 * 1000, 0, 0)]) {
+    t => t.addBox(2n ** 63n, 0, 0, 1, 1), t => t.connect(1, 2, -1), t => t.cut(1.5), t => t.set('colour', 1), t => t.addPin(1, 1, 0, 0, 'EX'), t => t.move(2 ** 64 / 1000 * 1000, 0, 0)]) {
     assert.throws(() => s.transaction(edits), RangeError);
     assert.strictEqual(s.gml(), before);
   }

@@ -47,7 +47,7 @@ export const FIRST = `graph [
     pin [ class 2 x 48 y 0 dirs "E" ] ]
   node [ id 12 label "Invoices" graphics [ x 680 y 340 w 96 h 46 ]
     pin [ class 1 x 0 y -23 dirs "N" ] ]
-  node [ id 13 label "Drag me" graphics [ x 200 y 460 w 110 h 56 ] ]
+  node [ id 13 label "Drag me" graphics [ x 200 y 460 w 88 h 44 ] ]
   edge [ source 1 target 2 sourcePin 1 targetPin 4 ]
   edge [ source 1 target 5 sourcePin 2 targetPin 1 ]
   edge [ source 2 target 3 sourcePin 1 targetPin 2 ]

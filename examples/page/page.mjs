@@ -427,7 +427,7 @@ function wires({ boxes, lines }) {
   const crossed = drawing.crossings(drawn);
   return new Map([...drawn].map(([number, corners]) => {
     const { from, to, label } = connectors.get(number), isNone = from !== to && !lines.has(number);
-    return [number, { path: drawing.pathOf(corners, crossed.get(number)), head: drawing.headOf(corners), middle: drawing.middleOf(corners), isNone, name: label ?? '',
+    return [number, { path: drawing.pathOf(corners, isNone ? [] : crossed.get(number)), head: drawing.headOf(corners), middle: drawing.middleOf(corners), isNone, name: label ?? '',
       label: `Connector from ${nameOf(from)} to ${nameOf(to)}${isNone ? ', no legal route' : ''}` }];
   }));
 }

@@ -260,7 +260,7 @@ class Trial:
             self.expect("and the program's diagram stays", tab.program() == before)
             self.picture('drag')
 
-        tab.drag_box(13, 70, -412, look)
+        tab.drag_box(13, 0, -311, look)
         after = tab.lines()
         self.expect('a release gives the lines that were shown', after == during and after != before)
         self.expect('changed lines are marked', tab.count('.wire.changed') > 0)
@@ -462,6 +462,7 @@ class Trial:
         self.expect('a second tab has a diagram of its own', len(other.lines()) == 16 and other.program() == other.lines())
         other.drag_box(13, 40, -250)
         self.expect('what is done there stays there', mine.lines() == before and mine.program() == before)
+        mine.call('Page.bringToFront')
         mine.drag_box(1, 0, 60)
         self.expect('and the first one goes on', mine.program() == mine.lines() and other.program() == other.lines())
         other.call('Page.close')

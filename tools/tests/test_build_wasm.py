@@ -93,6 +93,19 @@ class Scripts(unittest.TestCase):
         self.assertNotEqual(first, other)
 
 
+REROUTE = os.path.abspath(os.environ.get('REROUTE') or f'{TOP}/out/reroute')
+
+
+@unittest.skipUnless(shutil.which('node') and os.path.exists(f'{TOP}/out/wasm/reroute.wasm') and os.path.exists(REROUTE),
+                     'there is no Node, no module in out/wasm, or no program')
+class Example(unittest.TestCase):
+    def test_a_file_is_routed_as_by_the_program(self):
+        diagram = f'{TOP}/examples/editor.gml'
+        done = subprocess.run(['node', f'{TOP}/examples/clients/route.mjs', diagram], capture_output=True, check=True)
+        program = subprocess.run([REROUTE, 'route', diagram, '/dev/null'], capture_output=True, check=True).stdout
+        self.assertEqual(done.stdout, b''.join(line for line in program.splitlines(True) if not line.startswith(b'# ')))
+
+
 @unittest.skipUnless(shutil.which('node'), 'there is no Node')
 class Page(unittest.TestCase):
     """What the page draws and says, in Node."""
