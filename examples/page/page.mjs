@@ -70,17 +70,17 @@ async function look() {
   if (chosen && !(chosen.box === undefined ? connectors.has(chosen.edge) : boxes.has(chosen.box))) chosen = null;
 }
 
-/** Makes edits, and a step of the history of them. One for the same `sake` joins the last step if it was asked for within a second
-    after that. */
+/** Makes edits, and a step of the history of them. One for the same `sake` joins the last step if it was asked for within two
+    seconds after that. */
 async function commit(edits, { sake = null, asked = 0, newNames = names } = {}) {
   trial = null;
   const answer = await timed(() => session.transaction(edits));
   const last = past.at(-1);
-  if (sake && last?.sake === sake && asked - last.at < 1000) last.count += 1;
+  if (sake && last?.sake === sake && asked - last.at < 2000) last.count += 1;
   else past = [...past, { names, count: 1, sake }].slice(-MOST_STEPS);
-  past.at(-1).at = performance.now();
   names = newNames;
   await stepped();
+  past.at(-1).at = performance.now();
   return answer;
 }
 
