@@ -85,6 +85,7 @@ await Reroute.load(module);
 for (const [byCalls, name] of [[false, 'by their lines'], [true, 'by the calls']]) {
   await part(`scripts ${name}, byte for byte as the program`, () => {
     const names = fs.readdirSync(cases);
+    assert.ok(names.length, 'there are no cases');
     for (const one of names) {
       const [gml, script, wanted] = ['d.gml', 's.txt', 'out'].map(file => fs.readFileSync(`${cases}/${one}/${file}`, 'utf8'));
       try {
