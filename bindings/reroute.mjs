@@ -54,7 +54,8 @@ function milli(units) {
 
 /** A whole number of 64 bits. */
 function whole(number) {
-  const value = BigInt(number);
+  let value;
+  try { value = BigInt(number); } catch { throw new RangeError(`${number} is no whole number`); }
   if (BigInt.asIntN(64, value) !== value) throw new RangeError(`${number} has more than 64 bits`);
   return value;
 }

@@ -113,7 +113,7 @@ function pair() {
 
 await part('numbers that do not fit are refused before the engine is called', () => {
   const s = pair(), before = s.gml();
-  for (const edits of [t => t.addBox(1.5, 0, 0, 1, 1), t => t.addBox(3, NaN, 0, 1, 1), t => t.addBox(3, 1e300, 0, 1, 1),
+  for (const edits of [t => t.addBox(1.5, 0, 0, 1, 1), t => t.addBox('x', 0, 0, 1, 1), t => t.addBox(3, NaN, 0, 1, 1), t => t.addBox(3, 1e300, 0, 1, 1),
     t => t.move(1, Infinity, 0), t => t.move(2 ** 64, 0, 0), t => t.move(1, 2 ** 64 / 1000, 0), t => t.addBox(2n ** 63n, 0, 0, 1, 1),
     t => t.connect(1, 2, -1), t => t.cut(1.5), t => t.set('colour', 1), t => t.addPin(1, 1, 0, 0, 'EX')]) {
     assert.throws(() => s.transaction(edits), RangeError);
@@ -206,7 +206,7 @@ await part('the thread has the same calls as promises, and transactions wait for
   own.changes();
   own.transaction(t => t.move(2, 100, 50));
   assert.deepStrictEqual(all.map(one => one.reason?.message.slice(0, 16) ?? one.value), ['X4 UnknownNode 9', undefined, 'move: a transact',
-    own.trialChanges(t => t.move(1, 0, 40)), 'The number 1.5 c']);
+    own.trialChanges(t => t.move(1, 0, 40)), '1.5 is no whole ']);
   assert.deepStrictEqual(await s.changes(), own.changes());
   assert.deepStrictEqual(await s.scene(), own.scene());
   assert.deepStrictEqual(Buffer.from(await s.gmlBytes()), Buffer.from(own.gmlBytes()));
