@@ -54,7 +54,8 @@ function milli(units) {
 
 /** A whole number of 64 bits. */
 function whole(number) {
-  const value = BigInt(number);
+  let value;
+  try { value = BigInt(number); } catch { throw new RangeError(`${number} is no whole number`); }
   if (BigInt.asIntN(64, value) !== value) throw new RangeError(`${number} has more than 64 bits`);
   return value;
 }
@@ -327,7 +328,8 @@ export class Session {
   #units(at) { return (this.#engine.view.getUint32(at, true) + 2 ** 32 * this.#engine.view.getInt32(at + 4, true)) / 1000; }
 
   #withBytes(text, doing) {
-    const bytes = typeof text === 'string' ? new TextEncoder().encode(text) : new Uint8Array(text.buffer ?? text, text.byteOffset ?? 0, text.byteLength);
+    const bytes = typeof text === 'string' ? new TextEncoder().encode(text)
+      : new Uint8Array(text.buffer ?? text, text.byteOffset ?? 0, text.byteLength);
     const at = this.#engine.alloc(bytes.length + 1);
     try {
       new Uint8Array(this.#engine.memory.buffer, at, bytes.length).set(bytes);

@@ -85,9 +85,15 @@ await Reroute.load(module);
 for (const [byCalls, name] of [[false, 'by their lines'], [true, 'by the calls']]) {
   await part(`scripts ${name}, byte for byte as the program`, () => {
     const names = fs.readdirSync(cases);
+    assert.ok(names.length, 'there are no cases');
     for (const one of names) {
       const [gml, script, wanted] = ['d.gml', 's.txt', 'out'].map(file => fs.readFileSync(`${cases}/${one}/${file}`, 'utf8'));
-      try { replay(gml, script.replace(/\n$/, '').split('\n'), wanted, byCalls); } catch (error) { error.stack = `${one}: ${error.stack}`; throw error; }
+      try {
+        replay(gml, script.replace(/\n$/, '').split('\n'), wanted, byCalls);
+      } catch (error) {
+        error.stack = `${one}: ${error.stack}`;
+        throw error;
+      }
     }
     return `: ${names.length}`;
   });
@@ -107,8 +113,9 @@ function pair() {
 
 await part('numbers that do not fit are refused before the engine is called', () => {
   const s = pair(), before = s.gml();
-  for (const edits of [t => t.addBox(1.5, 0, 0, 1, 1), t => t.addBox(3, NaN, 0, 1, 1), t => t.addBox(3, 1e300, 0, 1, 1), t => t.move(1, Infinity, 0),
-    t => t.addBox(2n ** 63n, 0, 0, 1, 1), t => t.connect(1, 2, -1), t => t.cut(1.5), t => t.set('colour', 1), t => t.addPin(1, 1, 0, 0, 'EX'), t => t.move(2 ** 64 / 1000 * 1000, 0, 0)]) {
+  for (const edits of [t => t.addBox(1.5, 0, 0, 1, 1), t => t.addBox('x', 0, 0, 1, 1), t => t.addBox(3, NaN, 0, 1, 1), t => t.addBox(3, 1e300, 0, 1, 1),
+    t => t.move(1, Infinity, 0), t => t.move(2 ** 64, 0, 0), t => t.move(1, 2 ** 64 / 1000, 0), t => t.addBox(2n ** 63n, 0, 0, 1, 1),
+    t => t.connect(1, 2, -1), t => t.cut(1.5), t => t.set('colour', 1), t => t.addPin(1, 1, 0, 0, 'EX')]) {
     assert.throws(() => s.transaction(edits), RangeError);
     assert.strictEqual(s.gml(), before);
   }
@@ -158,7 +165,8 @@ await part('the scene is read, and a connector moves to another box', () => {
   const s = Session.fromGml('graph [ router [ buffer 6 ] node [ id 1 label "&auml; &#38; b" graphics [ x 0 y 0 ] pin [ class 3 x 15 y 0 dirs "E" ] ]\n' +
     'node [ id -7 isGroup 1 graphics [ x 200 y 0 w 20 h 10 ] ] node [ id 9 graphics [ x 100 y 90 ] ]\n' +
     'edge [ source 1 target 9 sourcePin 3 label "x" via [ x 50 y 50 ] ] edge [ source 9 target 9 ] ]');
-  assert.deepStrictEqual(s.boxes()[0], { id: 1, x: 0, y: 0, w: 30, h: 30, isGroup: false, label: 'ä & b', pins: [{ pinClass: 3, dx: 15, dy: 0, sides: 'E', cost: 0 }] });
+  assert.deepStrictEqual(s.boxes()[0], { id: 1, x: 0, y: 0, w: 30, h: 30, isGroup: false, label: 'ä & b',
+    pins: [{ pinClass: 3, dx: 15, dy: 0, sides: 'E', cost: 0 }] });
   assert.deepStrictEqual(s.boxes().map(box => [box.id, box.isGroup, box.label]), [[1, false, 'ä & b'], [-7, true, null], [9, false, null]]);
   assert.deepStrictEqual(s.settings(), { penalty: 50, buffer: 6, nudge: 4 });
   const number = s.transaction(t => t.reconnect(1, { to: -7 }));
@@ -176,7 +184,11 @@ await part('edits may be promises, and ids have up to 18 digits', async () => {
   await assert.rejects(s.transaction(async t => { await 0; t.cut(7); }), Refused);
   assert.strictEqual(await s.transaction(async t => { await 0; t.addCheckpoint(1, 1, 50, 50); return 5; }), 5);
   assert.ok(s.lines().get(1).some(([, y]) => y === 50));
-  s.transaction(t => { t.addBox(123456789012345678n, 0, 99, 20, 20); t.set('penalty', 10); t.set('buffer', 1); t.set('nudge', 0); t.resize(2, 30, 30); });
+  s.transaction(t => {
+    t.addBox(123456789012345678n, 0, 99, 20, 20);
+    for (const setting of ['penalty', 'buffer', 'nudge']) t.set(setting, 1);
+    t.resize(2, 30, 30);
+  });
   assert.strictEqual(s.boxes().at(-1).id, 123456789012345678n);
   const again = Session.fromGml(s.gmlBytes().buffer);
   assert.strictEqual(again.gml(), s.gml());
@@ -188,13 +200,13 @@ await part('the thread has the same calls as promises, and transactions wait for
   const worker = await of('reroute-worker.mjs'), engine = await worker.Reroute.load(), s = await worker.Session.open();
   const edge = await s.transaction(t => { t.addBox(1, 0, 0, 20, 20); t.addBox(2, 100, 0, 20, 20); return t.connect(1, 2); });
   assert.deepStrictEqual([edge, await s.next, (await s.lines()).get(1)], [1, 2, [[0, 0], [100, 0]]]);
-  const all = await Promise.allSettled([s.transaction(async t => { await t.move(1, 0, 5); await t.move(9, 0, 0); }), s.transaction(t => { t.move(2, 100, 50); }),
-    s.move(1, 0, 0), s.trialChanges(t => { t.move(1, 0, 40); }), s.transaction(t => { t.addBox(1.5, 0, 0, 1, 1); })]);
+  const all = await Promise.allSettled([s.transaction(async t => { await t.move(1, 0, 5); await t.move(9, 0, 0); }),
+    s.transaction(t => { t.move(2, 100, 50); }), s.move(1, 0, 0), s.trialChanges(t => { t.move(1, 0, 40); }), s.transaction(t => { t.addBox(1.5, 0, 0, 1, 1); })]);
   const own = pair();
   own.changes();
   own.transaction(t => t.move(2, 100, 50));
   assert.deepStrictEqual(all.map(one => one.reason?.message.slice(0, 16) ?? one.value), ['X4 UnknownNode 9', undefined, 'move: a transact',
-    own.trialChanges(t => t.move(1, 0, 40)), 'The number 1.5 c']);
+    own.trialChanges(t => t.move(1, 0, 40)), '1.5 is no whole ']);
   assert.deepStrictEqual(await s.changes(), own.changes());
   assert.deepStrictEqual(await s.scene(), own.scene());
   assert.deepStrictEqual(Buffer.from(await s.gmlBytes()), Buffer.from(own.gmlBytes()));
@@ -211,8 +223,10 @@ await part('the thread has the same calls as promises, and transactions wait for
 
 /** A diagram of many boxes in rows, whose neighbours are connected. */
 function rows(across, down) {
-  const nodes = Array.from({ length: across * down }, (_, at) => `node [ id ${at + 1} graphics [ x ${60 * (at % across)} y ${50 * Math.floor(at / across)} w 30 h 20 ] ]`);
-  const edges = nodes.slice(0, -across).flatMap((_, at) => [`edge [ source ${at + 1} target ${at + across + 1} ]`, ...(at % across ? [`edge [ source ${at} target ${at + across + 1} ]`] : [])]);
+  const place = at => `x ${60 * (at % across)} y ${50 * Math.floor(at / across)}`;
+  const nodes = Array.from({ length: across * down }, (_, at) => `node [ id ${at + 1} graphics [ ${place(at)} w 30 h 20 ] ]`);
+  const straight = nodes.slice(0, -across).map((_, at) => `edge [ source ${at + 1} target ${at + across + 1} ]`);
+  const edges = [...straight, ...straight.flatMap((_, at) => (at % across ? [`edge [ source ${at} target ${at + across + 1} ]`] : []))];
   return `graph [\n${[...nodes, ...edges].join('\n')}\n]\n`;
 }
 

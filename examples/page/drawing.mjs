@@ -18,10 +18,11 @@ const rules = ({ ink, box, edge, chosen, fill, mark, group, wrong, lines }) => `
   .wire.chosen .line { stroke: ${chosen}; stroke-width: 3.2 } .head.chosen { fill: ${chosen} }
   .pull { fill: none; stroke: ${chosen}; stroke-width: 1.8; stroke-dasharray: 3 4 }
   .handle { fill: ${chosen}; stroke: ${box}; stroke-width: 2 }`;
-export const STYLE = `${rules({ ink: '#22303c', box: '#ffffff', edge: '#3c4a5a', chosen: '#1769d2', fill: '#e4effd', mark: '#ffe9a3', group: '#5b7083',
-  wrong: '#c62828', lines: ['#0b6fa4', '#b3541e', '#3f7d3a', '#7a4fa3', '#a33a55', '#5d6470'] })}
-  @media (prefers-color-scheme: dark) {${rules({ ink: '#e4e9ee', box: '#222b34', edge: '#8fa1b3', chosen: '#6cb2ff', fill: '#1d3a5c', mark: '#6e5a16',
-    group: '#9fb3c6', wrong: '#ff7b72', lines: ['#5db4e6', '#e8955c', '#7cc276', '#b794e0', '#e58aa2', '#a9b3bf'] })} }`;
+const LIGHT = { ink: '#22303c', box: '#ffffff', edge: '#3c4a5a', chosen: '#1769d2', fill: '#e4effd', mark: '#ffe9a3', group: '#5b7083',
+  wrong: '#c62828', lines: ['#0b6fa4', '#b3541e', '#3f7d3a', '#7a4fa3', '#a33a55', '#5d6470'] };
+const DARK = { ink: '#e4e9ee', box: '#222b34', edge: '#8fa1b3', chosen: '#6cb2ff', fill: '#1d3a5c', mark: '#6e5a16', group: '#9fb3c6',
+  wrong: '#ff7b72', lines: ['#5db4e6', '#e8955c', '#7cc276', '#b794e0', '#e58aa2', '#a9b3bf'] };
+export const STYLE = `${rules(LIGHT)}\n@media (prefers-color-scheme: dark) {${rules(DARK)} }`;
 
 const isInside = (box, [x, y]) => Math.abs(x - box.x) < box.w / 2 && Math.abs(y - box.y) < box.h / 2;
 
@@ -51,7 +52,10 @@ export function crossings(lines) {
   upright.sort((a, b) => a.x - b.x);
   const found = new Map();
   for (const [number, corners] of lines) {
-    found.set(number, corners.slice(1).map(([x, y], at) => (corners[at][1] === y ? crossed(upright, number, y, corners[at][0], x) : [])));
+    found.set(number, corners.slice(1).map(([x, y], at) => {
+      const [u, v] = corners[at];
+      return v === y ? crossed(upright, number, y, u, x) : [];
+    }));
   }
   return found;
 }
@@ -76,14 +80,20 @@ function bows(places, y, isRight) {
     const last = groups.at(-1);
     if (last && Math.abs(x - last[1]) <= 2 * BOW + 1) last[1] = x; else groups.push([x, x]);
   }
-  const by = isRight ? BOW : -BOW;
-  return groups.map(([first, last]) => `L${first - by},${y}A${Math.abs(last - first) / 2 + BOW},${BOW} 0 0 ${isRight ? 1 : 0} ${last + by},${y}`).join('');
+  const by = isRight ? BOW : -BOW, turn = isRight ? 1 : 0;
+  return groups.map(([first, last]) => {
+    const radius = Math.abs(last - first) / 2 + BOW;
+    return `L${first - by},${y}A${radius},${BOW} 0 0 ${turn} ${last + by},${y}`;
+  }).join('');
 }
 
 /** The path of a line, with round corners, and bows where it crosses. */
 export function pathOf(corners, places = []) {
   const far = ([x, y], [u, v]) => Math.abs(u - x) + Math.abs(v - y);
-  const towards = ([x, y], [u, v], by) => { const all = far([x, y], [u, v]) || 1; return [x + (u - x) * by / all, y + (v - y) * by / all]; };
+  const towards = ([x, y], [u, v], by) => {
+    const all = far([x, y], [u, v]) || 1;
+    return [x + (u - x) * by / all, y + (v - y) * by / all];
+  };
   let path = `M${corners[0]}`;
   for (let at = 1; at < corners.length; at++) {
     const [before, corner, next] = [corners[at - 1], corners[at], corners[at + 1]];

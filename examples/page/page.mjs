@@ -118,7 +118,8 @@ const nameOf = id => boxes.get(id)?.label ?? id;
 /** The place nearest to the middle of the sheet where a new box has room. */
 function room() {
   const middle = view.middle(), gap = 2 * settings.buffer + 8;
-  const isFree = (x, y) => ![...boxes.values()].some(b => Math.abs(b.x - x) < (b.w + NEW.w) / 2 + gap && Math.abs(b.y - y) < (b.h + NEW.h) / 2 + gap);
+  const isFree = (x, y) => ![...boxes.values()].some(b => (
+    Math.abs(b.x - x) < (b.w + NEW.w) / 2 + gap && Math.abs(b.y - y) < (b.h + NEW.h) / 2 + gap));
   for (let ring = 0; ; ring++) {
     for (let at = 0; at < Math.max(1, 8 * ring); at++) {
       const side = Math.floor(at / 2 / ring) || 0, along = at % (2 * ring || 1) - ring;
@@ -141,7 +142,8 @@ function addBox() {
 /** A pin for the end of a line at a box: on the side by which the line leaves, in the widest gap there. */
 function pinFor(box, corners) {
   const [[x, y], [u, v]] = corners, isLevel = Math.abs(u - x) > Math.abs(v - y);
-  const side = isLevel ? (u > x ? 'E' : 'W') : (v > y ? 'S' : 'N'), half = (isLevel ? box.h : box.w) / 2, across = (isLevel ? box.w : box.h) / 2;
+  const side = isLevel ? (u > x ? 'E' : 'W') : (v > y ? 'S' : 'N');
+  const half = (isLevel ? box.h : box.w) / 2, across = (isLevel ? box.w : box.h) / 2;
   const far = side === 'E' || side === 'S' ? across : -across;
   const taken = box.pins.filter(pin => Math.abs((isLevel ? pin.dx : pin.dy) - far) < 0.01).map(pin => (isLevel ? pin.dy : pin.dx));
   const edges = [-half, ...taken.sort((a, b) => a - b), half];
@@ -173,7 +175,8 @@ function connect(from, to) {
 function cutting(numbers) {
   const rest = [...connectors.values()].filter(one => !numbers.includes(one.number));
   const ends = numbers.flatMap(number => { const c = connectors.get(number); return [[c.from, c.fromClass], [c.to, c.toClass]]; });
-  const unused = ends.filter(([id, kind]) => kind && !rest.some(c => (c.from === id && c.fromClass === kind) || (c.to === id && c.toClass === kind)));
+  const isUsed = (id, kind) => rest.some(c => (c.from === id && c.fromClass === kind) || (c.to === id && c.toClass === kind));
+  const unused = ends.filter(([id, kind]) => kind && !isUsed(id, kind));
   const places = [...boxes.values()].flatMap(box => box.pins.flatMap((pin, at) => (
     unused.some(([id, kind]) => id === box.id && kind === pin.pinClass) ? [[box.id, at + 1]] : []))).reverse();
   return s => { numbers.forEach(number => s.cut(number)); places.forEach(([id, place]) => s.dropPin(id, place)); };
@@ -190,7 +193,8 @@ function remove() {
 
 /** Asks for the name of a box over it, and gives it. */
 function rename(id) {
-  const box = boxes.get(id), place = document.createElement('input'), [x, y] = view.toScreen(box.x, box.isGroup ? box.y - box.h / 2 + 12 : box.y);
+  const box = boxes.get(id), place = document.createElement('input');
+  const [x, y] = view.toScreen(box.x, box.isGroup ? box.y - box.h / 2 + 12 : box.y);
   $('name')?.remove();
   Object.assign(place, { id: 'name', value: box.label, ariaLabel: 'Name of the box' });
   Object.assign(place.style, { left: `${x}px`, top: `${y}px`, width: `${Math.max(110, box.w * view.scale)}px` });
@@ -207,7 +211,10 @@ function rename(id) {
     });
   };
   place.onblur = () => end(true);
-  place.onkeydown = event => { event.stopPropagation(); if (event.key === 'Enter') end(true); else if (event.key === 'Escape') end(false); };
+  place.onkeydown = event => {
+    event.stopPropagation();
+    if (event.key === 'Enter' || event.key === 'Escape') end(event.key === 'Enter');
+  };
   $('sheet').parentElement.append(place);
   place.focus();
   place.select();
@@ -215,7 +222,8 @@ function rename(id) {
 
 // --- Files
 
-const encoded = text => `"${[...text].map(one => (one === '"' || one === '&' || one > '~' ? `&#${one.codePointAt(0)};` : one)).join('')}"`;
+/** A string in GML. */
+const encoded = text => `"${text.replace(/["&]|[^ -~]/gu, one => `&#${one.codePointAt(0)};`)}"`;
 const binary = bytes => Array.from(bytes, byte => String.fromCharCode(byte)).join('');
 const unbinary = text => Uint8Array.from(text, one => one.charCodeAt(0));
 
@@ -253,7 +261,10 @@ async function openGml(bytes) {
   view.fit();
 }
 
-const opening = (name, bytes) => act(() => `opened ${name}: ${boxes.size} boxes, ${connectors.size} connectors`, async () => { await openGml(bytes); keep(); });
+const opening = (name, bytes) => act(() => `opened ${name}: ${boxes.size} boxes, ${connectors.size} connectors`, async () => {
+  await openGml(bytes);
+  keep();
+});
 
 function download(name, kind, bytes) {
   const link = document.createElement('a');
@@ -262,7 +273,10 @@ function download(name, kind, bytes) {
   link.click();
   setTimeout(() => URL.revokeObjectURL(link.href), 1000);
 }
-const save = () => act('saved diagram.gml', async () => { download('diagram.gml', 'text/plain', unbinary(await gml())); isEdited = false; });
+const save = () => act('saved diagram.gml', async () => {
+  download('diagram.gml', 'text/plain', unbinary(await gml()));
+  isEdited = false;
+});
 
 /** The picture alone, as a file. */
 function svg() {
@@ -270,7 +284,7 @@ function svg() {
   copy.querySelectorAll('.hit, .handle, .pull').forEach(it => it.remove());
   copy.querySelectorAll('*').forEach(it => { it.classList.remove('chosen', 'changed', 'hint'); it.removeAttribute('tabindex'); });
   ['id', 'class', 'style', 'aria-label', 'role'].forEach(name => copy.removeAttribute(name));
-  for (const [name, value] of Object.entries({ xmlns: 'http://www.w3.org/2000/svg', viewBox: `${x} ${y} ${w} ${h}`, width: w, height: h })) copy.setAttribute(name, value);
+  put(copy, { xmlns: 'http://www.w3.org/2000/svg', viewBox: `${x} ${y} ${w} ${h}`, width: w, height: h });
   return new XMLSerializer().serializeToString(copy);
 }
 
@@ -304,7 +318,8 @@ const view = {
   toScreen(x, y) { return [(x - this.x) * this.scale, (y - this.y) * this.scale]; },
   /** The diagram's extent, with a margin. */
   bounds() {
-    const points = [...boxes.values()].flatMap(b => [[b.x - b.w / 2, b.y - b.h / 2], [b.x + b.w / 2, b.y + b.h / 2]]).concat(...lines.values());
+    const corners = ({ x, y, w, h }) => [[x - w / 2, y - h / 2], [x + w / 2, y + h / 2]];
+    const points = [...boxes.values()].flatMap(corners).concat(...lines.values());
     if (!points.length) return [-100, -100, 200, 200];
     const [left, top] = [0, 1].map(at => Math.min(...points.map(point => point[at])) - 24);
     return [left, top, ...[0, 1].map(at => Math.max(...points.map(point => point[at])) + 24 - [left, top][at])];
@@ -331,7 +346,8 @@ const view = {
   },
   /** Shows all if this box is out of sight. */
   show({ x, y, w, h }) {
-    const [[left, top], [right, bottom]] = [this.toScreen(x - w / 2, y - h / 2), this.toScreen(x + w / 2, y + h / 2)], [width, height] = this.size();
+    const [left, top] = this.toScreen(x - w / 2, y - h / 2), [right, bottom] = this.toScreen(x + w / 2, y + h / 2);
+    const [width, height] = this.size();
     if (left < 0 || top < 0 || right > width || bottom > height) this.fit();
   },
 };
@@ -353,7 +369,8 @@ function put(it, attributes) {
 }
 
 made('style', {}, sheet).textContent = drawing.STYLE;
-const layers = Object.fromEntries(['groups', 'wires', 'heads', 'boxes', 'tools'].map(name => [name, { it: made('g', {}, sheet), all: new Map() }]));
+const layers = {};
+for (const name of ['groups', 'wires', 'heads', 'boxes', 'tools']) layers[name] = { it: made('g', {}, sheet), all: new Map() };
 
 /** The elements of a layer, one for each item by its key: new ones are made, and those of no item removed. */
 function keyed(layer, items, make, update) {
@@ -378,7 +395,8 @@ function newBox(id, box) {
 }
 
 function drawBox(it, id, { x, y, w, h, label, isGroup, pins }) {
-  const [title, rect, text, dots] = it.children, kinds = [isGroup ? 'group' : 'box', chosen?.box === id && 'chosen', hint === id && 'hint'];
+  const [title, rect, text, dots] = it.children;
+  const kinds = [isGroup ? 'group' : 'box', chosen?.box === id && 'chosen', hint === id && 'hint'];
   put(it, { class: kinds.filter(Boolean).join(' '), transform: `translate(${x} ${y})`, 'aria-label': label });
   put(rect, { x: -w / 2, y: -h / 2, width: w, height: h });
   if (text.dataset.state !== `${label} ${w} ${h}`) {
@@ -405,7 +423,9 @@ function newWire(number) {
   return it;
 }
 
-const kindsOf = (number, wire) => [`c${(number - 1) % 6}`, wire.isNone && 'none', chosen?.edge === number && 'chosen'].filter(Boolean).join(' ');
+function kindsOf(number, { isNone }) {
+  return [`c${(number - 1) % 6}`, isNone && 'none', chosen?.edge === number && 'chosen'].filter(Boolean).join(' ');
+}
 
 function drawWire(it, number, wire, changed) {
   const [line, hit, name] = it.children;
@@ -427,7 +447,8 @@ function wires({ boxes, lines }) {
   const crossed = drawing.crossings(drawn);
   return new Map([...drawn].map(([number, corners]) => {
     const { from, to, label } = connectors.get(number), isNone = from !== to && !lines.has(number);
-    return [number, { path: drawing.pathOf(corners, isNone ? [] : crossed.get(number)), head: drawing.headOf(corners), middle: drawing.middleOf(corners), isNone, name: label ?? '',
+    return [number, { isNone, name: label ?? '', path: drawing.pathOf(corners, isNone ? [] : crossed.get(number)),
+      head: drawing.headOf(corners), middle: drawing.middleOf(corners),
       label: `Connector from ${nameOf(from)} to ${nameOf(to)}${isNone ? ', no legal route' : ''}` }];
   }));
 }
@@ -438,7 +459,8 @@ function reason({ from, to }, boxes) {
     const at = boxes.get(end), gap = settings.buffer;
     for (const [id, b] of boxes) {
       if (b.isGroup || id === from || id === to) continue;
-      if (Math.abs(at.x - b.x) < (at.w + b.w) / 2 + gap && Math.abs(at.y - b.y) < (at.h + b.h) / 2 + gap) return `${b.label} stands too close to ${at.label}`;
+      const isClose = Math.abs(at.x - b.x) < (at.w + b.w) / 2 + gap && Math.abs(at.y - b.y) < (at.h + b.h) / 2 + gap;
+      if (isClose) return `${b.label} stands too close to ${at.label}`;
     }
   }
   return 'the boxes leave no way';
@@ -457,7 +479,8 @@ function drawTools(all) {
   if (box && !drag) items.set('handle', { d: '', cx: box.x + box.w / 2 + 12, cy: box.y - box.h / 2 - 8, r: 6 });
   if (pull?.to && !trial?.lines.has(pull.number)) items.set('pull', { d: `M${pull.from}L${pull.to}` });
   if (pull && trial?.lines.has(pull.number)) items.set('pull', { d: drawing.pathOf(trial.lines.get(pull.number)) });
-  keyed('tools', items, key => made(key === 'handle' ? 'circle' : 'path', { class: key }), (it, key, attributes) => put(it, attributes));
+  const make = key => made(key === 'handle' ? 'circle' : 'path', { class: key });
+  keyed('tools', items, make, (it, key, attributes) => put(it, attributes));
 }
 
 function draw() {
@@ -501,7 +524,9 @@ async function follow() {
   isFollowing = false;
 }
 
-const followBox = (id, [x, y]) => act(() => `${nameOf(id)} would stand here`, () => (drag ? preview(s => s.move(id, x, y), moved(id, x, y)) : null));
+const followBox = (id, [x, y]) => act(() => `${nameOf(id)} would stand here`, async () => {
+  if (drag) await preview(s => s.move(id, x, y), moved(id, x, y));
+});
 
 /** The box at a place that a pulled connector may end at. */
 function under([x, y], from) {
@@ -538,7 +563,8 @@ function release(isMade) {
 function focus(what) {
   chosen = what;
   draw();
-  sheet.querySelector(what.box === undefined ? `[data-edge="${what.edge}"]` : `[data-box="${what.box}"]`)?.focus({ preventScroll: true });
+  const selector = what.box === undefined ? `[data-edge="${what.edge}"]` : `[data-box="${what.box}"]`;
+  sheet.querySelector(selector)?.focus({ preventScroll: true });
 }
 
 function choose(what) {
@@ -599,8 +625,8 @@ sheet.addEventListener('pointermove', event => {
     dragged(event);
     if (!drag && press.hasMoved) view.pan(at[0] - last[0], at[1] - last[1]);
   } else if (pointers.size === 2) {
-    const after = [...pointers.values()], far = ([a, b]) => Math.hypot(a[0] - b[0], a[1] - b[1]), middle = ([a, b]) => [(a[0] + b[0]) / 2, (a[1] + b[1]) / 2];
-    const [from, to] = [middle(before), middle(after)];
+    const far = ([a, b]) => Math.hypot(a[0] - b[0], a[1] - b[1]), middle = ([a, b]) => [(a[0] + b[0]) / 2, (a[1] + b[1]) / 2];
+    const after = [...pointers.values()], [from, to] = [middle(before), middle(after)];
     view.pan(to[0] - from[0], to[1] - from[1]);
     view.zoom(far(after) / (far(before) || 1), to);
   }
@@ -611,7 +637,8 @@ function lifted(event, isMade) {
   const mine = press;
   press = null;
   release(isMade && mine?.hasMoved);
-  const box = mine?.hasMoved ? undefined : mine?.what.box, isAgain = box !== undefined && box === tapped.box && event.timeStamp - tapped.at < 450;
+  const box = mine?.hasMoved ? undefined : mine?.what.box;
+  const isAgain = box !== undefined && box === tapped.box && event.timeStamp - tapped.at < 450;
   tapped = { box, at: event.timeStamp };
   if (isAgain && event.pointerType === 'touch') rename(box);
 }
@@ -644,7 +671,8 @@ function nudged(key, isFine, asked) {
 
 function begin() {
   start = start === null ? chosen.box : null;
-  $('said').textContent = start === null ? '' : `choose the box to which ${nameOf(start)} is connected: click it, or go to it by Tab and press Enter`;
+  $('said').textContent = start === null ? ''
+    : `choose the box to which ${nameOf(start)} is connected: click it, or go to it by Tab and press Enter`;
   draw();
 }
 
@@ -658,8 +686,8 @@ function giveUp() {
 document.addEventListener('keydown', event => {
   const key = event.key.toLowerCase(), isControl = event.ctrlKey || event.metaKey, isBox = chosen?.box !== undefined;
   const keys = isControl ? { z: event.shiftKey ? redo : undo, y: redo, s: save }
-    : { n: addBox, c: isBox && begin, f2: isBox && (() => rename(chosen.box)), delete: chosen && remove, backspace: chosen && remove, escape: giveUp,
-      '+': () => view.zoom(1.25), '=': () => view.zoom(1.25), '-': () => view.zoom(0.8), 0: () => view.fit(),
+    : { n: addBox, c: isBox && begin, f2: isBox && (() => rename(chosen.box)), delete: chosen && remove, backspace: chosen && remove,
+      escape: giveUp, '+': () => view.zoom(1.25), '=': () => view.zoom(1.25), '-': () => view.zoom(0.8), 0: () => view.fit(),
       enter: start !== null && isBox && chosen.box !== start && (() => connect(start, chosen.box)) };
   const doing = ARROWS[event.key] && isBox && !isControl ? () => nudged(event.key, event.shiftKey, event.timeStamp) : keys[key];
   if (!doing || event.altKey || event.target.tagName === 'INPUT' || (key === 'enter' && event.target.tagName === 'BUTTON')) return;
@@ -668,7 +696,8 @@ document.addEventListener('keydown', event => {
 });
 
 const BUTTONS = { undo, redo, add: addBox, connect: begin, rename: () => rename(chosen.box), remove, save, fit: () => view.fit(),
-  in: () => view.zoom(1.25), out: () => view.zoom(0.8), export: () => act('saved diagram.svg', () => download('diagram.svg', 'image/svg+xml', svg())) };
+  in: () => view.zoom(1.25), out: () => view.zoom(0.8),
+  export: () => act('saved diagram.svg', () => download('diagram.svg', 'image/svg+xml', svg())) };
 for (const [id, doing] of Object.entries(BUTTONS)) $(id).onclick = doing;
 
 async function openFile(file) {
@@ -701,8 +730,15 @@ await act(HINT_WORDS, async () => {
   isEdited = old.isEdited;
 });
 if (kept()) act('here is what this tab had before it was loaded again', () => {});
-$('back').textContent = isLive ? 'The program reroute_live routes behind this page; whether its build is proved, out/reroute_live.built says.'
+$('back').textContent = isLive
+  ? 'The program reroute_live routes behind this page; whether its build is proved, out/reroute_live.built says.'
   : 'The engine runs in this page, as WebAssembly: tested against the program, not proved. Its source is proved.';
 // For a script that tries the page.
-window.reroute = { lines, shown, gml, svg, view, drawnAfter: performance.now(), isIdle: async () => { for (let last; last !== work;) { last = work; await last; } } };
+async function isIdle() {
+  for (let last; last !== work;) {
+    last = work;
+    await last;
+  }
+}
+window.reroute = { lines, shown, gml, svg, view, isIdle, drawnAfter: performance.now() };
 document.body.dataset.ready = 'yes';

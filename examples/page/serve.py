@@ -20,8 +20,10 @@ import tempfile
 import threading
 
 HERE = os.path.dirname(os.path.realpath(__file__))
+BINDINGS = f'{os.path.dirname(os.path.dirname(HERE))}/bindings'
 # What the page consists of, by path.
-FILES = {'/': f'{HERE}/index.html'}
+FILES = {'/': f'{HERE}/index.html', '/reroute.mjs': f'{BINDINGS}/reroute.mjs',
+         **{f'/{name}': f'{HERE}/{name}' for name in ('page.mjs', 'live.mjs', 'drawing.mjs', 'words.mjs', 'first.mjs')}}
 MOST_BYTES, MOST_SESSIONS = 16_777_216, 8
 
 

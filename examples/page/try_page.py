@@ -24,6 +24,11 @@ import xml.etree.ElementTree
 HERE = os.path.dirname(os.path.realpath(__file__))
 TOP = os.path.dirname(os.path.dirname(HERE))
 EXAMPLES = f'{TOP}/examples'
+# Files that are refused, and what the page then says.
+BAD_FILES = (
+    ('graph [\n  node [ id 1\n    label "ab', 'line 3, column 14: the file ends'), ('<xml>', 'XML or JSON'), ('node [ ]', 'no list graph'),
+    ('graph [\n  node [ id 1 graphics [ x 0 y 0 ] ]\n  node [ id 1 graphics [ x 9 y 0 ] ]\n]', 'line 3, column 3: node 2: an earlier'),
+    ('graph [ node [ id 1 graphics [ x 0 y 0 ] ]\nedge [ source 1 target 7 ] ]', 'line 2, column 1: edge 1: its source or its'))
 READY = 'new Promise(done => { const look = () => document.body?.dataset.ready ? done() : setTimeout(look, 10); look(); })'
 
 
@@ -302,7 +307,8 @@ class Trial:
     def overlapping(self):
         """How many boxes stand on others."""
         return self.tab.value('''(() => { const all = [...document.querySelectorAll('.box rect')].map(it => it.getBoundingClientRect());
-            return all.filter((a, i) => all.some((b, j) => i < j && a.left < b.right && b.left < a.right && a.top < b.bottom && b.top < a.bottom)).length; })()''')
+            const meet = (a, b) => a.left < b.right && b.left < a.right && a.top < b.bottom && b.top < a.bottom;
+            return all.filter((a, i) => all.some((b, j) => i < j && meet(a, b))).length; })()''')
 
     def boxes(self):
         tab = self.tab
@@ -423,18 +429,18 @@ class Trial:
         tab.open(f'{EXAMPLES}/editor.gml')
         self.expect('a file is opened', tab.count('.box') == 2 and tab.count('.group') == 1, tab.text('said'))
         saved = tab.saved('save', 'diagram.gml')
-        self.expect('and saved as the program writes it', saved == tab.value('reroute.gml()').encode('latin-1') and lines_in(saved.decode()) == tab.lines())
+        self.expect('and saved as the program writes it', saved == tab.value('reroute.gml()').encode('latin-1')
+                    and lines_in(saved.decode()) == tab.lines())
         self.picture('opened')
         picture = xml.etree.ElementTree.fromstring(tab.saved('export', 'diagram.svg'))
         classes = [it.get('class') or '' for it in picture.iter()]
-        self.expect('the picture is saved as SVG', picture.get('viewBox') is not None and 'hit' not in classes and any('line' in one for one in classes))
+        self.expect('the picture is saved as SVG', picture.get('viewBox') is not None and 'hit' not in classes
+                    and any('line' in one for one in classes))
 
     def refusals(self):
         tab = self.tab
         before = tab.count('.box')
-        for text, wanted in (('graph [\n  node [ id 1\n    label "ab', 'line 3, column 14: the file ends'), ('<xml>', 'XML or JSON'), ('node [ ]', 'no list graph'),
-                             ('graph [\n  node [ id 1 graphics [ x 0 y 0 ] ]\n  node [ id 1 graphics [ x 9 y 0 ] ]\n]', 'line 3, column 3: node 2: an earlier node'),
-                             ('graph [ node [ id 1 graphics [ x 0 y 0 ] ]\nedge [ source 1 target 7 ] ]', 'line 2, column 1: edge 1: its source or its target')):
+        for text, wanted in BAD_FILES:
             path = f'{self.browser.downloads}/bad.gml'
             with open(path, 'w', encoding='utf-8') as file:
                 file.write(text)

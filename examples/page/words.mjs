@@ -7,7 +7,8 @@ const OF_NODE = { 104: 'its id is missing, or is no whole number', 105: 'an earl
   112: 'x, y, w or h is no number', 122: 'a size is negative, or it reaches beyond 1,000,000 units' };
 const OF_EDGE = { 108: 'its source or its target names no node, or a class of pins that the node does not have', 109: 'a checkpoint has no place',
   110: 'its nudgeWeight is none of 1, 2, 3 and 4' };
-const OF_EDIT = { 9: 'a number is too large or too small', 11: 'the box has no pin of that class', 13: null, 17: 'a connector uses the pin',
+const OF_LIMIT = { 4: '4 checkpoints of a connector', 256: '256 boxes, 256 pins, 256 checkpoints', 512: '512 connectors' };
+const OF_EDIT = { 9: 'a number is too large or too small', 11: 'the box has no pin of that class', 17: 'a connector uses the pin',
   99: 'the engine has no memory left; nothing was changed' };
 
 /** Where the byte at an offset stands. */
@@ -43,5 +44,5 @@ export function ofDiagram({ code, value, message }, bytes) {
 
 /** A refused edit in words. */
 export function ofEdit({ code, value, message }) {
-  return code === 13 ? `a diagram has at most ${{ 512: '512 connectors' }[value] ?? `${value} boxes and ${value} pins`}` : OF_EDIT[code] ?? message;
+  return code === 13 ? `the limit is reached: ${OF_LIMIT[value] ?? value}` : OF_EDIT[code] ?? message;
 }

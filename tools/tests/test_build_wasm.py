@@ -116,8 +116,8 @@ class Page(unittest.TestCase):
             for path in (f'{TOP}/bindings/reroute.mjs', f'{TOP}/examples/page/drawing.mjs', f'{TOP}/examples/page/words.mjs'):
                 shutil.copy(path, folder)
             with open(f'{folder}/run.mjs', 'w', encoding='utf-8') as file:
-                file.write("import * as drawing from './drawing.mjs';\nimport * as words from './words.mjs';\nimport { Refused } from './reroute.mjs';\n"
-                           f'console.log({text});\n')
+                file.write("import * as drawing from './drawing.mjs';\nimport * as words from './words.mjs';\n"
+                           f"import {{ Refused }} from './reroute.mjs';\nconsole.log({text});\n")
             return subprocess.run(['node', f'{folder}/run.mjs'], capture_output=True, text=True, check=True).stdout.strip()
 
     def test_corners_are_round_and_crossings_have_bows(self):
