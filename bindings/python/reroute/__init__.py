@@ -33,7 +33,8 @@ Where a call is refused, its transaction is dropped:
 
 For a graph of networkx `route_graph` gives all lines at once, and `python -m reroute IN.gml -o OUT.svg` draws a file.
 `reroute.live` has the same calls over the program `reroute_live`. The library is taken from the variable REROUTE_LIBRARY
-if it is set, else from beside this package, else from where the system finds libreroute.so.0.
+if it is set, else from beside this package or where it was installed with it, else from where the system finds
+libreroute.so.0.
 """
 from ._faults import Code, Refused
 from ._graph import route_graph

@@ -5,6 +5,8 @@ import os
 
 SONAME = 'libreroute.so.0'
 BESIDE = os.path.join(os.path.dirname(os.path.realpath(__file__)), SONAME)
+# Where tools/build-library --install puts it, seen from where it puts this package.
+INSTALLED = os.path.join(os.path.dirname(os.path.realpath(__file__)), '..', '..', '..', '..', 'lib', SONAME)
 # Until 1.0 each minor version may change calls: 0.1, as major * 256 + minor.
 CALLS_OF = 1
 
@@ -45,8 +47,9 @@ CALLS = {
 
 
 def default_path() -> str:
-    """The library of the variable REROUTE_LIBRARY, else that beside this file, else that which the system finds."""
-    return os.environ.get('REROUTE_LIBRARY') or (BESIDE if os.path.exists(BESIDE) else SONAME)
+    """The library of the variable REROUTE_LIBRARY, else that beside this file or installed with it, else the system's."""
+    there = [path for path in (BESIDE, INSTALLED) if os.path.exists(path)]
+    return os.environ.get('REROUTE_LIBRARY') or (there + [SONAME])[0]
 
 
 @functools.lru_cache(maxsize=None)
