@@ -12,7 +12,7 @@ sys.dont_write_bytecode = True
 sys.path.insert(0, os.path.dirname(os.path.realpath(__file__)))
 from declared import owner_of  # noqa: E402
 
-Call = collections.namedtuple('Call', 'name path result lent taken clauses aliases')
+Call = collections.namedtuple('Call', 'name path result lent clauses aliases')
 Row = collections.namedtuple('Row', 'call answer when after')
 
 # An enum of answers that is no error: its answer for Ok, what its clauses say of all answers but some, and these.
@@ -56,9 +56,9 @@ def parts_at(text, mark=','):
 
 def closing(text, begin):
     """Where the bracket that opens at the place closes."""
-    depth = 0
+    depth, text = 0, text.replace('->', '  ')
     for at in range(begin, len(text)):
-        depth += (text[at] in '([{') - (text[at] in ')]}')
+        depth += (text[at] in '([{<') - (text[at] in ')]}>')
         if depth == 0:
             return at
     return len(text)
@@ -78,17 +78,8 @@ def clauses_of(lines):
 
 def contract_at(lines, at):
     """The lines of a declaration and its contract, up to its body or its end."""
-    indent = len(lines[at]) - len(lines[at].lstrip())
     for end in range(at, len(lines)):
-        line = lines[end]
-        if line == ' ' * indent + '{' or line.endswith(';') and end > at or (line.endswith((' {', ' {}', ';')) and
-                                                                            'ensures' not in line and end == at):
-            return lines[at:end + 1]
-        if end > at and line.startswith(' ' * indent) and line.rstrip().endswith('{}') and 'ensures' not in line:
-            return lines[at:end + 1]
-        if end > at and line == ' ' * indent + ') {':
-            return lines[at:end + 1]
-        if end > at and re.match(rf' {{{indent}}}\).* \{{$', line):
+        if re.match(r'\s*\{$', lines[end]) or ('ensures' not in lines[end] and re.search(r'(;| \{|\{\})$', lines[end])):
             return lines[at:end + 1]
     return lines[at:]
 
@@ -97,15 +88,12 @@ class Crates:
     """The public calls of all crates."""
 
     def __init__(self, tree):
-        self.tree, self.copied, self.enums = tree, set(), {}
+        self.tree, self.enums = tree, {}
         for path in tree.files:
             if path.startswith('crates/') and path.endswith('.rt'):
                 self.read_types(tree.text(path))
 
     def read_types(self, text):
-        for derived, name in re.findall(r'#\[derive\(([^)]*)\)\]\s*(?:#\[[^\n]*\]\s*)*pub(?:\([^)]*\))? (?:struct|enum) (\w+)', text):
-            if 'Copy' in derived:
-                self.copied.add(name)
         for name, body in re.findall(r'(?ms)^pub enum (\w+)[^{;]*\{\n(.*?)^\}', text):
             self.enums[name] = re.findall(r'(?m)^    ([A-Z]\w*)', body)
 
@@ -143,37 +131,14 @@ class Crates:
         begin = text.index('(', text.index('fn '))
         if '<' in text[:begin]:
             # (a type parameter may be a function)
-            begin = text.index('(', closing_angle(text, text.index('<')))
+            begin = text.index('(', closing(text, text.index('<')))
         end = closing(text, begin)
         result = re.match(r'\s*->\s*(.*?)\s*(?:where .*)?[{;]?(?: ?\{?\}?)$', text[end + 1:])
         if not result:
             return None
-        lent, taken = [], []
-        for parameter in parts_at(text[begin + 1:end]):
-            self.add_parameter(parameter, name.split('::')[0], lent, taken)
-        return Call(name, path, result[1].strip(), lent, taken, clauses_of(lines[head:]), aliases)
-
-    def add_parameter(self, parameter, owner, lent, taken):
-        """What a call may change, and what it takes."""
-        if re.match(r"&('\w+ )?mut self$", parameter):
-            lent.append('self')
-        elif parameter in ('self', 'mut self'):
-            taken.extend([] if owner in self.copied else ['self'])
-        elif ':' in parameter:
-            name, kind = (part.strip() for part in parameter.split(':', 1))
-            name = name.replace('mut ', '')
-            if re.match(r"&('\w+ )?mut ", kind):
-                lent.append(name)
-            elif not self.is_copied(kind):
-                taken.append(name)
-
-    def is_copied(self, kind):
-        kind = kind.strip()
-        inner = re.match(r'(?:Option|Result)<(.*)>$', kind) or re.match(r'\[(.*?)(?:;.*)?\]$', kind) or re.match(r'\((.*)\)$', kind)
-        if inner:
-            return all(self.is_copied(part) for part in parts_at(inner[1]))
-        name = re.sub(r'<.*', '', kind).split('::')[-1]
-        return kind.startswith('&') or name in self.copied or name == 'Global' or re.match(r'(?:[iu]\d+|[iu]size|bool|char)$', name)
+        inside = text[begin + 1:end]
+        lent = ['self'] * bool(re.match(r" ?&(?:'\w+ )?mut self\b", inside)) + re.findall(r"(\w+): &(?:'\w+ )?mut ", inside)
+        return Call(name, path, result[1].strip(), lent, clauses_of(lines[head:]), aliases)
 
 
 def aliases_of(text):
@@ -182,16 +147,6 @@ def aliases_of(text):
     for kind, alias, listed in re.findall(r'(\w+)\.TheVariants(?: as (\w+)|\.\{([^}]*)\})', text):
         found[kind].update([alias + '.'] if alias else [''])
     return found
-
-
-def closing_angle(text, begin):
-    depth, at = 0, begin
-    text = text.replace('->', '  ')
-    for at in range(begin, len(text)):
-        depth += (text[at] == '<') - (text[at] == '>')
-        if depth == 0:
-            break
-    return at
 
 
 # ---- which clause says what ----
@@ -300,7 +255,7 @@ class Answers:
     def after(self, call, before):
         """The clauses for all that is lent; empty where something has none."""
         if not call.lent:
-            return f'takes {", ".join(f"`{name}`" for name in call.taken)}' if call.taken else ONLY_READS
+            return ONLY_READS
         found, without = [], []
         for name in call.lent:
             clauses = [clause for clause in call.clauses if says_after(clause[1], before, name)]
