@@ -13,6 +13,7 @@ Both raise `gml.Fault` for a diagram that is none, or a program that does not ru
 sides (`starts`), takes the best, then the best buffer, and tries other places and sides edge by edge, each by a preview.
 """
 import collections
+import itertools
 import subprocess
 import tempfile
 
@@ -149,7 +150,7 @@ class Scene:
         self.solids = [box for box in self.boxes.values() if not box.is_group]
         sizes = sorted(min(box.w, box.h) for box in self.solids)
         self.unit = max(1, min(1000, sizes[len(sizes) // 2] // USUAL_SIDE)) if sizes else 1000
-        self.bare = set()                           # ends that get no pin
+        self.bare = set(self.ends)                  # ends that have no pin
         for end in self.ends:
             end.kind = end.box.last = end.box.class_after(end.box.last)
 
@@ -541,39 +542,41 @@ class Estimates:
                 return False
         return True
 
-    def ports(self, box, side, other):
-        """Places outside of a side where a line could begin: before its middle, and as near to the other box as can be."""
-        low, high, _ = self.scene.limits(box, side)
+    def port(self, box, side, t):
+        """The point outside of a place on a side where a line leaves the buffer."""
         out = box.depth(side) + (self.buffer if side in 'SE' else -self.buffer)
-        towards = min(max(other.middle(side) - box.middle(side), low), high)
-        for t in dict.fromkeys((0, towards)):
-            yield (box.x + t, box.y + out) if side in 'NS' else (box.x + out, box.y + t)
+        return (box.x + t, box.y + out) if side in 'NS' else (box.x + out, box.y + t)
 
     def simple_lines(self, boxes, sides):
-        """The lines between two sides with the fewest bends that the sides allow; of those that face, in three channels."""
-        one, two = boxes
-        turned = 1 if sides[0] in 'NS' else -1
-        for start in self.ports(one, sides[0], two):
-            for end in self.ports(two, sides[1], one):
-                # (x, y and u, v as if the first side were the upper or the lower one)
-                (x, y), (u, v) = start[::turned], end[::turned]
-                if OPPOSITE[sides[0]] == sides[1]:
-                    if (v - y) * (1 if sides[0] in 'SE' else -1) < 0:
-                        continue
-                    channels = [y + (v - y) * part // 4 for part in (1, 2, 3)]
-                    lines = [[(x, y), (x, at), (u, at), (u, v)] for at in channels] if x != u else [[(x, y), (u, v)]]
-                elif sides[0] == sides[1]:
-                    at = max(y, v) if sides[0] in 'SE' else min(y, v)
-                    lines = [[(x, y), (x, at), (u, at), (u, v)]]
-                else:
-                    is_ahead = (v - y) * (1 if sides[0] in 'SE' else -1) >= 0 and \
-                        (x - u) * (1 if sides[1] in 'SE' else -1) >= 0
-                    lines = [[(x, y), (x, v), (u, v)]] if is_ahead else []
-                yield from ([point[::turned] for point in line] for line in lines)
+        """Lines of two or three runs between two sides that allow it: round a corner, or in three channels between the sides."""
+        turned, sign = (1 if sides[0] in 'NS' else -1), (1 if sides[0] in 'SE' else -1)
+        places = []
+        for box, other, side in zip(boxes, boxes[::-1], sides):
+            low, high, _ = self.scene.limits(box, side)
+            places.append(sorted({low, 0, high, min(max(other.middle(side) - box.middle(side), low), high)}))
+        for p, q in itertools.product(*places):
+            # (x, y and u, v as if the first side were the upper or the lower one)
+            (x, y), (u, v) = (self.port(box, side, t)[::turned] for box, side, t in zip(boxes, sides, (p, q)))
+            if OPPOSITE[sides[0]] == sides[1]:
+                lines = [[(x, y), (x, at), (u, at), (u, v)] for at in (y + (v - y) * part // 4 for part in (1, 2, 3))]
+            else:
+                is_ahead = (v - y) * sign >= 0 and (x - u) * (1 if sides[1] in 'SE' else -1) >= 0
+                lines = [[(x, y), (x, v), (u, v)]] if is_ahead else []
+            yield from ([point[::turned] for point in line] for line in lines)
 
-    def cost(self, line, bends):
-        length = sum(abs(x - u) + abs(y - v) for (x, y), (u, v) in zip(line, line[1:]))
-        return (length + 2 * self.buffer) / self.scene.unit + BEND * bends
+    def bends(self, boxes, sides):
+        (one, two), (side, other) = boxes, sides
+        if side == other:
+            return 2
+        if OPPOSITE[side] == other:
+            ahead = two.y + two.depth(other) - one.y - one.depth(side) if side in 'NS' else \
+                two.x + two.depth(other) - one.x - one.depth(side)
+            if (ahead if side in 'SE' else -ahead) < 2 * self.buffer:
+                return 4
+            if abs(one.middle(side) - two.middle(side)) < (one.room(side) + two.room(side)) // 2 - 2 * PAD * self.scene.unit:
+                return 0
+            return 2 if any(self.is_clear(line, boxes) for line in self.simple_lines(boxes, sides)) else 4
+        return 1 if any(self.is_clear(line, boxes) for line in self.simple_lines(boxes, sides)) else 3
 
     def of(self, edge, *sides):
         key = edge.place, sides
@@ -582,14 +585,10 @@ class Estimates:
         return self.known[key]
 
     def anew(self, boxes, sides):
-        is_corner = (sides[0] in 'NS') != (sides[1] in 'NS')
-        ports = [next(self.ports(box, side, boxes[1 - k])) for k, (box, side) in enumerate(zip(boxes, sides))]
-        least = self.cost(ports, 3 if is_corner else 4)
-        for line in self.simple_lines(boxes, sides):
-            cost = self.cost(line, len(line) - 2)
-            if cost < least and self.is_clear(line, boxes):
-                least = cost
-        return least
+        (x, y), (u, v) = (self.port(box, side, 0) for box, side in zip(boxes, sides))
+        slack = boxes[0].room(sides[0]) // 2 + (boxes[1].room(sides[1]) // 2 if sides[0] != sides[1] else 0)
+        length = max(0, abs(x - u) + abs(y - v) - slack) + 2 * self.buffer
+        return length / self.scene.unit + BEND * self.bends(boxes, sides)
 
 
 # ---- the search ----
@@ -684,7 +683,6 @@ class Search:
 
     def start(self):
         """Commits the best of four ways to give sides; the first way is that of the lines without pins."""
-        self.scene.bare = set(self.scene.ends)
         self.set_buffer(self.buffers[len(self.buffers) // 2])
         self.by_lines()
         starts = []
