@@ -14,10 +14,9 @@ sides (`starts`), takes the best, then the best buffer, and tries other places a
 """
 import collections
 import itertools
-import subprocess
-import tempfile
 
 import gml
+import live as running
 
 TRIES = 1000
 MOST_PINS = 255                     # (one less than a diagram has, since an end that moves has two for a moment)
@@ -43,14 +42,12 @@ class Choice:
     lines     {place of edge: [(x, y), ..]}, as reroute_live drew them; None for an edge without a legal route; {} by `plain`
     """
 
-    def __init__(self, settings, buffer, ends, bare, lines=None):
-        self.settings, self.buffer, self.bare, self.lines = settings, buffer, bare, lines or {}
+    def __init__(self, settings, buffer, scene, lines):
+        self.settings, self.buffer, self.bare, self.lines = settings, buffer, len(scene.bare), lines
         self.pins, self.classes = [], {}
-        kinds = collections.defaultdict(int)
-        for end in sorted(ends, key=lambda end: (end.box.place, SIDES.index(end.side), end.t, end.edge.place)):
-            kinds[end.box.id] = end.box.class_after(kinds[end.box.id])
-            self.pins.append((end.box.id, kinds[end.box.id], *end.point(), end.side))
-            self.classes.setdefault(end.edge.place, list(end.edge.classes))[end.k] = kinds[end.box.id]
+        for end in sorted(set(scene.ends) - scene.bare, key=lambda end: (end.box.place, end.kind)):
+            self.pins.append((end.box.id, end.kind, *end.point(), end.side))
+            self.classes.setdefault(end.edge.place, list(end.edge.classes))[end.k] = end.kind
 
     def script(self):
         """The lines of a script that does it, from begin to commit."""
@@ -78,11 +75,10 @@ class Choice:
 # ---- boxes and ends ----
 
 class Box:
-    def __init__(self, node):
-        self.place, self.id, self.is_group = node.place, node.id, node.is_group
+    def __init__(self, node, unit):
+        self.place, self.id, self.is_group, self.unit = node.place, node.id, node.is_group, unit
         self.x, self.y, self.w, self.h = node.x, node.y, node.w, node.h
-        self.kept = [pin.kind for pin in node.pins]
-        self.kinds, self.last = list(self.kept), 0  # the classes of its pins as the program has them, in their order
+        self.kinds = [pin.kind for pin in node.pins]  # the classes of its pins as the program has them, in their order
 
     def room(self, side):
         return self.w if side in 'NS' else self.h
@@ -94,34 +90,51 @@ class Box:
         """How far its side is from its centre, to the east or south."""
         return {'N': -(self.h // 2), 'S': self.h // 2, 'W': -(self.w // 2), 'E': self.w // 2}[side]
 
-    def class_after(self, kind):
-        """The next class that none of the pins has that the diagram came with."""
-        kind += 1
-        while kind in self.kept:
-            kind += 1
-        return kind
+    def limits(self, side, count=1):
+        """The first and the last place for so many ends on a side, from its middle, and the gap between them."""
+        room = self.room(side)
+        pad = min(PAD * self.unit, room // (count + 1))
+        low, high = -(room // 2) + pad, room // 2 - pad
+        return low, high, min(GAP * self.unit, (high - low) // (count - 1)) if count > 1 else 0
 
 
 class End:
     """One end of an edge that came without a class: on a side of its box, at t from the middle of the side."""
 
-    def __init__(self, edge, k, box, far):
-        self.edge, self.k, self.box, self.far = edge, k, box, far
-        self.side, self.t, self.order, self.other = 'E', 0, (), None
-        self.kind, self.told = 0, None              # its class in the program, and its side and place as it has them
+    def __init__(self, edge, k, kind):
+        self.edge, self.k, self.kind, self.box, self.far = edge, k, kind, edge.boxes[k], edge.boxes[1 - k]
+        self.side, self.t, self.order, self.other, self.told = 'E', 0, (), None, None
 
     def at(self):
         return self.box.middle(self.side) + self.t
+
+    def span(self):
+        low, high, _ = self.box.limits(self.side)
+        return low + self.box.middle(self.side), high + self.box.middle(self.side)
 
     def point(self):
         across = self.box.depth(self.side)
         return (self.t, across) if self.side in 'NS' else (across, self.t)
 
+    def pin(self):
+        x, y = self.point()
+        return f'pin {self.box.id} {self.kind} {gml.units(x)} {gml.units(y)} {self.side}'
+
     def faces(self):
-        return self.other is not None and OPPOSITE[self.other.side] == self.side
+        """Whether its side and that of the other end look at each other."""
+        if self.other is None or OPPOSITE[self.other.side] != self.side:
+            return False
+        away = self.far.y - self.box.y if self.side in 'NS' else self.far.x - self.box.x
+        return (away if self.side in 'SE' else -away) > 0
 
     def is_straight(self):
         return self.faces() and self.other.at() == self.at()
+
+    def towards(self):
+        """The place on its side, from the middle, that is nearest to the other end or the other box."""
+        low, high, _ = self.box.limits(self.side)
+        is_along = self.other and (self.other.side in 'NS') == (self.side in 'NS')
+        return min(max((self.other.at() if is_along else self.far.middle(self.side)) - self.box.middle(self.side), low), high)
 
     def tie(self):
         """Parallel edges go clockwise round the one box and the other way round the other, so that they do not cross."""
@@ -130,98 +143,48 @@ class End:
 
 class Edge:
     def __init__(self, edge, boxes):
-        self.place, self.classes = edge.place, list(edge.classes)
-        self.told = list(edge.classes)              # the classes as the program has them
-        self.boxes = [boxes[edge.source], boxes[edge.target]]
-        self.is_loop = edge.source == edge.target
-        self.ends = [None if self.is_loop or edge.classes[k] else End(self, k, self.boxes[k], self.boxes[1 - k])
-                     for k in (0, 1)]
-        if all(self.ends):
-            self.ends[0].other, self.ends[1].other = self.ends[::-1]
+        self.place, self.classes, self.is_loop = edge.place, edge.classes, edge.source == edge.target
+        self.boxes, self.ends = (boxes[edge.source], boxes[edge.target]), [None, None]
 
 
 class Scene:
     """The boxes and edges of a diagram, its ends without a class, and its scale: one unit in thousandths."""
 
     def __init__(self, diagram):
-        self.boxes = {node.id: Box(node) for node in diagram.nodes}
-        self.edges = [Edge(edge, self.boxes) for edge in diagram.edges]
-        self.ends = [end for edge in self.edges for end in edge.ends if end]
-        self.solids = [box for box in self.boxes.values() if not box.is_group]
-        sizes = sorted(min(box.w, box.h) for box in self.solids)
+        sizes = sorted(min(node.w, node.h) for node in diagram.nodes if not node.is_group)
         self.unit = max(1, min(1000, sizes[len(sizes) // 2] // USUAL_SIDE)) if sizes else 1000
+        boxes = {node.id: Box(node, self.unit) for node in diagram.nodes}
+        self.edges = [Edge(edge, boxes) for edge in diagram.edges]
+        self.solids = [box for box in boxes.values() if not box.is_group]
+        self.kept, self.ends = sum(len(box.kinds) for box in boxes.values()), []
+        unused = {box: (kind for kind in itertools.count(1) if kind not in tuple(box.kinds)) for box in boxes.values()}
+        for edge in self.edges:
+            for k in (0, 1):
+                if not edge.is_loop and not edge.classes[k]:
+                    edge.ends[k] = End(edge, k, next(unused[edge.boxes[k]]))
+                    self.ends.append(edge.ends[k])
+            if all(edge.ends):
+                edge.ends[0].other, edge.ends[1].other = edge.ends[::-1]
         self.bare = set(self.ends)                  # ends that have no pin
-        for end in self.ends:
-            end.kind = end.box.last = end.box.class_after(end.box.last)
 
     def rows(self):
         """The ends on each side of each box."""
         found = collections.defaultdict(list)
         for end in self.ends:
-            found[end.box.id, end.side].append(end)
+            found[end.box, end.side].append(end)
         return found
 
     def row(self, box, side):
         return sorted((end for end in self.ends if end.box is box and end.side == side),
                       key=lambda end: (end.t, end.edge.place))
 
-    def limits(self, box, side, count=1):
-        """The first and the last place for so many ends on a side, and the gap between them."""
-        room = box.room(side)
-        pad = min(PAD * self.unit, room // (count + 1))
-        low, high = -(room // 2) + pad, room // 2 - pad
-        return low, high, min(GAP * self.unit, (high - low) // (count - 1)) if count > 1 else 0
-
     def choose_bare(self):
         """Where there are more ends than pins: those alone on their side have none, then those of the emptiest sides."""
-        over = len(self.ends) + sum(len(box.kept) for box in self.boxes.values()) - MOST_PINS
-        self.bare = set()
+        over, self.bare = len(self.ends) + self.kept - MOST_PINS, set()
         for row in sorted(self.rows().values(), key=lambda row: (len(row), sum(abs(end.t) for end in row),
                                                                  row[0].edge.place)):
             if len(self.bare) < over:
                 self.bare.update(row)
-
-
-# ---- the program ----
-
-class Session:
-    """A running reroute_live with a diagram."""
-
-    def __init__(self, program, data):
-        self.file = tempfile.NamedTemporaryFile(suffix='.gml')
-        self.file.write(data)
-        self.file.flush()
-        pipe = subprocess.PIPE
-        self.run = subprocess.Popen([program, self.file.name], stdin=pipe, stdout=pipe, stderr=pipe)
-
-    def ask(self, requests):
-        """What the replies report of each connector, and the first refusal."""
-        found, refusal, left = {}, None, len(requests)
-        try:
-            self.run.stdin.write(''.join(f'{request}\n' for request in requests).encode())
-            self.run.stdin.flush()
-        except BrokenPipeError:
-            pass                                    # (it has ended, and says why)
-        while left:
-            words = self.run.stdout.readline().split()
-            if not words:
-                raise gml.Fault('reroute_live ended: ' + self.run.stderr.read().decode('utf-8', 'replace').strip())
-            if words[0] == b'line':
-                numbers = [int(word.replace(b'.', b'')) for word in words[2:]]
-                found[int(words[1])] = list(zip(numbers[::2], numbers[1::2]))
-            elif words[0] == b'no':
-                found[int(words[2])] = None
-            else:
-                left -= 1
-                refusal = refusal or (b' '.join(words).decode() if words[0] == b'refused' else None)
-        return found, refusal
-
-    def close(self):
-        self.run.stdin.close()
-        self.run.stdout.close()
-        self.run.stderr.close()
-        self.run.wait()
-        self.file.close()
 
 
 # ---- what a picture costs ----
@@ -275,61 +238,41 @@ def together(one, two, unit):
 
 
 class Picture:
-    """All lines, what each costs, and what each pair costs."""
+    """All lines by the places of their edges; None where there is no legal route."""
 
-    def __init__(self, edges, unit):
-        self.edges = {edge.place: edge for edge in edges if not edge.is_loop}
-        self.unit = unit
+    def __init__(self, scene, lines):
+        self.edges, self.unit = {edge.place: edge for edge in scene.edges if not edge.is_loop}, scene.unit
         self.drawn = dict.fromkeys(self.edges)
-        self.pairs = {place: {} for place in self.edges}
+        self.drawn.update(self.drawn_from(lines))
 
-    def alone(self, drawn):
-        return drawn.cost if drawn else UNROUTED
+    def drawn_from(self, lines):
+        return {place: line and Drawn(line, self.edges[place], self.unit) for place, line in lines.items()}
+
+    def cost(self, places, drawn):
+        """What some lines cost alone, and with each other and all others."""
+        near, total = NEAR * self.unit, 0
+        for place in places:
+            line = drawn[place]
+            if line is None:
+                total += UNROUTED
+                continue
+            left, top, right, bottom = line.frame
+            left, top, right, bottom = left - near, top - near, right + near, bottom + near
+            total += line.cost
+            for number, other in drawn.items():
+                # (a pair of two of the places is counted once)
+                if other and number != place and (number > place or number not in places):
+                    frame = other.frame
+                    if frame[0] < right and left < frame[2] and frame[1] < bottom and top < frame[3]:
+                        total += together(line, other, self.unit)
+        return total
 
     def total(self):
-        return sum(map(self.alone, self.drawn.values())) + sum(sum(row.values()) for row in self.pairs.values()) / 2
+        return self.cost(self.edges, self.drawn)
 
-    def of_edge(self, place):
-        return self.alone(self.drawn[place]) + sum(self.pairs[place].values())
-
-    def row_of(self, place, drawn, others):
-        """What a line costs together with each of some others."""
-        row, near, unit = {}, NEAR * self.unit, self.unit
-        left, top, right, bottom = drawn.frame
-        left, top, right, bottom = left - near, top - near, right + near, bottom + near
-        for number, other in others:
-            if other is not None and number != place:
-                frame = other.frame
-                if frame[0] < right and left < frame[2] and frame[1] < bottom and top < frame[3]:
-                    cost = together(drawn, other, unit)
-                    if cost:
-                        row[number] = cost
-        return row
-
-    def change(self, lines):
-        """What the picture costs more with these lines, and what `put` needs to draw them."""
-        new = {place: Drawn(line, self.edges[place], self.unit) if line else None for place, line in lines.items()}
-        after = list({**self.drawn, **new}.items())
-        more, rows = 0.0, {}
-        for place, drawn in new.items():
-            row = rows[place] = self.row_of(place, drawn, after) if drawn else {}
-            more += self.alone(drawn) - self.alone(self.drawn[place])
-            # (a pair of which both are new is counted at the first)
-            more += sum(cost for other, cost in row.items() if other not in new or other > place)
-            more -= sum(cost for other, cost in self.pairs[place].items() if other not in new or other > place)
-        return more, (new, rows)
-
-    def put(self, change):
-        new, rows = change
-        for place in rows:
-            for other in self.pairs[place]:
-                self.pairs[other].pop(place, None)
-            self.pairs[place] = {}
-        for place, row in rows.items():
-            self.pairs[place] = dict(row)
-            for other, cost in row.items():
-                self.pairs[other][place] = cost
-        self.drawn.update(new)
+    def more_with(self, lines):
+        """What the picture costs more with these lines."""
+        return self.cost(lines, {**self.drawn, **self.drawn_from(lines)}) - self.cost(lines, self.drawn)
 
 
 # ---- places on a side ----
@@ -346,56 +289,6 @@ def fitted(wants, low, high, gap):
     return [round(min(max(value, low), high - (len(wants) - 1) * gap)) + i * gap for i, value in enumerate(flat)]
 
 
-class Limits:
-    """The lowest and highest places of ends, of which some follow others at a gap, and pairs have the same place.
-
-    Both kinds are kept as values that only rise: `of[1]` has the lowest places, `of[-1]` the highest with their signs changed.
-    """
-
-    def __init__(self):
-        self.of, self.links, self.mate = {1: {}, -1: {}}, {1: {}, -1: {}}, {}
-
-    def add_row(self, row, low, high, gap):
-        for i, end in enumerate(row):
-            self.of[1][end], self.of[-1][end] = low + i * gap, -(high - (len(row) - 1 - i) * gap)
-            if i:
-                self.links[1][row[i - 1]], self.links[-1][end] = (end, gap), (row[i - 1], gap)
-
-    def span(self, end):
-        return self.of[1][end], -self.of[-1][end]
-
-    def raise_to(self, way, end, value):
-        """Carries a limit on to the ends that it binds; whether all of them have a place left."""
-        limits, against, work = self.of[way], self.of[-way], [(end, value)]
-        while work:
-            end, value = work.pop()
-            if limits[end] < value:
-                limits[end] = value
-                if value + against[end] > 0:
-                    return False
-                if end in self.mate:
-                    work.append((self.mate[end], value))
-                if end in self.links[way]:
-                    following, gap = self.links[way][end]
-                    work.append((following, value + gap))
-        return True
-
-    def narrow(self, end, low, high):
-        return self.raise_to(1, end, low) and self.raise_to(-1, end, -high)
-
-    def join(self, one, two, low, high):
-        """Gives two ends the same place, in these limits, if there is room."""
-        saved = {way: dict(limits) for way, limits in self.of.items()}
-        spans = self.span(one), self.span(two)
-        self.mate[one], self.mate[two] = two, one
-        low, high = max(low, *(span[0] for span in spans)), min(high, *(span[1] for span in spans))
-        if low <= high and self.narrow(one, low, high) and self.narrow(two, low, high):
-            return True
-        self.of = saved
-        del self.mate[one], self.mate[two]
-        return False
-
-
 class Places:
     """Gives ends their places on the sides that they have."""
 
@@ -404,11 +297,8 @@ class Places:
 
     def want(self, end, even):
         """The even place of an end, but on a long side not far from the place that is nearest to its other end."""
-        low, high, _ = self.scene.limits(end.box, end.side)
-        is_along = end.other and (end.other.side in 'NS') == (end.side in 'NS')
-        target = (end.other.at() if is_along else end.far.middle(end.side)) - end.box.middle(end.side)
-        target, reach = min(max(target, low), high), REACH * self.unit
-        return min(max(even, target - reach), target + reach)
+        reach = REACH * self.unit
+        return min(max(even, end.towards() - reach), end.towards() + reach)
 
     def evenly(self, row):
         """The wanted place of each end of a side."""
@@ -432,77 +322,75 @@ class Places:
                      if part[0] <= part[1]]
         return max(parts, key=lambda part: part[1] - part[0], default=None)
 
-    def facing_pairs(self, limits, wants, buffer):
-        """The pairs of ends that could have one place, those first that differ least, with the part that is free."""
+    def facing_pairs(self, wants, buffer):
+        """The pairs of ends that could have one place (low, high), those first that differ least."""
         found = []
         for one, two in (edge.ends for edge in self.scene.edges if all(edge.ends)):
-            away = two.box.y - one.box.y if one.side in 'NS' else two.box.x - one.box.x
-            if one.faces() and (away if one.side in 'SE' else -away) > 0:
-                spans = limits.span(one), limits.span(two)
+            if one.faces():
+                spans = one.span(), two.span()
                 low, high = max(span[0] for span in spans), min(span[1] for span in spans)
                 part = self.free(one, two, low, high, buffer) if low <= high else None
                 if part:
                     found.append((abs(wants[one] - wants[two]), one.edge.place, part, one, two))
-        return [(part, one, two) for _, _, part, one, two in sorted(found, key=lambda pair: pair[:2])]
+        return sorted(found, key=lambda pair: pair[:2])
 
     def place_all(self, buffer, keeps_order=False):
         """Gives each end its place: opposite its other end where order, gap and boxes allow, else evenly."""
-        limits, wants, rows = Limits(), {}, self.scene.rows()
+        rows, wants, held = self.scene.rows(), {}, set()
         for row in rows.values():
             row.sort(key=(lambda end: (end.t, end.edge.place)) if keeps_order else (lambda end: end.order))
-            middle = row[0].box.middle(row[0].side)
-            low, high, gap = self.scene.limits(row[0].box, row[0].side, len(row))
-            limits.add_row(row, middle + low, middle + high, gap)
-            wants.update((end, middle + place) for end, place in zip(row, self.evenly(row)))
-        joined = [(one, two) for part, one, two in self.facing_pairs(limits, wants, buffer)
-                  if limits.join(one, two, *part)]
-        for one, two in joined:
-            low, high = limits.span(one)
-            place = min(max((wants[one] + wants[two]) // 2, low), high)
-            limits.narrow(one, place, place)
-            one.t, two.t = place - one.box.middle(one.side), place - two.box.middle(two.side)
+            wants.update(zip(row, (row[0].box.middle(row[0].side) + place for place in self.evenly(row))))
         for row in rows.values():
-            middle = row[0].box.middle(row[0].side)
-            self.fit(row, [(end.t, 1e6) if end in limits.mate else (wants[end] - middle, 1) for end in row])
+            self.fit(row, wants, held)
+        for _, _, (low, high), one, two in self.facing_pairs(wants, buffer):
+            sides = rows[one.box, one.side], rows[two.box, two.side]
+            before = [(end, end.t) for row in sides for end in row]
+            held |= {one, two}
+            for end, row in zip((one, two), sides):
+                end.t = min(max((wants[one] + wants[two]) // 2, low), high) - end.box.middle(end.side)
+                self.fit(row, wants, held)
+            if not all(end.is_straight() for end, _ in before if end in held):
+                held -= {one, two}
+                for end, t in before:
+                    end.t = t
 
-    def fit(self, row, wants):
-        limits = self.scene.limits(row[0].box, row[0].side, len(row))
-        for end, place in zip(row, fitted(wants, *limits)):
-            end.t = place
+    def fit(self, row, wants, held):
+        """The places on one side that are nearest to the wanted ones; those that are held stay if they can."""
+        limits, middle = row[0].box.limits(row[0].side, len(row)), row[0].box.middle(row[0].side)
+        places = fitted([(end.t, 1e6) if end in held else (wants[end] - middle, 1) for end in row], *limits)
+        for end, t in zip(row, places):
+            end.t = t
 
     def refit(self, box, side, held=None, evenly=True):
         """The places of the ends of one side anew, in their order; those whose lines are straight stay if they can."""
         row = self.scene.row(box, side)
         if row:
-            wants = self.evenly(row) if evenly else [end.t for end in row]
-            self.fit(row, [(end.t, 1e6) if end is held or end.is_straight() else (want, 1)
-                           for end, want in zip(row, wants)])
+            wants = [box.middle(side) + place for place in self.evenly(row)] if evenly else [end.at() for end in row]
+            self.fit(row, dict(zip(row, wants)), {end for end in row if end is held or end.is_straight()})
 
 
-def untidy(places, room, unit):
-    """What the places (t, most) on one side cost by their looks: far from even ones, near a corner, near each other."""
-    total, last = 0.0, None
-    for i, (t, most) in enumerate(sorted(places), 1):
-        total += min(1.1 * abs(t - room * i // (len(places) + 1) + room // 2) / unit, most)
+def untidy(row, unit):
+    """What the places on one side cost by their looks: far from even ones, near a corner, near each other."""
+    total, last, room = 0.0, None, row[0].box.room(row[0].side)
+    for i, end in enumerate(sorted(row, key=lambda end: end.t), 1):
+        uneven = 1.1 * abs(end.t - room * i // (len(row) + 1) + room // 2) / unit
+        total += min(uneven, 16 if end.is_straight() else 40)
         if room > 24 * unit:
-            total += max(0.0, 8 - (room / 2 - abs(t)) / unit) * 1.5
+            total += max(0.0, 8 - (room / 2 - abs(end.t)) / unit) * 1.5
         if last is not None:
-            total += max(0.0, 8 - (t - last) / unit) * 3
-        last = t
+            total += max(0.0, 8 - (end.t - last) / unit) * 3
+        last = end.t
     return total
 
 
 # ---- sides ----
 
-def facing_side(box, other, prefers=SIDES):
-    """The side of a box that faces another one; above and below (NS) or left and right (EW) where both would do."""
+def facing_side(box, other):
+    """The side of a box that faces another one most."""
     dx, dy = other.x - box.x, other.y - box.y
-    is_tall = abs(dy) * (box.w + other.w) >= abs(dx) * (box.h + other.h)
-    if prefers == 'NS' and abs(dy) * 2 > box.h + other.h:
-        is_tall = True
-    if prefers == 'EW' and abs(dx) * 2 > box.w + other.w:
-        is_tall = False
-    return ('S' if dy >= 0 else 'N') if is_tall else ('E' if dx > 0 else 'W')
+    if abs(dy) * (box.w + other.w) >= abs(dx) * (box.h + other.h):
+        return 'S' if dy >= 0 else 'N'
+    return 'E' if dx > 0 else 'W'
 
 
 def order_by_angle(end):
@@ -520,10 +408,10 @@ def order_by_angle(end):
 def side_and_order(corners, end):
     """The side by which a line leaves, and where it stands among those that leave there: by its turn, then how far that is."""
     (x, y), (u, v) = corners[:2]
-    end.side = ('E' if u > x else 'W') if abs(u - x) > abs(v - y) else ('S' if v > y else 'N')
-    way, far = 0 if end.side in 'NS' else 1, abs(u - x) + abs(v - y)
+    side = ('E' if u > x else 'W') if abs(u - x) > abs(v - y) else ('S' if v > y else 'N')
+    way, far = 0 if side in 'NS' else 1, abs(u - x) + abs(v - y)
     turn = corners[2][way] - corners[1][way] if len(corners) > 2 else 0
-    end.order = (turn > 0) - (turn < 0), (far if turn < 0 else -far if turn > 0 else 0), corners[-1][way], end.tie()
+    return side, ((turn > 0) - (turn < 0), far if turn < 0 else -far if turn > 0 else 0, corners[-1][way], end.tie())
 
 
 class Estimates:
@@ -552,7 +440,7 @@ class Estimates:
         turned, sign = (1 if sides[0] in 'NS' else -1), (1 if sides[0] in 'SE' else -1)
         places = []
         for box, other, side in zip(boxes, boxes[::-1], sides):
-            low, high, _ = self.scene.limits(box, side)
+            low, high, _ = box.limits(side)
             places.append(sorted({low, 0, high, min(max(other.middle(side) - box.middle(side), low), high)}))
         for p, q in itertools.product(*places):
             # (x, y and u, v as if the first side were the upper or the lower one)
@@ -596,105 +484,96 @@ class Estimates:
 class Search:
     """Changes sides and places as long as the picture of a session gets better."""
 
-    def __init__(self, scene, session, buffer, tries, say):
+    def __init__(self, scene, session, tries, say):
         self.scene, self.session, self.tries, self.say = scene, session, tries, say
-        self.buffers = [buffer] if buffer else [round(units * scene.unit) or 1 for units in BUFFERS]
-        self.picture, self.places = Picture(scene.edges, scene.unit), Places(scene)
+        self.picture, self.places = Picture(scene, session.ask(['lines'])[0]), Places(scene)
         self.used, self.failed = 0, {}
-        self.buffer, self.estimates = 0, None
 
     def state(self):
         return [(end.side, end.t) for end in self.scene.ends]
 
     def restore(self, state):
-        for end, (end.side, end.t) in zip(self.scene.ends, state):
-            pass
+        for end, (side, t) in zip(self.scene.ends, state):
+            end.side, end.t = side, t
 
     # (what the program is told)
 
-    def wanted(self, end):
-        return None if end in self.scene.bare else (end.side, end.t)
-
     def edits(self):
-        """The edits that bring the program to the present places, and what to note when they are committed."""
-        moved = [end for end in self.scene.ends if end.told != self.wanted(end)]
-        rows, kinds, classes = [], {}, {}
-        # (pins that go make room for those that come)
-        for end in sorted(moved, key=lambda end: end not in self.scene.bare):
-            mine, is_pinned = kinds.setdefault(end.box, list(end.box.kinds)), end not in self.scene.bare
-            if is_pinned:
-                x, y = end.point()
-                rows.append(f'pin {end.box.id} {end.kind} {gml.units(x)} {gml.units(y)} {end.side}')
-                mine.append(end.kind)
-            if is_pinned != (end.told is not None):
-                given = classes.setdefault(end.edge, list(end.edge.told))
-                given[end.k] = end.kind if is_pinned else 0
-                rows.append(f'classes {end.edge.place} {given[0]} {given[1]}')
-            if end.told:
-                rows.append(f'unpin {end.box.id} {mine.index(end.kind) + 1}')
-                mine.remove(end.kind)
-        return rows, moved, kinds, classes
+        """The edits that bring the pins of the program to their present places, and the pins of boxes after them."""
+        rows, kinds = [], {}
+        for end in self.moved():
+            mine = kinds.setdefault(end.box, list(end.box.kinds))
+            rows += [end.pin(), f'unpin {end.box.id} {mine.index(end.kind) + 1}']
+            mine.append(end.kind)
+            mine.remove(end.kind)
+        return rows, kinds
 
-    def commit(self, *settings):
-        rows, moved, kinds, classes = self.edits()
-        found, refusal = self.session.ask(['begin', *settings, *rows, 'commit'])
+    def moved(self):
+        return [end for end in self.scene.ends if end not in self.scene.bare and end.told != (end.side, end.t)]
+
+    def commit(self, *first):
+        rows, kinds = self.edits()
+        found, refusal = self.session.ask(['begin', *first, *rows, 'commit'])
         if refusal:
             raise gml.Fault(f'reroute_live: {refusal}')
-        for end in moved:
-            end.told = self.wanted(end)
+        for end in self.moved():
+            end.told = end.side, end.t
         for box, mine in kinds.items():
             box.kinds = mine
-        for edge, given in classes.items():
-            edge.told = given
-        self.picture.put(self.picture.change(found)[1])
+        self.picture.drawn.update(self.picture.drawn_from(found))
+
+    def give_pins(self):
+        """Gives pins to all ends but those that remain bare."""
+        self.scene.choose_bare()
+        rows = []
+        for edge in self.scene.edges:
+            ends = [end for end in edge.ends if end and end not in self.scene.bare]
+            for end in ends:
+                rows.append(end.pin())
+                end.box.kinds.append(end.kind)
+                end.told = end.side, end.t
+            classes = [end.kind if end in ends else edge.classes[k] for k, end in enumerate(edge.ends)]
+            rows += [f'classes {edge.place} {classes[0]} {classes[1]}'] if ends else []
+        self.commit(*rows)
 
     def set_buffer(self, buffer):
-        if buffer != self.buffer:
-            self.buffer, self.estimates = buffer, Estimates(self.scene, buffer)
-            self.commit(f'set buffer {gml.units(buffer)}')
+        self.buffer, self.estimates = buffer, Estimates(self.scene, buffer)
+        self.commit(f'set buffer {gml.units(buffer)}')
 
     # (starts)
 
     def by_lines(self, gives_sides=True):
         """Gives ends the sides by which their lines leave, or only the order of those that leave by the side they have."""
         for end in self.scene.ends:
-            drawn, side = self.picture.drawn[end.edge.place], end.side
+            drawn = self.picture.drawn[end.edge.place]
             if drawn and len(drawn.corners) > 1:
-                order = end.order
-                side_and_order(drawn.corners[::-1] if end.k else drawn.corners, end)
-                if not gives_sides and end.side != side:
+                side, order = side_and_order(drawn.corners[::-1] if end.k else drawn.corners, end)
+                if gives_sides or side == end.side:
                     end.side, end.order = side, order
 
-    def by_facing(self, prefers):
-        for end in self.scene.ends:
-            end.side = facing_side(end.box, end.far, prefers)
-        for end in self.scene.ends:
-            end.order = order_by_angle(end)
-
     def by_least(self):
-        self.by_facing(SIDES)
+        """Gives ends the sides between which the line costs least, if only boxes are in its way."""
+        for end in self.scene.ends:
+            end.side = facing_side(end.box, end.far)
         for edge in self.scene.edges:
             if all(edge.ends):
-                sides = min(((self.estimates.of(edge, one, two), OPPOSITE[one] != two, one, two)
-                             for one in SIDES for two in SIDES))[2:]
+                choices = itertools.product(SIDES, SIDES)
+                sides = min(choices, key=lambda sides: (self.estimates.of(edge, *sides), OPPOSITE[sides[0]] != sides[1]))
                 edge.ends[0].side, edge.ends[1].side = sides
         for end in self.scene.ends:
             end.order = order_by_angle(end)
 
     def start(self):
-        """Commits the best of four ways to give sides; the first way is that of the lines without pins."""
-        self.set_buffer(self.buffers[len(self.buffers) // 2])
+        """Commits the better of two ways to give sides: by the lines without pins, or where they cost least."""
         self.by_lines()
-        starts = []
-        for way in (None, self.by_least, lambda: self.by_facing('NS'), lambda: self.by_facing('EW')):
-            if way:
-                way()
-            self.places.place_all(self.buffer)
-            self.scene.choose_bare()
-            self.commit()
-            starts.append((self.reordered(), len(starts), self.state()))
-        self.restore(min(starts)[2])
-        self.scene.choose_bare()
+        self.places.place_all(self.buffer)
+        self.give_pins()
+        total, state = self.reordered(), self.state()
+        self.by_least()
+        self.places.place_all(self.buffer)
+        self.commit()
+        if self.reordered() > total:
+            self.restore(state)
         self.commit()
 
     def reordered(self):
@@ -711,36 +590,30 @@ class Search:
             total = self.picture.total()
         return total
 
-    def settle(self):
+    def settle(self, buffers):
         """Takes the buffer with the best picture; a larger one is worth a little, for arrow heads need it."""
         def worth(buffer):
             self.set_buffer(buffer)
             units = buffer / self.scene.unit
             return self.picture.total() - (0.25 * units - 5 * max(0, 4 - units)) * len(self.picture.edges)
-        if len(self.buffers) > 1:
-            self.set_buffer(min(self.buffers, key=worth))
+        self.set_buffer(min(buffers, key=worth) if len(buffers) > 1 else buffers[0])
 
     # (moves; each puts ends elsewhere and yields, and finds them where they were when it goes on)
 
     def best_of(self, moves):
         """Asks what each of the moves would change, and commits the best one; what the picture gains by it."""
-        now, before, seen = self.state(), {}, set()
-        best, best_state = -1.0, None
+        now, best, best_state, seen = self.state(), -1.0, None, set()
         for _ in moves:
-            rows, moved, _, _ = self.edits()
+            rows, kinds = self.edits()
+            state, looks = self.state(), self.looks(kinds)
+            self.restore(now)
             if rows and tuple(rows) not in seen:
                 seen.add(tuple(rows))
-                boxes, state = frozenset(end.box for end in moved), self.state()
-                looks = self.looks(boxes)
-                self.restore(now)
-                if boxes not in before:
-                    before[boxes] = self.looks(boxes)
-                found, refusal = self.session.ask(['begin', *rows, 'preview', 'abort'])
+                found, _ = self.session.ask(['begin', *rows, 'preview', 'abort'])
                 self.count()
-                more = 0 if refusal else self.picture.change(found)[0] + looks - before[boxes]
+                more = self.picture.more_with(found) + looks - self.looks(kinds)
                 if more < best:
                     best, best_state = more, state
-            self.restore(now)
         if not best_state:
             return 0.0
         self.restore(best_state)
@@ -750,35 +623,24 @@ class Search:
     def count(self):
         self.used += 1
         if self.say and self.used % 100 == 0:
-            self.say(f'tried {self.used} places of pins, at most {self.tries}')
+            self.say(f'tried {self.used} places of pins, of at most {self.tries}')
 
     def looks(self, boxes):
-        rows = collections.defaultdict(list)
-        for end in self.scene.ends:
-            if end.box in boxes:
-                rows[end.box, end.side].append((end.t, 16 if end.is_straight() else 40))
-        return sum(untidy(row, box.room(side), self.scene.unit) for (box, side), row in rows.items())
+        return sum(untidy(row, self.scene.unit) for (box, _), row in self.scene.rows().items() if box in boxes)
 
     def gaps(self, ends, low, high, most):
         """The middles of the widest gaps between low and high that other ends leave on the sides of these ends."""
         taken = sorted({other.at() for end in ends for other in self.scene.row(end.box, end.side) if other not in ends})
         found, half = [], GAP * self.scene.unit // 2
-        for left, right in zip([None, *taken], [*taken, None]):
-            start = low if left is None else max(low, left + half)
-            end = high if right is None else min(high, right - half)
+        for left, right in zip([low - half, *taken], [*taken, high + half]):
+            start, end = max(low, left + half), min(high, right - half)
             if start <= end:
                 found.append((end - start, start, end))
         return [(start + end) // 2 for _, start, end in sorted(found, reverse=True)[:most]]
 
-    def span(self, end):
-        """The first and the last place on the side of an end, in the coordinate of the sheet."""
-        low, high, _ = self.scene.limits(end.box, end.side)
-        middle = end.box.middle(end.side)
-        return low + middle, high + middle
-
     def aligned(self, one, two, most):
         """Two ends that face each other as they stand, and at one place: in gaps, or with the others moved aside."""
-        here, spans = self.state(), (self.span(one), self.span(two))
+        here, spans = self.state(), (one.span(), two.span())
         yield
         low, high = max(span[0] for span in spans), min(span[1] for span in spans)
         if low > high:
@@ -787,18 +649,12 @@ class Search:
         spots = [at for at in (one.at(), two.at()) if low <= at <= high][:1] + self.gaps((one, two), low, high, most)
         for spot in [*dict.fromkeys(spots), None]:
             self.restore(here)
-            at = (low + high) // 2 if spot is None else spot
             for end in (one, two):
-                end.t = at - end.box.middle(end.side)
+                end.t = ((low + high) // 2 if spot is None else spot) - end.box.middle(end.side)
             if spot is None:
                 self.places.refit(one.box, one.side, one)
                 self.places.refit(two.box, two.side, two)
             yield
-
-    def towards(self, end):
-        """The place on its side that is nearest to the other end or the other box."""
-        low, high = self.span(end)
-        return min(max(end.other.at() if end.faces() else end.far.middle(end.side), low), high)
 
     def places_tried(self, edge):
         """Other places of the ends on their sides."""
@@ -806,46 +662,31 @@ class Search:
         if one and two and one.faces() and not one.is_straight():
             yield from self.aligned(one, two, 4)
         for end in filter(None, edge.ends):
-            low, high = self.span(end)
+            (low, high), middle = end.span(), end.box.middle(end.side)
             taken = [other.at() for other in self.scene.row(end.box, end.side) if other is not end]
-            for spot in dict.fromkeys([*self.gaps((end,), low, high, 3), low, high, self.towards(end)]):
+            for spot in dict.fromkeys([*self.gaps((end,), low, high, 3), low, high, end.towards() + middle]):
                 if all(abs(spot - at) >= NEAR * self.scene.unit for at in taken):
-                    end.t = spot - end.box.middle(end.side)
+                    end.t = spot - middle
                     yield
-
-    def put_on(self, end, side):
-        """Puts an end on another side, where the fewest of those that are there stand on the wrong side of it."""
-        row = self.scene.row(end.box, side)
-        end.side = side
-        order, orders = order_by_angle(end), [order_by_angle(other) for other in row]
-        wrong = [sum(other > order for other in orders[:i]) + sum(other < order for other in orders[i:])
-                 for i in range(len(row) + 1)]
-        i = wrong.index(min(wrong))
-        around = [other.t for other in row[max(0, i - 1):i + 1]]
-        end.t = 0 if not row else around[0] - 1 if i == 0 else around[0] + 1 if i == len(row) else sum(around) // 2
 
     def sides_tried(self, edge):
         """The other sides of the ends that may cost least."""
-        present, cost = [end.side if end else ' ' for end in edge.ends], self.picture.of_edge(edge.place)
-        choices = [(self.estimates.of(edge, one, two), one, two) for one in (SIDES if edge.ends[0] else ' ')
-                   for two in (SIDES if edge.ends[1] else ' ') if [one, two] != present]
-        for _, *sides in sorted(choice for choice in choices if choice[0] < cost - 10)[:SIDES_TRIED]:
+        present, cost = tuple(end.side if end else ' ' for end in edge.ends), self.picture.cost([edge.place], self.picture.drawn)
+        choices = itertools.product(*(SIDES if end else ' ' for end in edge.ends))
+        choices = sorted((self.estimates.of(edge, *sides), sides) for sides in choices if sides != present)
+        for sides in [sides for least, sides in choices if least < cost - 10][:SIDES_TRIED]:
             moved = [(end, side) for end, side in zip(edge.ends, sides) if end and end.side != side]
-            touched = [(end.box, end.side) for end, _ in moved] + [(end.box, side) for end, side in moved]
-            for end, side in moved:
-                self.put_on(end, side)
-            for box, side in touched:
-                self.places.refit(box, side)
-            if all(edge.ends) and edge.ends[0].faces():
-                yield from self.aligned(*edge.ends, 3)
-                continue
-            yield
-            # (or as near to the other box as can be, and the others stay if they can)
-            for end, side in moved:
-                end.side = side
-                end.t = self.towards(end) - end.box.middle(side)
-                self.places.refit(end.box, side, evenly=False)
-            yield
+            left = [(end.box, end.side) for end, _ in moved]
+            for evenly in (True, False):
+                for end, side in moved:
+                    end.side = side
+                    end.t = end.towards()
+                for box, side in [*left, *((end.box, side) for end, side in moved)]:
+                    self.places.refit(box, side, evenly=evenly)
+                if all(edge.ends) and edge.ends[0].faces():
+                    yield from self.aligned(*edge.ends, 3)
+                    break
+                yield
 
     def replaced(self):
         """All places anew, in their order and by the lines."""
@@ -863,93 +704,72 @@ class Search:
 
     def surroundings(self, edge):
         """What the trials of an edge depend on most: its cost, and the ends at its boxes."""
-        return round(self.picture.of_edge(edge.place), 1), [(end.side, end.t) for end in self.scene.ends
-                                                            if end.box in edge.boxes]
+        return (round(self.picture.cost([edge.place], self.picture.drawn), 1),
+                [(end.side, end.t) for end in self.scene.ends if end.box in edge.boxes])
 
     def by_gain(self):
         """The edges that may gain something, those first that may gain most."""
         found = []
         for place, edge in self.picture.edges.items():
             if any(edge.ends):
-                least = min(self.estimates.of(edge, one, two) for one in SIDES for two in SIDES)
-                found.append((least - self.picture.of_edge(place), place))
-        return [self.picture.edges[place] for gain, place in sorted(found) if gain < -10]
+                least = min(self.estimates.of(edge, *sides) for sides in itertools.product(SIDES, SIDES))
+                found.append((least - self.picture.cost([place], self.picture.drawn), place))
+        return [self.picture.edges[place] for more, place in sorted(found) if more < -10]
 
     def improve(self):
         """One round over the edges; what the picture gains."""
         gained = 0.0
         for edge in self.by_gain():
-            if self.failed.get(edge) == self.surroundings(edge):
-                continue
-            before, drawn = gained, self.picture.drawn[edge.place]
-            if not drawn or drawn.bends or self.picture.pairs[edge.place]:
-                gained += self.best_of(self.places_tried(edge))
-            gained += self.best_of(self.sides_tried(edge))
-            if gained == before:
-                self.failed[edge] = self.surroundings(edge)
-            if self.used >= self.tries:
-                break
+            surroundings = self.surroundings(edge)
+            if self.failed.get(edge) != surroundings and self.used < self.tries:
+                more = self.best_of(self.places_tried(edge))
+                more += self.best_of(self.sides_tried(edge))
+                gained += more
+                self.failed[edge] = None if more else surroundings
         return gained
 
     def tidy(self):
         """Evens sides, and moves straight lines off corners, where the picture does not suffer."""
-        gained = sum(self.best_of(self.evened(row[0].box, row[0].side)) for row in self.scene.rows().values())
+        for box, side in self.scene.rows():
+            self.best_of(self.evened(box, side))
         for one, two in (edge.ends for edge in self.scene.edges if all(edge.ends)):
-            if one.is_straight() and not {one, two} & self.scene.bare:
-                if any(untidy([(end.t, 16)], end.box.room(end.side), self.scene.unit) > 2 for end in (one, two)):
-                    gained += self.best_of(self.aligned(one, two, 3))
-        return gained
+            if one.is_straight() and any(untidy([end], self.scene.unit) > 2 for end in (one, two)):
+                self.best_of(self.aligned(one, two, 3))
 
-    def go(self):
+    def go(self, buffers):
+        self.set_buffer(buffers[len(buffers) // 2])
         self.start()
-        self.settle()
         for number in range(6):
+            if number < 2:
+                self.settle(buffers)
             gained = self.best_of(self.replaced()) + self.improve()
             if gained < 0.001 * self.picture.total() or self.used >= self.tries:
                 break
-            if number == 0:
-                self.settle()
         self.best_of(self.replaced())
-        if self.tidy() >= 20:
-            self.tidy()
+        self.tidy()
 
 
 # ---- what users call ----
 
-def settings_of(diagram, buffer, nudge, unit):
-    """What to set: what is given, and what the diagram does not set itself; and the buffer, if it is not to be chosen."""
-    router = gml.first_list(diagram.graph, 'router')
-    is_set = {key: gml.first(router, key) is not None for key in ('penalty', 'buffer', 'nudge')}
-    settings = {'nudge': nudge if nudge is not None else round(NUDGE * unit) or 1}
-    if is_set['nudge'] and nudge is None:
-        del settings['nudge']
-    if unit < 1000 and not is_set['penalty']:
-        settings['penalty'] = BEND * unit
-    return settings, buffer or (diagram.buffer if is_set['buffer'] else None)
-
-
 def choose(data, live='reroute_live', buffer=None, nudge=None, tries=TRIES, say=None):
     """The best choice that is found with about so many tries; `say` gets a line of text now and then on long runs."""
     diagram = gml.read(data)
-    scene = Scene(diagram)
-    settings, fixed = settings_of(diagram, buffer, nudge, scene.unit)
-    try:
-        session = Session(live, data)
-    except OSError as fault:
-        raise gml.Fault(f'{live} cannot be run: {fault.strerror}')
-    try:
-        search = Search(scene, session, fixed, tries, say)
-        search.picture.put(search.picture.change(session.ask(['lines'])[0])[1])
-        if settings:
-            search.commit(*(f'set {name} {gml.units(value)}' for name, value in settings.items()))
-        search.go()
+    scene, router = Scene(diagram), gml.first_list(diagram.graph, 'router')
+    buffers, settings = [max(1, units * scene.unit) for units in BUFFERS], {}
+    if buffer or gml.first(router, 'buffer'):
+        buffers = [buffer or diagram.buffer]
+    if nudge is not None or not gml.first(router, 'nudge'):
+        settings['nudge'] = max(1, NUDGE * scene.unit) if nudge is None else nudge
+    if scene.unit < 1000 and not gml.first(router, 'penalty'):
+        settings['penalty'] = BEND * scene.unit
+    with running.Session(live, data) as session:
+        search = Search(scene, session, tries, say)
+        search.commit(*(f'set {name} {gml.units(value)}' for name, value in settings.items()))
+        search.go(buffers)
         lines = session.ask(['lines'])[0]
-    finally:
-        session.close()
-    if buffer or not fixed:
+    if search.buffer != diagram.buffer:
         settings['buffer'] = search.buffer
-    return Choice(settings, search.buffer, [end for end in scene.ends if end not in scene.bare], len(scene.bare),
-                  {place: lines.get(place) for place in search.picture.edges})
+    return Choice(settings, search.buffer, scene, {place: lines.get(place) for place in search.picture.edges})
 
 
 def plain(data, buffer=None, nudge=None):
@@ -957,14 +777,10 @@ def plain(data, buffer=None, nudge=None):
     diagram = gml.read(data)
     scene = Scene(diagram)
     for end in scene.ends:
-        dx, dy = end.far.x - end.box.x, end.far.y - end.box.y
-        is_tall = abs(dy) * end.box.w >= abs(dx) * end.box.h
-        end.side = ('S' if dy >= 0 else 'N') if is_tall else ('E' if dx > 0 else 'W')
-    for row in scene.rows().values():
+        end.side = facing_side(end.box, end.far)
+    for (box, side), row in scene.rows().items():
         for i, end in enumerate(sorted(row, key=order_by_angle), 1):
-            room = end.box.room(end.side)
-            end.t = room * i // (len(row) + 1) - room // 2
+            end.t = box.room(side) * i // (len(row) + 1) - box.room(side) // 2
     scene.choose_bare()
     settings = {name: value for name, value in (('buffer', buffer), ('nudge', nudge)) if value is not None}
-    return Choice(settings, buffer or diagram.buffer, [end for end in scene.ends if end not in scene.bare],
-                  len(scene.bare))
+    return Choice(settings, buffer or diagram.buffer, scene, {})

@@ -1,0 +1,50 @@
+"""A running reroute_live with a diagram, for tools: session = live.Session(program, data); lines, refusal = session.ask(['lines'])"""
+import subprocess
+import tempfile
+
+import gml
+
+
+class Session:
+    """The program, which is given the diagram as a file. Lengths are whole thousandths."""
+
+    def __init__(self, program, data):
+        self.file = tempfile.NamedTemporaryFile(suffix='.gml')
+        self.file.write(data)
+        self.file.flush()
+        pipe = subprocess.PIPE
+        try:
+            self.run = subprocess.Popen([program, self.file.name], stdin=pipe, stdout=pipe, stderr=pipe)
+        except OSError as fault:
+            self.file.close()
+            raise gml.Fault(f'{program} cannot be run: {fault.strerror}')
+
+    def __enter__(self):
+        return self
+
+    def __exit__(self, *_):
+        self.run.communicate()
+        self.file.close()
+
+    def ask(self, requests):
+        """Sends requests; which lines they report, by the numbers of their connectors (None for no line), and the first refusal."""
+        found, refusal, left = {}, None, len(requests)
+        try:
+            self.run.stdin.write(''.join(f'{request}\n' for request in requests).encode())
+            self.run.stdin.flush()
+        except BrokenPipeError:
+            pass  # (it has ended, and its last words say why)
+        while left:
+            words = self.run.stdout.readline().split()
+            if not words:
+                raise gml.Fault('reroute_live ended: ' + self.run.stderr.read().decode('utf-8', 'replace').strip())
+            if words[0] == b'line':
+                numbers = [int(word.replace(b'.', b'')) for word in words[2:]]
+                found[int(words[1])] = list(zip(numbers[::2], numbers[1::2]))
+            elif words[0] == b'no':
+                found[int(words[2])] = None
+            else:
+                left -= 1
+                if words[0] == b'refused' and not refusal:
+                    refusal = b' '.join(words).decode()
+        return found, refusal
