@@ -96,13 +96,6 @@ def lists(pairs, key):
     return [pair.value for pair in list_pairs(pairs, key)]
 
 
-def replace(pairs, changed):
-    """Puts pairs in the place of the first ones with their keys, or at the end where there is none."""
-    for pair in changed:
-        at = next((at for at, old in enumerate(pairs) if old.key == pair.key), len(pairs))
-        pairs[at:at + 1] = [pair]
-
-
 def graph_of(data):
     """The pairs of the first list graph."""
     refusal = REFUSAL.match(data)

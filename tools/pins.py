@@ -4,7 +4,6 @@
     choice = pins.choose(data, live=program, buffer=12000, nudge=8000, tries=300, say=print)
     choice = pins.plain(data)                             # on the sides that face; starts no program
     '\\n'.join(choice.script())                            # what `reroute route` takes
-    choice.put_into(graph); gml.written(graph)            # or the same in the pairs of the graph
 
 Lengths are whole thousandths. `choose` keeps a buffer, nudge and penalty that the diagram sets, unless it is given others.
 Both raise `gml.Fault` for a diagram that is none, or a program that does not run. The same input gives the same choice.
@@ -16,19 +15,17 @@ import collections
 import itertools
 
 import gml
-import live as running
+import session as sessions
+from costs import BEND, NEAR, OPPOSITE, PAD, Estimates, Picture
 
-TRIES = 1000
+TRIES = 800
+SIDES_TRIED = 5
 MOST_PINS = 255                     # (one less than a diagram has, since an end that moves has two for a moment)
-BUFFERS = (12, 10, 8, 6, 4, 2, 1)   # in units, as all lengths below
-NUDGE, USUAL_SIDE = 8, 36
-# What a picture costs, besides the lengths of its lines.
-BEND, CROSSING, TOUCH, OVERLAP, CLOSE, SHORT, UNROUTED = 50, 60, 30, 300, 37, 25, 10000
-NEAR, HEAD = 3, 9                   # runs nearer than NEAR are close; end runs under HEAD are short for an arrow head
-GAP, PAD, REACH = 8, 4, 30          # between pins, from a corner, and how far a place is from the one nearest to its other end
-SIDES_TRIED = 7
 SIDES = 'NESW'
-OPPOSITE = dict(zip(SIDES, 'SWNE'))
+# Lengths in units.
+BUFFERS = (12, 10, 8, 6, 4, 2, 1)
+NUDGE, USUAL_SIDE = 8, 36
+GAP, REACH = 8, 30                  # between pins, and how far a place is from the one nearest to its other end
 
 
 class Choice:
@@ -56,21 +53,6 @@ class Choice:
         rows += [f'classes {place} {source} {target}' for place, (source, target) in sorted(self.classes.items())]
         return ['begin', *rows, 'commit']
 
-    def put_into(self, graph):
-        """Puts the settings, pins and classes into the pairs of a graph."""
-        settings = [gml.Pair(name, gml.short_units(value), 0) for name, value in self.settings.items()]
-        if settings and not gml.list_pairs(graph, 'router'):
-            graph.insert(0, gml.Pair('router', [], 0))
-        gml.replace(gml.first_list(graph, 'router'), settings)
-        nodes = {gml.whole(node, 'id', 'node'): node for node in gml.lists(graph, 'node')}
-        for node, kind, x, y, side in self.pins:
-            values = {'class': str(kind), 'x': gml.units(x), 'y': gml.units(y), 'dirs': f'"{side}"'}
-            nodes[node].append(gml.Pair('pin', [gml.Pair(key, value, 0) for key, value in values.items()], 0))
-        edges = gml.lists(graph, 'edge')
-        for place, classes in self.classes.items():
-            gml.replace(edges[place - 1], [gml.Pair(key, str(kind), 0) for key, kind in
-                                           zip(('sourcePin', 'targetPin'), classes) if kind])
-
 
 # ---- boxes and ends ----
 
@@ -79,6 +61,7 @@ class Box:
         self.place, self.id, self.is_group, self.unit = node.place, node.id, node.is_group, unit
         self.x, self.y, self.w, self.h = node.x, node.y, node.w, node.h
         self.kinds = [pin.kind for pin in node.pins]  # the classes of its pins as the program has them, in their order
+        self.ends = []
 
     def room(self, side):
         return self.w if side in 'NS' else self.h
@@ -96,6 +79,10 @@ class Box:
         pad = min(PAD * self.unit, room // (count + 1))
         low, high = -(room // 2) + pad, room // 2 - pad
         return low, high, min(GAP * self.unit, (high - low) // (count - 1)) if count > 1 else 0
+
+    def row(self, side):
+        """The ends on a side, in their order."""
+        return sorted((end for end in self.ends if end.side == side), key=lambda end: (end.t, end.edge.place))
 
 
 class End:
@@ -163,6 +150,7 @@ class Scene:
                 if not edge.is_loop and not edge.classes[k]:
                     edge.ends[k] = End(edge, k, next(unused[edge.boxes[k]]))
                     self.ends.append(edge.ends[k])
+                    edge.boxes[k].ends.append(edge.ends[k])
             if all(edge.ends):
                 edge.ends[0].other, edge.ends[1].other = edge.ends[::-1]
         self.bare = set(self.ends)                  # ends that have no pin
@@ -174,10 +162,6 @@ class Scene:
             found[end.box, end.side].append(end)
         return found
 
-    def row(self, box, side):
-        return sorted((end for end in self.ends if end.box is box and end.side == side),
-                      key=lambda end: (end.t, end.edge.place))
-
     def choose_bare(self):
         """Where there are more ends than pins: those alone on their side have none, then those of the emptiest sides."""
         over, self.bare = len(self.ends) + self.kept - MOST_PINS, set()
@@ -185,94 +169,6 @@ class Scene:
                                                                  row[0].edge.place)):
             if len(self.bare) < over:
                 self.bare.update(row)
-
-
-# ---- what a picture costs ----
-
-def seen_from_side(point, following, box):
-    """Where a line that ends at the point leaves the box; an end may be at the centre."""
-    (x, y), (u, v) = point, following
-    if x == u:
-        return x, min(max(box.y + box.depth('S' if v > y else 'N'), min(y, v)), max(y, v))
-    return min(max(box.x + box.depth('E' if u > x else 'W'), min(x, u)), max(x, u)), y
-
-
-class Drawn:
-    """One line as it is seen: its runs (way, place across, low, high), where way 0 is vertical."""
-
-    def __init__(self, line, edge, unit):
-        self.corners = corners = []
-        for x, y in line:
-            if corners and (x, y) == corners[-1]:
-                continue
-            if len(corners) > 1 and (corners[-2][0] == corners[-1][0] == x or corners[-2][1] == corners[-1][1] == y):
-                corners.pop()
-            corners.append((x, y))
-        seen = list(corners) if len(corners) > 1 else [line[0], line[-1]]
-        seen[0] = seen_from_side(seen[0], seen[1], edge.boxes[0])
-        seen[-1] = seen_from_side(seen[-1], seen[-2], edge.boxes[1])
-        self.runs, length = [], 0
-        for (x, y), (u, v) in zip(seen, seen[1:]):
-            length += abs(x - u) + abs(y - v)
-            self.runs.append((0, x, min(y, v), max(y, v)) if x == u else (1, y, min(x, u), max(x, u)))
-        self.bends = len(seen) - 2
-        short = sum(run[3] - run[2] < HEAD * unit for run in (self.runs[0], self.runs[-1])) if self.bends else 0
-        self.cost = length / unit + BEND * self.bends + SHORT * short
-        xs, ys = zip(*seen)
-        self.frame = min(xs), min(ys), max(xs), max(ys)
-
-
-def together(one, two, unit):
-    """What two lines cost for how they stand to each other."""
-    total = 0
-    for way, at, low, high in one.runs:
-        for other_way, across, start, end in two.runs:
-            if way != other_way:
-                if low < across < high and start < at < end:
-                    total += CROSSING
-            elif abs(at - across) < NEAR * unit and min(high, end) - max(low, start) > unit:
-                total += OVERLAP if abs(at - across) < unit else CLOSE
-            elif at == across and (low == end or high == start):
-                total += TOUCH                      # (two corners or ends that touch look like one line)
-    return total
-
-
-class Picture:
-    """All lines by the places of their edges; None where there is no legal route."""
-
-    def __init__(self, scene, lines):
-        self.edges, self.unit = {edge.place: edge for edge in scene.edges if not edge.is_loop}, scene.unit
-        self.drawn = dict.fromkeys(self.edges)
-        self.drawn.update(self.drawn_from(lines))
-
-    def drawn_from(self, lines):
-        return {place: line and Drawn(line, self.edges[place], self.unit) for place, line in lines.items()}
-
-    def cost(self, places, drawn):
-        """What some lines cost alone, and with each other and all others."""
-        near, total = NEAR * self.unit, 0
-        for place in places:
-            line = drawn[place]
-            if line is None:
-                total += UNROUTED
-                continue
-            left, top, right, bottom = line.frame
-            left, top, right, bottom = left - near, top - near, right + near, bottom + near
-            total += line.cost
-            for number, other in drawn.items():
-                # (a pair of two of the places is counted once)
-                if other and number != place and (number > place or number not in places):
-                    frame = other.frame
-                    if frame[0] < right and left < frame[2] and frame[1] < bottom and top < frame[3]:
-                        total += together(line, other, self.unit)
-        return total
-
-    def total(self):
-        return self.cost(self.edges, self.drawn)
-
-    def more_with(self, lines):
-        """What the picture costs more with these lines."""
-        return self.cost(lines, {**self.drawn, **self.drawn_from(lines)}) - self.cost(lines, self.drawn)
 
 
 # ---- places on a side ----
@@ -363,16 +259,17 @@ class Places:
 
     def refit(self, box, side, held=None, evenly=True):
         """The places of the ends of one side anew, in their order; those whose lines are straight stay if they can."""
-        row = self.scene.row(box, side)
+        row = box.row(side)
         if row:
             wants = [box.middle(side) + place for place in self.evenly(row)] if evenly else [end.at() for end in row]
             self.fit(row, dict(zip(row, wants)), {end for end in row if end is held or end.is_straight()})
 
 
-def untidy(row, unit):
+def untidy(row, box):
     """What the places on one side cost by their looks: far from even ones, near a corner, near each other."""
-    total, last, room = 0.0, None, row[0].box.room(row[0].side)
-    for i, end in enumerate(sorted(row, key=lambda end: end.t), 1):
+    total, last, unit = 0.0, None, box.unit
+    for i, end in enumerate(row, 1):
+        room = box.room(end.side)
         uneven = 1.1 * abs(end.t - room * i // (len(row) + 1) + room // 2) / unit
         total += min(uneven, 16 if end.is_straight() else 40)
         if room > 24 * unit:
@@ -412,71 +309,6 @@ def side_and_order(corners, end):
     way, far = 0 if side in 'NS' else 1, abs(u - x) + abs(v - y)
     turn = corners[2][way] - corners[1][way] if len(corners) > 2 else 0
     return side, ((turn > 0) - (turn < 0), far if turn < 0 else -far if turn > 0 else 0, corners[-1][way], end.tie())
-
-
-class Estimates:
-    """What the line of an edge costs at least with some sides, if only other boxes are in its way."""
-
-    def __init__(self, scene, buffer):
-        self.scene, self.buffer, self.known = scene, buffer, {}
-        self.walls = [(box, box.x - box.w // 2 - buffer, box.x + box.w // 2 + buffer, box.y - box.h // 2 - buffer,
-                       box.y + box.h // 2 + buffer) for box in scene.solids]
-
-    def is_clear(self, line, boxes):
-        for (x, y), (u, v) in zip(line, line[1:]):
-            x, u, y, v = min(x, u), max(x, u), min(y, v), max(y, v)
-            if any(left < u and x < right and top < v and y < bottom and box not in boxes
-                   for box, left, right, top, bottom in self.walls):
-                return False
-        return True
-
-    def port(self, box, side, t):
-        """The point outside of a place on a side where a line leaves the buffer."""
-        out = box.depth(side) + (self.buffer if side in 'SE' else -self.buffer)
-        return (box.x + t, box.y + out) if side in 'NS' else (box.x + out, box.y + t)
-
-    def simple_lines(self, boxes, sides):
-        """Lines of two or three runs between two sides that allow it: round a corner, or in three channels between the sides."""
-        turned, sign = (1 if sides[0] in 'NS' else -1), (1 if sides[0] in 'SE' else -1)
-        places = []
-        for box, other, side in zip(boxes, boxes[::-1], sides):
-            low, high, _ = box.limits(side)
-            places.append(sorted({low, 0, high, min(max(other.middle(side) - box.middle(side), low), high)}))
-        for p, q in itertools.product(*places):
-            # (x, y and u, v as if the first side were the upper or the lower one)
-            (x, y), (u, v) = (self.port(box, side, t)[::turned] for box, side, t in zip(boxes, sides, (p, q)))
-            if OPPOSITE[sides[0]] == sides[1]:
-                lines = [[(x, y), (x, at), (u, at), (u, v)] for at in (y + (v - y) * part // 4 for part in (1, 2, 3))]
-            else:
-                is_ahead = (v - y) * sign >= 0 and (x - u) * (1 if sides[1] in 'SE' else -1) >= 0
-                lines = [[(x, y), (x, v), (u, v)]] if is_ahead else []
-            yield from ([point[::turned] for point in line] for line in lines)
-
-    def bends(self, boxes, sides):
-        (one, two), (side, other) = boxes, sides
-        if side == other:
-            return 2
-        if OPPOSITE[side] == other:
-            ahead = two.y + two.depth(other) - one.y - one.depth(side) if side in 'NS' else \
-                two.x + two.depth(other) - one.x - one.depth(side)
-            if (ahead if side in 'SE' else -ahead) < 2 * self.buffer:
-                return 4
-            if abs(one.middle(side) - two.middle(side)) < (one.room(side) + two.room(side)) // 2 - 2 * PAD * self.scene.unit:
-                return 0
-            return 2 if any(self.is_clear(line, boxes) for line in self.simple_lines(boxes, sides)) else 4
-        return 1 if any(self.is_clear(line, boxes) for line in self.simple_lines(boxes, sides)) else 3
-
-    def of(self, edge, *sides):
-        key = edge.place, sides
-        if key not in self.known:
-            self.known[key] = self.anew(edge.boxes, sides) if all(edge.ends) else 0
-        return self.known[key]
-
-    def anew(self, boxes, sides):
-        (x, y), (u, v) = (self.port(box, side, 0) for box, side in zip(boxes, sides))
-        slack = boxes[0].room(sides[0]) // 2 + (boxes[1].room(sides[1]) // 2 if sides[0] != sides[1] else 0)
-        length = max(0, abs(x - u) + abs(y - v) - slack) + 2 * self.buffer
-        return length / self.scene.unit + BEND * self.bends(boxes, sides)
 
 
 # ---- the search ----
@@ -626,11 +458,11 @@ class Search:
             self.say(f'tried {self.used} places of pins, of at most {self.tries}')
 
     def looks(self, boxes):
-        return sum(untidy(row, self.scene.unit) for (box, _), row in self.scene.rows().items() if box in boxes)
+        return sum(untidy(box.row(side), box) for box in boxes for side in SIDES)
 
     def gaps(self, ends, low, high, most):
         """The middles of the widest gaps between low and high that other ends leave on the sides of these ends."""
-        taken = sorted({other.at() for end in ends for other in self.scene.row(end.box, end.side) if other not in ends})
+        taken = sorted({other.at() for end in ends for other in end.box.row(end.side) if other not in ends})
         found, half = [], GAP * self.scene.unit // 2
         for left, right in zip([low - half, *taken], [*taken, high + half]):
             start, end = max(low, left + half), min(high, right - half)
@@ -663,7 +495,7 @@ class Search:
             yield from self.aligned(one, two, 4)
         for end in filter(None, edge.ends):
             (low, high), middle = end.span(), end.box.middle(end.side)
-            taken = [other.at() for other in self.scene.row(end.box, end.side) if other is not end]
+            taken = [other.at() for other in end.box.row(end.side) if other is not end]
             for spot in dict.fromkeys([*self.gaps((end,), low, high, 3), low, high, end.towards() + middle]):
                 if all(abs(spot - at) >= NEAR * self.scene.unit for at in taken):
                     end.t = spot - middle
@@ -705,7 +537,7 @@ class Search:
     def surroundings(self, edge):
         """What the trials of an edge depend on most: its cost, and the ends at its boxes."""
         return (round(self.picture.cost([edge.place], self.picture.drawn), 1),
-                [(end.side, end.t) for end in self.scene.ends if end.box in edge.boxes])
+                [(end.side, end.t) for box in edge.boxes for end in box.ends])
 
     def by_gain(self):
         """The edges that may gain something, those first that may gain most."""
@@ -731,9 +563,10 @@ class Search:
     def tidy(self):
         """Evens sides, and moves straight lines off corners, where the picture does not suffer."""
         for box, side in self.scene.rows():
-            self.best_of(self.evened(box, side))
+            if untidy(box.row(side), box) > 4:
+                self.best_of(self.evened(box, side))
         for one, two in (edge.ends for edge in self.scene.edges if all(edge.ends)):
-            if one.is_straight() and any(untidy([end], self.scene.unit) > 2 for end in (one, two)):
+            if one.is_straight() and any(untidy([end], end.box) > 2 for end in (one, two)):
                 self.best_of(self.aligned(one, two, 3))
 
     def go(self, buffers):
@@ -762,7 +595,7 @@ def choose(data, live='reroute_live', buffer=None, nudge=None, tries=TRIES, say=
         settings['nudge'] = max(1, NUDGE * scene.unit) if nudge is None else nudge
     if scene.unit < 1000 and not gml.first(router, 'penalty'):
         settings['penalty'] = BEND * scene.unit
-    with running.Session(live, data) as session:
+    with sessions.Session(live, data) as session:
         search = Search(scene, session, tries, say)
         search.commit(*(f'set {name} {gml.units(value)}' for name, value in settings.items()))
         search.go(buffers)

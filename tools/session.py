@@ -1,5 +1,7 @@
-"""A running reroute_live with a diagram, for tools: session = live.Session(program, data); lines, refusal = session.ask(['lines'])"""
+"""A running reroute_live with a diagram, for tools: with session.Session(program, data) as running: running.ask(["lines"])"""
+import os
 import subprocess
+import sys
 import tempfile
 
 import gml
@@ -48,3 +50,9 @@ class Session:
                 if words[0] == b'refused' and not refusal:
                     refusal = b' '.join(words).decode()
         return found, refusal
+
+
+def live_program(name=None):
+    """The program reroute_live: the one named, that of the environment, one beside the running program, or on the path."""
+    beside = os.path.join(os.path.dirname(os.path.realpath(sys.argv[0])), 'reroute_live')
+    return name or os.environ.get('REROUTE_LIVE') or (beside if os.access(beside, os.X_OK) else 'reroute_live')
