@@ -20,6 +20,7 @@ KEY = re.compile(r'[A-Za-z_][A-Za-z0-9_]*', re.ASCII)
 NUMBER = re.compile(r'([+-]?)(\d+\.?\d*|\.\d+)(?:[eE]([+-]?\d+))?', re.ASCII)
 WHOLE = re.compile(r'[+-]?\d{1,18}', re.ASCII)
 REFUSAL = re.compile(rb'(words: |diagram: |read fault: |too long: |edge 1: )[^\n]*')
+VERSION = '0.1.0'        # of all tools
 MOST_LISTS = 64
 FARTHEST = 2 * 10**9
 ALL_SIDES = 'ESWN'

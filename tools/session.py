@@ -53,6 +53,7 @@ class Session:
 
 
 def live_program(name=None):
-    """The program reroute_live: the one named, that of the environment, one beside the running program, or on the path."""
-    beside = os.path.join(os.path.dirname(os.path.realpath(sys.argv[0])), 'reroute_live')
-    return name or os.environ.get('REROUTE_LIVE') or (beside if os.access(beside, os.X_OK) else 'reroute_live')
+    """The program reroute_live: the one named, that of the environment, beside the tool, built in the repository, or on the path."""
+    home = os.path.dirname(os.path.realpath(sys.argv[0]))
+    built = (f'{home}/reroute_live', f'{home}/../out/reroute_live')
+    return name or os.environ.get('REROUTE_LIVE') or next((path for path in built if os.access(path, os.X_OK)), 'reroute_live')
