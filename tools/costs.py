@@ -1,6 +1,6 @@
-"""Costs of lines, for pins.py: of those that are drawn, alone and together, and what a line between two sides costs at least.
+"""Costs, for pins.py: of lines that are drawn, alone and together; of the places of pins on a side; and what a line costs at least.
 
-All costs are in units of the diagram. A scene, its edges and its boxes are those of pins.py; places are whole thousandths.
+All costs are in units of the diagram. The scene, its edges, ends and boxes are those of pins.py; places are whole thousandths.
 """
 import itertools
 
@@ -102,6 +102,23 @@ class Picture:
         return self.cost(lines, {**self.drawn, **self.drawn_from(lines)}) - self.cost(lines, self.drawn)
 
 
+# ---- what the places on a side cost ----
+
+def untidy(row, box):
+    """What the places on one side cost by their looks: far from even ones, near a corner, near each other."""
+    total, last, unit = 0.0, None, box.unit
+    for i, end in enumerate(row, 1):
+        room = box.room(end.side)
+        uneven = 1.1 * abs(end.t - room * i // (len(row) + 1) + room // 2) / unit
+        total += min(uneven, 16 if end.is_straight() else 40)
+        if room > 24 * unit:
+            total += max(0.0, 8 - (room / 2 - abs(end.t)) / unit) * 1.5
+        if last is not None:
+            total += max(0.0, 8 - (end.t - last) / unit) * 3
+        last = end.t
+    return total
+
+
 # ---- what a line costs at least ----
 
 class Estimates:
@@ -124,6 +141,11 @@ class Estimates:
         """The point outside of a place on a side where a line leaves the buffer."""
         out = box.depth(side) + (self.buffer if side in 'SE' else -self.buffer)
         return (box.x + t, box.y + out) if side in 'NS' else (box.x + out, box.y + t)
+
+    def is_straight_clear(self, edge, at):
+        """Whether nothing is in the way of a straight line at this place between the sides of two ends that face each other."""
+        line = [self.port(end.box, end.side, at - end.box.middle(end.side)) for end in edge.ends]
+        return self.is_clear(line, edge.boxes)
 
     def simple_lines(self, boxes, sides):
         """Lines of two or three runs between two sides that allow it: round a corner, or in three channels between the sides."""

@@ -16,9 +16,9 @@ import itertools
 
 import gml
 import session as sessions
-from costs import BEND, NEAR, OPPOSITE, PAD, Estimates, Picture
+from costs import BEND, NEAR, OPPOSITE, PAD, Estimates, Picture, untidy
 
-TRIES = 800
+TRIES = 1000
 SIDES_TRIED = 5
 MOST_PINS = 255                     # (one less than a diagram has, since an end that moves has two for a moment)
 SIDES = 'NESW'
@@ -61,7 +61,12 @@ class Box:
         self.place, self.id, self.is_group, self.unit = node.place, node.id, node.is_group, unit
         self.x, self.y, self.w, self.h = node.x, node.y, node.w, node.h
         self.kinds = [pin.kind for pin in node.pins]  # the classes of its pins as the program has them, in their order
-        self.ends = []
+        self.ends, self.classes = [], set(self.kinds)
+
+    def new_class(self):
+        kind = next(kind for kind in itertools.count(1) if kind not in self.classes)
+        self.classes.add(kind)
+        return kind
 
     def room(self, side):
         return self.w if side in 'NS' else self.h
@@ -133,6 +138,11 @@ class Edge:
         self.place, self.classes, self.is_loop = edge.place, edge.classes, edge.source == edge.target
         self.boxes, self.ends = (boxes[edge.source], boxes[edge.target]), [None, None]
 
+    def common_span(self):
+        """The first and the last place that both of its ends can have; none where the first is greater."""
+        lows, highs = zip(*(end.span() for end in self.ends))
+        return max(lows), min(highs)
+
 
 class Scene:
     """The boxes and edges of a diagram, its ends without a class, and its scale: one unit in thousandths."""
@@ -144,11 +154,10 @@ class Scene:
         self.edges = [Edge(edge, boxes) for edge in diagram.edges]
         self.solids = [box for box in boxes.values() if not box.is_group]
         self.kept, self.ends = sum(len(box.kinds) for box in boxes.values()), []
-        unused = {box: (kind for kind in itertools.count(1) if kind not in tuple(box.kinds)) for box in boxes.values()}
         for edge in self.edges:
             for k in (0, 1):
                 if not edge.is_loop and not edge.classes[k]:
-                    edge.ends[k] = End(edge, k, next(unused[edge.boxes[k]]))
+                    edge.ends[k] = End(edge, k, edge.boxes[k].new_class())
                     self.ends.append(edge.ends[k])
                     edge.boxes[k].ends.append(edge.ends[k])
             if all(edge.ends):
@@ -191,46 +200,27 @@ class Places:
     def __init__(self, scene):
         self.scene, self.unit = scene, scene.unit
 
-    def want(self, end, even):
-        """The even place of an end, but on a long side not far from the place that is nearest to its other end."""
-        reach = REACH * self.unit
-        return min(max(even, end.towards() - reach), end.towards() + reach)
-
     def evenly(self, row):
-        """The wanted place of each end of a side."""
-        room, count = row[0].box.room(row[0].side), len(row)
-        return [self.want(end, room * i // (count + 1) - room // 2) for i, end in enumerate(row, 1)]
+        """The wanted places of the ends of a side: even, but on a long side not far from the places nearest to the other ends."""
+        room, reach, found = row[0].box.room(row[0].side), REACH * self.unit, []
+        for i, end in enumerate(row, 1):
+            even, near = room * i // (len(row) + 1) - room // 2, end.towards()
+            found.append(min(max(even, near - reach), near + reach))
+        return found
 
-    def free(self, one, two, low, high, buffer):
-        """The widest part of low to high, along the sides of two ends that face, in which no box stands between."""
-        is_tall = one.side in 'NS'
-        near, far = sorted((box.y if is_tall else box.x) for box in (one.box, two.box))
-        parts = [(low, high)]
-        for box in self.scene.solids:
-            if box is one.box or box is two.box:
-                continue
-            along, half, across, depth = (box.x, box.w // 2, box.y, box.h // 2) if is_tall else \
-                (box.y, box.h // 2, box.x, box.w // 2)
-            if across + depth + buffer <= near or across - depth - buffer >= far:
-                continue
-            start, end = along - half - buffer, along + half + buffer
-            parts = [part for left, right in parts for part in ((left, min(right, start)), (max(left, end), right))
-                     if part[0] <= part[1]]
-        return max(parts, key=lambda part: part[1] - part[0], default=None)
-
-    def facing_pairs(self, wants, buffer):
-        """The pairs of ends that could have one place (low, high), those first that differ least."""
+    def facing_pairs(self, wants, estimates):
+        """The pairs of ends that could have one place, in the coordinate of the sheet, those first that differ least."""
         found = []
-        for one, two in (edge.ends for edge in self.scene.edges if all(edge.ends)):
-            if one.faces():
-                spans = one.span(), two.span()
-                low, high = max(span[0] for span in spans), min(span[1] for span in spans)
-                part = self.free(one, two, low, high, buffer) if low <= high else None
-                if part:
-                    found.append((abs(wants[one] - wants[two]), one.edge.place, part, one, two))
-        return sorted(found, key=lambda pair: pair[:2])
+        for edge in self.scene.edges:
+            if all(edge.ends) and edge.ends[0].faces():
+                (low, high), wanted = edge.common_span(), [wants[end] for end in edge.ends]
+                spots = [min(max(spot, low), high) for spot in (sum(wanted) // 2, *wanted, low, high)] if low <= high else []
+                spot = next((spot for spot in spots if estimates.is_straight_clear(edge, spot)), None)
+                if spot is not None:
+                    found.append((abs(wanted[0] - wanted[1]), edge.place, spot, edge))
+        return [(spot, edge) for _, _, spot, edge in sorted(found, key=lambda pair: pair[:2])]
 
-    def place_all(self, buffer, keeps_order=False):
+    def place_all(self, estimates, keeps_order=False):
         """Gives each end its place: opposite its other end where order, gap and boxes allow, else evenly."""
         rows, wants, held = self.scene.rows(), {}, set()
         for row in rows.values():
@@ -238,15 +228,15 @@ class Places:
             wants.update(zip(row, (row[0].box.middle(row[0].side) + place for place in self.evenly(row))))
         for row in rows.values():
             self.fit(row, wants, held)
-        for _, _, (low, high), one, two in self.facing_pairs(wants, buffer):
-            sides = rows[one.box, one.side], rows[two.box, two.side]
+        for spot, edge in self.facing_pairs(wants, estimates):
+            sides = [rows[end.box, end.side] for end in edge.ends]
             before = [(end, end.t) for row in sides for end in row]
-            held |= {one, two}
-            for end, row in zip((one, two), sides):
-                end.t = min(max((wants[one] + wants[two]) // 2, low), high) - end.box.middle(end.side)
+            held.update(edge.ends)
+            for end, row in zip(edge.ends, sides):
+                end.t = spot - end.box.middle(end.side)
                 self.fit(row, wants, held)
             if not all(end.is_straight() for end, _ in before if end in held):
-                held -= {one, two}
+                held.difference_update(edge.ends)
                 for end, t in before:
                     end.t = t
 
@@ -263,21 +253,6 @@ class Places:
         if row:
             wants = [box.middle(side) + place for place in self.evenly(row)] if evenly else [end.at() for end in row]
             self.fit(row, dict(zip(row, wants)), {end for end in row if end is held or end.is_straight()})
-
-
-def untidy(row, box):
-    """What the places on one side cost by their looks: far from even ones, near a corner, near each other."""
-    total, last, unit = 0.0, None, box.unit
-    for i, end in enumerate(row, 1):
-        room = box.room(end.side)
-        uneven = 1.1 * abs(end.t - room * i // (len(row) + 1) + room // 2) / unit
-        total += min(uneven, 16 if end.is_straight() else 40)
-        if room > 24 * unit:
-            total += max(0.0, 8 - (room / 2 - abs(end.t)) / unit) * 1.5
-        if last is not None:
-            total += max(0.0, 8 - (end.t - last) / unit) * 3
-        last = end.t
-    return total
 
 
 # ---- sides ----
@@ -398,11 +373,11 @@ class Search:
     def start(self):
         """Commits the better of two ways to give sides: by the lines without pins, or where they cost least."""
         self.by_lines()
-        self.places.place_all(self.buffer)
+        self.places.place_all(self.estimates)
         self.give_pins()
         total, state = self.reordered(), self.state()
         self.by_least()
-        self.places.place_all(self.buffer)
+        self.places.place_all(self.estimates)
         self.commit()
         if self.reordered() > total:
             self.restore(state)
@@ -414,7 +389,7 @@ class Search:
         for _ in range(3):
             now = self.state()
             self.by_lines(gives_sides=False)
-            self.places.place_all(self.buffer)
+            self.places.place_all(self.estimates)
             self.commit()
             if self.picture.total() >= total:
                 self.restore(now)
@@ -470,29 +445,26 @@ class Search:
                 found.append((end - start, start, end))
         return [(start + end) // 2 for _, start, end in sorted(found, reverse=True)[:most]]
 
-    def aligned(self, one, two, most):
+    def aligned(self, edge, most):
         """Two ends that face each other as they stand, and at one place: in gaps, or with the others moved aside."""
-        here, spans = self.state(), (one.span(), two.span())
+        here, (low, high) = self.state(), edge.common_span()
         yield
-        low, high = max(span[0] for span in spans), min(span[1] for span in spans)
         if low > high:
             return
         self.restore(here)
-        spots = [at for at in (one.at(), two.at()) if low <= at <= high][:1] + self.gaps((one, two), low, high, most)
+        spots = [end.at() for end in edge.ends if low <= end.at() <= high][:1] + self.gaps(edge.ends, low, high, most)
         for spot in [*dict.fromkeys(spots), None]:
             self.restore(here)
-            for end in (one, two):
+            for end in edge.ends:
                 end.t = ((low + high) // 2 if spot is None else spot) - end.box.middle(end.side)
-            if spot is None:
-                self.places.refit(one.box, one.side, one)
-                self.places.refit(two.box, two.side, two)
+            for end in edge.ends if spot is None else ():
+                self.places.refit(end.box, end.side, end)
             yield
 
     def places_tried(self, edge):
         """Other places of the ends on their sides."""
-        one, two = edge.ends
-        if one and two and one.faces() and not one.is_straight():
-            yield from self.aligned(one, two, 4)
+        if all(edge.ends) and edge.ends[0].faces() and not edge.ends[0].is_straight():
+            yield from self.aligned(edge, 4)
         for end in filter(None, edge.ends):
             (low, high), middle = end.span(), end.box.middle(end.side)
             taken = [other.at() for other in end.box.row(end.side) if other is not end]
@@ -500,6 +472,29 @@ class Search:
                 if all(abs(spot - at) >= NEAR * self.scene.unit for at in taken):
                     end.t = spot - middle
                     yield
+
+    def orders_tried(self, edge):
+        """The ends moved in their rows: behind the next one, or to the place of one whose line theirs crosses or touches."""
+        drawn = self.picture.drawn
+        for end in filter(None, edge.ends):
+            row = end.box.row(end.side)
+            i, spots, known = row.index(end), [other.t for other in row], drawn[edge.place].known if drawn[edge.place] else {}
+            for j, other in enumerate(row):
+                if j == i + 1 or j != i and known.get(drawn[other.edge.place]):
+                    order = row[:i] + row[i + 1:]
+                    order.insert(j, end)
+                    for moved, t in zip(order, spots):
+                        moved.t = t
+                    yield
+
+    def put_on(self, end, side, by_angle):
+        """Puts an end on another side, by its angle among those that are there, or as near to the other box as can be."""
+        row = end.box.row(side)
+        end.side = side
+        before = sum(order_by_angle(other) < order_by_angle(end) for other in row)
+        end.t = 0 if not row else row[before].t - 1 if before < len(row) else row[-1].t + 1
+        if not by_angle:
+            end.t = end.towards()
 
     def sides_tried(self, edge):
         """The other sides of the ends that may cost least."""
@@ -511,21 +506,20 @@ class Search:
             left = [(end.box, end.side) for end, _ in moved]
             for evenly in (True, False):
                 for end, side in moved:
-                    end.side = side
-                    end.t = end.towards()
+                    self.put_on(end, side, by_angle=evenly)
                 for box, side in [*left, *((end.box, side) for end, side in moved)]:
                     self.places.refit(box, side, evenly=evenly)
                 if all(edge.ends) and edge.ends[0].faces():
-                    yield from self.aligned(*edge.ends, 3)
+                    yield from self.aligned(edge, 3)
                     break
                 yield
 
     def replaced(self):
         """All places anew, in their order and by the lines."""
-        self.places.place_all(self.buffer, keeps_order=True)
+        self.places.place_all(self.estimates, keeps_order=True)
         yield
         self.by_lines(gives_sides=False)
-        self.places.place_all(self.buffer)
+        self.places.place_all(self.estimates)
         yield
 
     def evened(self, box, side):
@@ -554,8 +548,7 @@ class Search:
         for edge in self.by_gain():
             surroundings = self.surroundings(edge)
             if self.failed.get(edge) != surroundings and self.used < self.tries:
-                more = self.best_of(self.places_tried(edge))
-                more += self.best_of(self.sides_tried(edge))
+                more = sum(self.best_of(moves(edge)) for moves in (self.places_tried, self.orders_tried, self.sides_tried))
                 gained += more
                 self.failed[edge] = None if more else surroundings
         return gained
@@ -565,9 +558,9 @@ class Search:
         for box, side in self.scene.rows():
             if untidy(box.row(side), box) > 4:
                 self.best_of(self.evened(box, side))
-        for one, two in (edge.ends for edge in self.scene.edges if all(edge.ends)):
-            if one.is_straight() and any(untidy([end], end.box) > 2 for end in (one, two)):
-                self.best_of(self.aligned(one, two, 3))
+        for edge in self.scene.edges:
+            if all(edge.ends) and edge.ends[0].is_straight() and any(untidy([end], end.box) > 2 for end in edge.ends):
+                self.best_of(self.aligned(edge, 3))
 
     def go(self, buffers):
         self.set_buffer(buffers[len(buffers) // 2])
@@ -600,8 +593,8 @@ def choose(data, live='reroute_live', buffer=None, nudge=None, tries=TRIES, say=
         search.commit(*(f'set {name} {gml.units(value)}' for name, value in settings.items()))
         search.go(buffers)
         lines = session.ask(['lines'])[0]
-    if search.buffer != diagram.buffer:
-        settings['buffer'] = search.buffer
+    if buffer or not gml.first(router, 'buffer'):
+        settings = {'buffer': search.buffer, **settings}
     return Choice(settings, search.buffer, scene, {place: lines.get(place) for place in search.picture.edges})
 
 
