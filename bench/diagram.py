@@ -3,67 +3,31 @@
 It is a module of `run`, and no program itself. All lengths are in units.
 """
 import json
-import re
+import os
+import sys
 from bisect import bisect_left, bisect_right
 from collections import namedtuple
+
+sys.path.append(os.path.join(os.path.dirname(os.path.realpath(__file__)), '..', 'tools'))
+import gml  # noqa: E402
 
 Node = namedtuple('Node', 'id x y w h is_group pins')
 Pin = namedtuple('Pin', 'of_class x y dirs')
 Edge = namedtuple('Edge', 'source target source_class target_class via line')
 Diagram = namedtuple('Diagram', 'penalty buffer nudge nodes edges')
 
-TOKEN = re.compile(r'\s+|#[^\n]*|("[^"]*"|[\[\]]|[\w+.-]+)')
 
-
-def pairs_of(words):
-    """The pairs of a list, up to its end."""
-    pairs = []
-    for key in words:
-        if key == ']':
-            break
-        value = next(words)
-        pairs.append((key, pairs_of(words) if value == '[' else value))
-    return pairs
-
-
-def first(pairs, key, other=None):
-    return next((value for name, value in pairs if name == key), other)
-
-
-def lists(pairs, key):
-    return [value for name, value in pairs if name == key]
-
-
-def number(pairs, key, other=None):
-    value = first(pairs, key)
-    return other if value is None else float(value)
-
-
-def place(pairs):
-    return number(pairs, 'x'), number(pairs, 'y')
-
-
-def read_node(pairs):
-    graphics = first(pairs, 'graphics')
-    pins = tuple(Pin(int(first(pin, 'class')), *place(pin), first(pin, 'dirs', '"ESWN"').strip('"'))
-                 for pin in lists(pairs, 'pin'))
-    return Node(int(first(pairs, 'id')), *place(graphics), number(graphics, 'w', 30.0), number(graphics, 'h', 30.0),
-                first(pairs, 'isGroup') == '1', pins)
-
-
-def read_edge(pairs):
-    drawn = first(first(pairs, 'graphics', []), 'Line', [])
-    return Edge(int(first(pairs, 'source')), int(first(pairs, 'target')),
-                int(first(pairs, 'sourcePin', '0')), int(first(pairs, 'targetPin', '0')),
-                tuple(place(via) for via in lists(pairs, 'via')),
-                tuple(place(point) for point in lists(drawn, 'point')))
+def units(*lengths):
+    return tuple(length / 1000 for length in lengths)
 
 
 def read(text):
-    graph = first(pairs_of(iter([word for word in TOKEN.findall(text) if word])), 'graph')
-    router = first(graph, 'router', [])
-    return Diagram(number(router, 'penalty', 50.0), number(router, 'buffer', 4.0), number(router, 'nudge', 4.0),
-                   tuple(map(read_node, lists(graph, 'node'))), tuple(map(read_edge, lists(graph, 'edge'))))
+    found = gml.read(text.encode())
+    nodes = tuple(Node(node.id, *units(node.x, node.y, node.w, node.h), node.is_group,
+                       tuple(Pin(pin.kind, *units(pin.x, pin.y), pin.sides) for pin in node.pins)) for node in found.nodes)
+    edges = tuple(Edge(edge.source, edge.target, *edge.classes, tuple(units(*spot) for spot in edge.vias),
+                       tuple(units(*spot) for spot in edge.line)) for edge in found.edges)
+    return Diagram(*units(found.penalty, found.buffer, found.nudge), nodes, edges)
 
 
 def written(diagram):

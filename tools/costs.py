@@ -1,4 +1,4 @@
-"""Costs, for pins.py: of lines that are drawn, alone and together; of the places of pins on a side; and what a line costs at least.
+"""Costs, for pins.py: of drawn lines, alone and together; of places of pins on a side; and what a line costs at least.
 
 All costs are in units of the diagram. The scene, its edges, ends and boxes are those of pins.py; places are whole thousandths.
 """

@@ -1,15 +1,14 @@
 """Chooses pins for the ends of the edges of a diagram, so that its lines have few bends and crossings.
 
     choice = pins.choose(data)                            # data: the bytes of a diagram in GML; runs reroute_live
-    choice = pins.choose(data, live=program, buffer=12000, nudge=8000, tries=300, say=print)
     choice = pins.plain(data)                             # on the sides that face; starts no program
     '\\n'.join(choice.script())                            # what `reroute route` takes
 
 Lengths are whole thousandths. `choose` keeps a buffer, nudge and penalty that the diagram sets, unless it is given others.
 Both raise `gml.Fault` for a diagram that is none, or a program that does not run. The same input gives the same choice.
 
-`choose` asks a running reroute_live for the lines and judges the whole picture (`Picture`). It begins with some ways to give
-sides (`starts`), takes the best, then the best buffer, and tries other places and sides edge by edge, each by a preview.
+`choose` asks a running reroute_live for the lines and judges the whole picture (`Picture`). It begins with the better of two
+ways to give sides, takes the best buffer, and then tries other places and sides edge by edge, each by a preview.
 """
 import collections
 import itertools
@@ -18,14 +17,12 @@ import gml
 import session as sessions
 from costs import BEND, NEAR, OPPOSITE, PAD, Estimates, Picture, untidy
 
-TRIES = 1000
-SIDES_TRIED = 5
+TRIES, SIDES_TRIED = 1000, 5
 MOST_PINS = 255                     # (one less than a diagram has, since an end that moves has two for a moment)
 SIDES = 'NESW'
-# Lengths in units.
-BUFFERS = (12, 10, 8, 6, 4, 2, 1)
-NUDGE, USUAL_SIDE = 8, 36
-GAP, REACH = 8, 30                  # between pins, and how far a place is from the one nearest to its other end
+# Lengths in units; a pin is at most REACH from the place that is nearest to its other end.
+BUFFERS, NUDGE = (12, 10, 8, 6, 4, 2, 1), 8
+GAP, REACH, USUAL_SIDE = 8, 30, 36
 
 
 class Choice:
@@ -120,6 +117,7 @@ class End:
         return (away if self.side in 'SE' else -away) > 0
 
     def is_straight(self):
+        """Whether a straight line could join the two ends."""
         return self.faces() and self.other.at() == self.at()
 
     def towards(self):
@@ -174,8 +172,7 @@ class Scene:
     def choose_bare(self):
         """Where there are more ends than pins: those alone on their side have none, then those of the emptiest sides."""
         over, self.bare = len(self.ends) + self.kept - MOST_PINS, set()
-        for row in sorted(self.rows().values(), key=lambda row: (len(row), sum(abs(end.t) for end in row),
-                                                                 row[0].edge.place)):
+        for row in sorted(self.rows().values(), key=lambda row: (len(row), sum(abs(end.t) for end in row))):
             if len(self.bare) < over:
                 self.bare.update(row)
 
@@ -303,8 +300,6 @@ class Search:
         for end, (side, t) in zip(self.scene.ends, state):
             end.side, end.t = side, t
 
-    # (what the program is told)
-
     def edits(self):
         """The edits that bring the pins of the program to their present places, and the pins of boxes after them."""
         rows, kinds = [], {}
@@ -347,8 +342,6 @@ class Search:
         self.buffer, self.estimates = buffer, Estimates(self.scene, buffer)
         self.commit(f'set buffer {gml.units(buffer)}')
 
-    # (starts)
-
     def by_lines(self, gives_sides=True):
         """Gives ends the sides by which their lines leave, or only the order of those that leave by the side they have."""
         for end in self.scene.ends:
@@ -360,13 +353,12 @@ class Search:
 
     def by_least(self):
         """Gives ends the sides between which the line costs least, if only boxes are in its way."""
-        for end in self.scene.ends:
-            end.side = facing_side(end.box, end.far)
         for edge in self.scene.edges:
-            if all(edge.ends):
-                choices = itertools.product(SIDES, SIDES)
-                sides = min(choices, key=lambda sides: (self.estimates.of(edge, *sides), OPPOSITE[sides[0]] != sides[1]))
-                edge.ends[0].side, edge.ends[1].side = sides
+            choices = itertools.product(SIDES, SIDES)
+            sides = min(choices, key=lambda sides: (self.estimates.of(edge, *sides), OPPOSITE[sides[0]] != sides[1]))
+            for end, side in zip(edge.ends, sides):
+                if end:
+                    end.side = side if end.other else facing_side(end.box, end.far)
         for end in self.scene.ends:
             end.order = order_by_angle(end)
 
@@ -417,20 +409,16 @@ class Search:
             if rows and tuple(rows) not in seen:
                 seen.add(tuple(rows))
                 found, _ = self.session.ask(['begin', *rows, 'preview', 'abort'])
-                self.count()
+                self.used += 1
+                if self.say and self.used % 100 == 0:
+                    self.say(f'tried {self.used} places of pins, of at most {self.tries}')
                 more = self.picture.more_with(found) + looks - self.looks(kinds)
                 if more < best:
                     best, best_state = more, state
-        if not best_state:
-            return 0.0
-        self.restore(best_state)
-        self.commit()
-        return -best
-
-    def count(self):
-        self.used += 1
-        if self.say and self.used % 100 == 0:
-            self.say(f'tried {self.used} places of pins, of at most {self.tries}')
+        if best_state:
+            self.restore(best_state)
+            self.commit()
+        return -best if best_state else 0.0
 
     def looks(self, boxes):
         return sum(untidy(box.row(side), box) for box in boxes for side in SIDES)
@@ -522,12 +510,6 @@ class Search:
         self.places.place_all(self.estimates)
         yield
 
-    def evened(self, box, side):
-        self.places.refit(box, side)
-        yield
-
-    # (rounds)
-
     def surroundings(self, edge):
         """What the trials of an edge depend on most: its cost, and the ends at its boxes."""
         return (round(self.picture.cost([edge.place], self.picture.drawn), 1),
@@ -557,7 +539,7 @@ class Search:
         """Evens sides, and moves straight lines off corners, where the picture does not suffer."""
         for box, side in self.scene.rows():
             if untidy(box.row(side), box) > 4:
-                self.best_of(self.evened(box, side))
+                self.best_of(self.places.refit(box, side) for _ in range(1))
         for edge in self.scene.edges:
             if all(edge.ends) and edge.ends[0].is_straight() and any(untidy([end], end.box) > 2 for end in edge.ends):
                 self.best_of(self.aligned(edge, 3))
@@ -581,19 +563,17 @@ def choose(data, live='reroute_live', buffer=None, nudge=None, tries=TRIES, say=
     """The best choice that is found with about so many tries; `say` gets a line of text now and then on long runs."""
     diagram = gml.read(data)
     scene, router = Scene(diagram), gml.first_list(diagram.graph, 'router')
-    buffers, settings = [max(1, units * scene.unit) for units in BUFFERS], {}
-    if buffer or gml.first(router, 'buffer'):
-        buffers = [buffer or diagram.buffer]
+    is_kept, settings = buffer is None and gml.first(router, 'buffer'), {}
     if nudge is not None or not gml.first(router, 'nudge'):
-        settings['nudge'] = max(1, NUDGE * scene.unit) if nudge is None else nudge
+        settings['nudge'] = NUDGE * scene.unit if nudge is None else nudge
     if scene.unit < 1000 and not gml.first(router, 'penalty'):
         settings['penalty'] = BEND * scene.unit
     with sessions.Session(live, data) as session:
         search = Search(scene, session, tries, say)
         search.commit(*(f'set {name} {gml.units(value)}' for name, value in settings.items()))
-        search.go(buffers)
+        search.go([buffer or diagram.buffer] if buffer or is_kept else [units * scene.unit for units in BUFFERS])
         lines = session.ask(['lines'])[0]
-    if buffer or not gml.first(router, 'buffer'):
+    if not is_kept:
         settings = {'buffer': search.buffer, **settings}
     return Choice(settings, search.buffer, scene, {place: lines.get(place) for place in search.picture.edges})
 

@@ -29,7 +29,7 @@ class Session:
         self.file.close()
 
     def ask(self, requests):
-        """Sends requests; which lines they report, by the numbers of their connectors (None for no line), and the first refusal."""
+        """Sends requests; the lines that they report, by the numbers of connectors (None for no line), and the first refusal."""
         found, refusal, left = {}, None, len(requests)
         try:
             self.run.stdin.write(''.join(f'{request}\n' for request in requests).encode())
@@ -53,7 +53,7 @@ class Session:
 
 
 def live_program(name=None):
-    """The program reroute_live: the one named, that of the environment, beside the tool, built in the repository, or on the path."""
+    """The program reroute_live: as named, that of the environment, beside the tool, built in the repository, or on the path."""
     home = os.path.dirname(os.path.realpath(sys.argv[0]))
     built = (f'{home}/reroute_live', f'{home}/../out/reroute_live')
     return name or os.environ.get('REROUTE_LIVE') or next((path for path in built if os.access(path, os.X_OK)), 'reroute_live')
