@@ -44,7 +44,13 @@ class Drawn:
         self.cost = length / unit + BEND * self.bends + SHORT * short
         xs, ys = zip(*seen)
         self.frame = min(xs), min(ys), max(xs), max(ys)
-        self.known = {}                             # what it costs together with other lines
+        self.known = {}                             # what it costs together with some other lines
+
+    def cost_with(self, other, unit):
+        cost = self.known.get(other, other.known.get(self))
+        if cost is None:
+            cost = self.known[other] = together(self, other, unit)
+        return cost
 
 
 def together(one, two, unit):
@@ -89,13 +95,14 @@ class Picture:
                 if other and number != place and (number > place or number not in places):
                     frame = other.frame
                     if frame[0] < right and left < frame[2] and frame[1] < bottom and top < frame[3]:
-                        if other not in line.known:
-                            line.known[other] = together(line, other, self.unit)
-                        total += line.known[other]
+                        total += line.cost_with(other, self.unit)
         return total
 
     def total(self):
         return self.cost(self.edges, self.drawn)
+
+    def of_edge(self, place):
+        return self.cost([place], self.drawn)
 
     def more_with(self, lines):
         """What the picture costs more with these lines."""

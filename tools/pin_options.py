@@ -32,8 +32,8 @@ def add(parser):
                         help='how far lines keep from boxes; without it, what the diagram sets, or the best of 12 to 1')
     parser.add_argument('--nudge', type=length, metavar='N',
                         help='how far lines keep from each other; without it, what the diagram sets, or 8')
-    parser.add_argument('--tries', type=count, default=pins.TRIES, metavar='N',
-                        help=f'about how many places and sides to try; {pins.TRIES}')
+    parser.add_argument('--tries', type=count, metavar='N', help='how many places and sides to try; by the number of '
+                        f'edges, and at most {pins.TRIES}')
     parser.add_argument('--live', metavar='PROGRAM', help='reroute_live, if it is not beside this program or on the path')
     parser.add_argument('--plain', action='store_true',
                         help='pins on the sides that face the other boxes, evenly spread, without running reroute_live')

@@ -17,9 +17,8 @@ import gml
 import session as sessions
 from costs import BEND, NEAR, OPPOSITE, PAD, Estimates, Picture, untidy
 
-TRIES, SIDES_TRIED = 1000, 5
-MOST_PINS = 255                     # (one less than a diagram has, since an end that moves has two for a moment)
-SIDES = 'NESW'
+TRIES, EFFORT, SIDES_TRIED = 1000, 16_000_000, 5    # (the effort is tries by the square of the number of edges)
+MOST_PINS, SIDES = 255, 'NESW'      # (one pin less than a diagram has, since an end that moves has two for a moment)
 # Lengths in units; a pin is at most REACH from the place that is nearest to its other end.
 BUFFERS, NUDGE = (12, 10, 8, 6, 4, 2, 1), 8
 GAP, REACH, USUAL_SIDE = 8, 30, 36
@@ -124,7 +123,8 @@ class End:
         """The place on its side, from the middle, that is nearest to the other end or the other box."""
         low, high, _ = self.box.limits(self.side)
         is_along = self.other and (self.other.side in 'NS') == (self.side in 'NS')
-        return min(max((self.other.at() if is_along else self.far.middle(self.side)) - self.box.middle(self.side), low), high)
+        there = self.other.at() if is_along else self.far.middle(self.side)
+        return min(max(there - self.box.middle(self.side), low), high)
 
     def tie(self):
         """Parallel edges go clockwise round the one box and the other way round the other, so that they do not cross."""
@@ -198,7 +198,7 @@ class Places:
         self.scene, self.unit = scene, scene.unit
 
     def evenly(self, row):
-        """The wanted places of the ends of a side: even, but on a long side not far from the places nearest to the other ends."""
+        """The wanted places of the ends of a side: even, but on a long one not far from those nearest to the other ends."""
         room, reach, found = row[0].box.room(row[0].side), REACH * self.unit, []
         for i, end in enumerate(row, 1):
             even, near = room * i // (len(row) + 1) - room // 2, end.towards()
@@ -275,7 +275,7 @@ def order_by_angle(end):
 
 
 def side_and_order(corners, end):
-    """The side by which a line leaves, and where it stands among those that leave there: by its turn, then how far that is."""
+    """The side by which a line leaves, and its order among those that leave there: by its turn, then how far that is."""
     (x, y), (u, v) = corners[:2]
     side = ('E' if u > x else 'W') if abs(u - x) > abs(v - y) else ('S' if v > y else 'N')
     way, far = 0 if side in 'NS' else 1, abs(u - x) + abs(v - y)
@@ -289,7 +289,8 @@ class Search:
     """Changes sides and places as long as the picture of a session gets better."""
 
     def __init__(self, scene, session, tries, say):
-        self.scene, self.session, self.tries, self.say = scene, session, tries, say
+        self.scene, self.session, self.say = scene, session, say
+        self.tries = min(TRIES, EFFORT // max(1, len(scene.edges)) ** 2) if tries is None else tries
         self.picture, self.places = Picture(scene, session.ask(['lines'])[0]), Places(scene)
         self.used, self.failed = 0, {}
 
@@ -356,9 +357,8 @@ class Search:
         for edge in self.scene.edges:
             choices = itertools.product(SIDES, SIDES)
             sides = min(choices, key=lambda sides: (self.estimates.of(edge, *sides), OPPOSITE[sides[0]] != sides[1]))
-            for end, side in zip(edge.ends, sides):
-                if end:
-                    end.side = side if end.other else facing_side(end.box, end.far)
+            for end in filter(None, edge.ends):
+                end.side = sides[end.k] if end.other else facing_side(end.box, end.far)
         for end in self.scene.ends:
             end.order = order_by_angle(end)
 
@@ -401,6 +401,8 @@ class Search:
 
     def best_of(self, moves):
         """Asks what each of the moves would change, and commits the best one; what the picture gains by it."""
+        if self.used >= self.tries:
+            return 0.0
         now, best, best_state, seen = self.state(), -1.0, None, set()
         for _ in moves:
             rows, kinds = self.edits()
@@ -466,9 +468,9 @@ class Search:
         drawn = self.picture.drawn
         for end in filter(None, edge.ends):
             row = end.box.row(end.side)
-            i, spots, known = row.index(end), [other.t for other in row], drawn[edge.place].known if drawn[edge.place] else {}
-            for j, other in enumerate(row):
-                if j == i + 1 or j != i and known.get(drawn[other.edge.place]):
+            i, spots, mine = row.index(end), [other.t for other in row], drawn[edge.place]
+            for j, theirs in enumerate(drawn[other.edge.place] for other in row):
+                if j == i + 1 or j != i and mine and theirs and mine.cost_with(theirs, self.scene.unit):
                     order = row[:i] + row[i + 1:]
                     order.insert(j, end)
                     for moved, t in zip(order, spots):
@@ -486,7 +488,7 @@ class Search:
 
     def sides_tried(self, edge):
         """The other sides of the ends that may cost least."""
-        present, cost = tuple(end.side if end else ' ' for end in edge.ends), self.picture.cost([edge.place], self.picture.drawn)
+        present, cost = tuple(end.side if end else ' ' for end in edge.ends), self.picture.of_edge(edge.place)
         choices = itertools.product(*(SIDES if end else ' ' for end in edge.ends))
         choices = sorted((self.estimates.of(edge, *sides), sides) for sides in choices if sides != present)
         for sides in [sides for least, sides in choices if least < cost - 10][:SIDES_TRIED]:
@@ -512,8 +514,7 @@ class Search:
 
     def surroundings(self, edge):
         """What the trials of an edge depend on most: its cost, and the ends at its boxes."""
-        return (round(self.picture.cost([edge.place], self.picture.drawn), 1),
-                [(end.side, end.t) for box in edge.boxes for end in box.ends])
+        return round(self.picture.of_edge(edge.place), 1), [(end.side, end.t) for box in edge.boxes for end in box.ends]
 
     def by_gain(self):
         """The edges that may gain something, those first that may gain most."""
@@ -521,7 +522,7 @@ class Search:
         for place, edge in self.picture.edges.items():
             if any(edge.ends):
                 least = min(self.estimates.of(edge, *sides) for sides in itertools.product(SIDES, SIDES))
-                found.append((least - self.picture.cost([place], self.picture.drawn), place))
+                found.append((least - self.picture.of_edge(place), place))
         return [self.picture.edges[place] for more, place in sorted(found) if more < -10]
 
     def improve(self):
@@ -529,7 +530,7 @@ class Search:
         gained = 0.0
         for edge in self.by_gain():
             surroundings = self.surroundings(edge)
-            if self.failed.get(edge) != surroundings and self.used < self.tries:
+            if self.failed.get(edge) != surroundings and self.used < 7 * self.tries // 8:
                 more = sum(self.best_of(moves(edge)) for moves in (self.places_tried, self.orders_tried, self.sides_tried))
                 gained += more
                 self.failed[edge] = None if more else surroundings
@@ -551,7 +552,7 @@ class Search:
             if number < 2:
                 self.settle(buffers)
             gained = self.best_of(self.replaced()) + self.improve()
-            if gained < 0.001 * self.picture.total() or self.used >= self.tries:
+            if gained < 0.001 * self.picture.total():
                 break
         self.best_of(self.replaced())
         self.tidy()
@@ -559,7 +560,7 @@ class Search:
 
 # ---- what users call ----
 
-def choose(data, live='reroute_live', buffer=None, nudge=None, tries=TRIES, say=None):
+def choose(data, live='reroute_live', buffer=None, nudge=None, tries=None, say=None):
     """The best choice that is found with about so many tries; `say` gets a line of text now and then on long runs."""
     diagram = gml.read(data)
     scene, router = Scene(diagram), gml.first_list(diagram.graph, 'router')
@@ -573,8 +574,7 @@ def choose(data, live='reroute_live', buffer=None, nudge=None, tries=TRIES, say=
         search.commit(*(f'set {name} {gml.units(value)}' for name, value in settings.items()))
         search.go([buffer or diagram.buffer] if buffer or is_kept else [units * scene.unit for units in BUFFERS])
         lines = session.ask(['lines'])[0]
-    if not is_kept:
-        settings = {'buffer': search.buffer, **settings}
+    settings = settings if is_kept else {'buffer': search.buffer, **settings}
     return Choice(settings, search.buffer, scene, {place: lines.get(place) for place in search.picture.edges})
 
 

@@ -146,9 +146,8 @@ class Pictures(unittest.TestCase):
         data = layers(24, 30, 1 / 36)
         found = pins_of(data)
         self.assertIn(b'set penalty', found.stdout)
-        new, old = counted(routed(data, found.stdout)), with_pins(data, '--plain')
-        self.assertEqual(new[0], 0)
-        self.assertLess(new[1], old[1])
+        self.assertEqual(counted(routed(data, found.stdout))[0], 0)
+        self.assertGreater(with_pins(data, '--plain')[0], 0)
 
 
 @unittest.skipUnless(ARE_THERE, 'there is no reroute and reroute_live')
