@@ -17,7 +17,7 @@ import gml
 import session as sessions
 from costs import BEND, NEAR, OPPOSITE, PAD, Estimates, Picture, untidy
 
-TRIES, EFFORT, SIDES_TRIED = 1000, 16_000_000, 5    # (the effort is tries by the square of the number of edges)
+TRIES, EFFORT, SIDES_TRIED = 1000, 12_000_000, 5    # (the effort is tries by the square of the number of edges)
 MOST_PINS, SIDES = 255, 'NESW'      # (one pin less than a diagram has, since an end that moves has two for a moment)
 # Lengths in units; a pin is at most REACH from the place that is nearest to its other end.
 BUFFERS, NUDGE = (12, 10, 8, 6, 4, 2, 1), 8
