@@ -2,6 +2,7 @@
 import os
 import re
 import subprocess
+from pathlib import PurePosixPath
 
 
 class Fault(Exception):
@@ -16,13 +17,9 @@ class Tree:
         done = subprocess.run(['git', '-C', top, 'ls-files', '-z'], capture_output=True, check=False)
         if done.returncode:
             raise Fault(f'git ls-files: {done.stderr.decode(errors="replace").strip()}')
-        self.files = [name for name in os.fsdecode(done.stdout).split('\0') if name]
+        self.files = os.fsdecode(done.stdout).split('\0')[:-1]
         self.tracked = set(self.files)
-        self.folders = {''}
-        for name in self.files:
-            while '/' in name:
-                name = name.rsplit('/', 1)[0]
-                self.folders.add(name)
+        self.folders = {''}.union(*(map(str, PurePosixPath(name).parents) for name in self.files)) - {'.'}
         self.texts = {}
 
     def text(self, path):
@@ -40,19 +37,15 @@ class Tree:
 
     def crates(self):
         """The crates that crates.txt names, with their lines."""
-        found = {}
-        for number, line in enumerate((self.text('crates.txt') or '').split('\n'), 1):
-            hit = re.match(r'(\w+)(?: \w+)?:', line)
-            if hit:
-                found[hit[1]] = number
-        return found
+        lines = enumerate((self.text('crates.txt') or '').split('\n'), 1)
+        return {hit[1]: number for number, line in lines if (hit := re.match(r'(\w+)(?: \w+)?:', line))}
 
 
-WORDS_OF_ANTT = {'pub', 'abbrev', 'record', 'module', 'mod', 'data', 'abstract', 'private', 'opaque', 'macro', 'unfoldable'}
+MODIFIERS = set('pub abbrev record module mod data abstract private opaque macro unfoldable'.split())
 TOKEN_OF_ANTT = re.compile(r'[^\s:(){},]+|[:(){},]')
 WORDS_OF_RT = r'(?:pub(?:\([^)]*\))?\s+)?(?:(?:const|unsafe|ghost|async|default|extern "C")\s+)*'
 ITEM_OF_RT = re.compile(rf'\s*{WORDS_OF_RT}(fn|struct|enum|trait|const|static|type|mod|union)\s+([A-Za-z_]\w*)')
-MACRO_OF_RT = re.compile(r'\s*macro_rules!\s+([A-Za-z_]\w*)')
+MEMBER_OF_RT = re.compile(r'    (?:pub(?:\([^)]*\))?\s+)?([A-Za-z_]\w*)\s*(?:[,:({]|$)')
 
 
 def antt_names(text):
@@ -62,7 +55,7 @@ def antt_names(text):
         if not line.strip() or line.startswith(('--', 'use ')):
             continue
         words = TOKEN_OF_ANTT.findall(line)
-        kinds = [word for word in words[:4] if word in WORDS_OF_ANTT]
+        kinds = [word for word in words[:4] if word in MODIFIERS]
         words = words[len(kinds):]
         if words and (line[0] != ' ' or words[1:2] == [':'] or set(kinds) - {'pub'}):
             found.add(words[0])
@@ -81,8 +74,7 @@ def rt_names(text):
     """What a file of code declares: its items, and what stands in them, alone and after the name of its owner."""
     found, owner, lines = set(), None, text.split('\n')
     for at, line in enumerate(lines):
-        if line.startswith('}'):
-            owner = None
+        owner = None if line.startswith('}') else owner
         item = ITEM_OF_RT.match(line)
         if re.match(r'(?:unsafe\s+)?impl\b', line):
             owner = owner_of(' '.join(lines[at:at + 6]).split('{')[0])
@@ -92,11 +84,8 @@ def rt_names(text):
                 found.add(f'{owner}::{item[2]}')
             elif line[0] != ' ' and item[1] in ('struct', 'enum', 'trait', 'union') and not line.endswith((';', '}')):
                 owner = item[2]
-        elif MACRO_OF_RT.match(line):
-            found.add(MACRO_OF_RT.match(line)[1])
-        elif owner and re.match(r'    (?:pub(?:\([^)]*\))?\s+)?[A-Za-z_]\w*\s*(?:[,:({]|$)', line):
-            name = re.match(r'    (?:pub(?:\([^)]*\))?\s+)?(\w+)', line)[1]
-            found.update((name, f'{owner}::{name}'))
+        elif owner and (member := MEMBER_OF_RT.match(line)):
+            found.update((member[1], f'{owner}::{member[1]}'))
     return found
 
 
@@ -109,8 +98,7 @@ class Names:
 
     def of(self, path):
         if path not in self.found:
-            text = self.tree.text(path) or ''
-            self.found[path] = rt_names(text) if path.endswith('.rt') else antt_names(text)
+            self.found[path] = (rt_names if path.endswith('.rt') else antt_names)(self.tree.text(path) or '')
         return self.found[path]
 
     def has(self, path, name):

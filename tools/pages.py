@@ -1,90 +1,63 @@
-"""The pages of the repository: their prose, code, headings, links and tables. A helper of check-pages."""
+"""The pages: their prose, code, headings, links and tables. A helper of check-pages and make-pages."""
 import collections
 import os
 import re
 import urllib.parse
 
 CODE_SPAN = re.compile(r'(`+)(.+?)\1')
-LINK = re.compile(r'(!?)\[([^\[\]]*)\]\(<?([^()\s<>]*)>?(?:\s+"[^"]*")?\)')
-LABEL = re.compile(r'^ {0,3}\[[^\]]+\]: +<?(\S+?)>?$')
+LINK = re.compile(r'(!?)\[([^\[\]]*)\]\(([^()\s]*)\)')
 OUTSIDE = re.compile(r'[a-z][a-z0-9+.-]*:|//')
 Link = collections.namedtuple('Link', 'line start text target')
 Fence = collections.namedtuple('Fence', 'line language lines')
 
 
-def masked(line):
-    """The line with brackets inside code spans blanked, so that only links have brackets; as long as before."""
-    return CODE_SPAN.sub(lambda hit: hit[1] + re.sub(r'[\[\]()!]', '\0', hit[2]) + hit[1], line)
-
-
 def slug_of(heading):
     plain = LINK.sub(lambda hit: hit[2], heading)
-    kept = re.sub(r'[^\w\- ]', '', plain.replace('`', '').strip().lower())
-    return kept.replace(' ', '-')
+    return re.sub(r'[^\w\- ]', '', plain.replace('`', '').strip().lower()).replace(' ', '-')
 
 
 class Page:
-    """A page: its lines, those of its prose, its fences, headings and links."""
+    """A page: its lines, those of its prose, its fences, headings, anchors and links."""
 
     def __init__(self, path, text):
         self.path = path
         self.lines = text.split('\n')
         self.prose = list(self.lines)
         self.fences = []
-        self.open_fence = 0
-        self.find_fences()
-        self.headings = []
-        for number, line in enumerate(self.prose, 1):
-            hit = re.match(r'#{1,6}\s+(.*?)(?:\s+#+)?\s*$', line)
-            if hit:
-                self.headings.append((number, hit[1]))
+        self.open_fence = self.find_fences()
+        self.headings = [(number, line.split(' ', 1)[1].strip())
+                         for number, line in enumerate(self.prose, 1) if re.match('#{1,6} ', line)]
         self.links = [link for number, line in enumerate(self.prose, 1) for link in links_of(number, line)]
-        self.anchors = self.find_anchors()
+        slugs = [slug_of(heading) for _, heading in self.headings]
+        befores = [slugs[:at].count(slug) for at, slug in enumerate(slugs)]
+        self.anchors = {f'{slug}-{before}' if before else slug for slug, before in zip(slugs, befores)}
 
     def find_fences(self):
+        """Takes the blocks of code out of the prose; answers the line of one that does not end, or 0."""
         mark = None
         for number, line in enumerate(self.lines, 1):
-            hit = re.match(r' *(```+|~~~+)(.*)$', line)
-            if mark is None and hit:
+            hit = re.match(r' *(```+)(.*)$', line)
+            if hit or mark:
+                self.prose[number - 1] = ''
+            if hit and not mark:
                 mark = hit[1]
                 self.fences.append(Fence(number, hit[2].strip(), []))
-                self.prose[number - 1] = ''
-            elif mark is not None:
-                self.prose[number - 1] = ''
-                if hit and hit[1].startswith(mark) and not hit[2].strip():
-                    mark = None
-                else:
-                    self.fences[-1].lines.append(line)
-        if mark is not None:
-            self.open_fence = self.fences[-1].line
-
-    def find_anchors(self):
-        found = set()
-        for _, heading in self.headings:
-            slug, number = slug_of(heading), 0
-            name = slug
-            while name in found:
-                number += 1
-                name = f'{slug}-{number}'
-            found.add(name)
-        for line in self.prose:
-            found.update(re.findall(r'<a (?:id|name)="([^"]+)"', line))
-        return found
+            elif hit and hit[1].startswith(mark) and not hit[2].strip():
+                mark = None
+            elif mark:
+                self.fences[-1].lines.append(line)
+        return self.fences[-1].line if mark else 0
 
 
 def links_of(number, line):
-    found, rest = [], masked(line)
+    """The links of a line: those round pictures too, and none that stands in code."""
+    found = []
+    rest = CODE_SPAN.sub(lambda hit: hit[1] + re.sub(r'[\[\]()!]', '\0', hit[2]) + hit[1], line)
     for is_image in (True, False):
-        for hit in LINK.finditer(rest):
-            if bool(hit[1]) == is_image:
-                found.append(Link(number, hit.start(), line[hit.start(2):hit.end(2)], hit[3]))
-        if is_image:
-            rest = LINK.sub(lambda hit: ' ' * len(hit[0]) if hit[1] else hit[0], rest)
-    label = LABEL.match(line)
-    if label:
-        found.append(Link(number, 0, '', label[1]))
-    for hit in re.finditer(r'<(?:a|img)\b[^>]*\b(?:href|src)="([^"]*)"', rest):
-        found.append(Link(number, hit.start(), '', hit[1]))
+        hits = [hit for hit in LINK.finditer(rest) if bool(hit[1]) == is_image]
+        found += [Link(number, hit.start(), line[hit.start(2):hit.end(2)], hit[3]) for hit in hits]
+        for hit in hits:
+            rest = rest[:hit.start()] + ' ' * len(hit[0]) + rest[hit.end():]
     return found
 
 
@@ -99,22 +72,22 @@ def path_of(page, target):
 
 def cells_of(line):
     """The cells of a row of a table, or none of another line."""
-    if not line.startswith('|'):
-        return []
-    return [cell.strip() for cell in re.split(r'(?<!\\)\|', line.strip().strip('|'))]
+    return [cell.strip() for cell in re.split(r'(?<!\\)\|', line.strip(' |'))] if line.startswith('|') else []
 
 
 def tables_of(page):
     """Each table of the page: the cells of its head, and its rows with their lines."""
-    found = []
+    found, table, before = [], None, []
     for number, line in enumerate(page.prose, 1):
-        if re.match(r'\|[ :|-]+\|\s*$', line) and number > 1 and cells_of(page.prose[number - 2]):
-            head, rows, at = cells_of(page.prose[number - 2]), [], number
-            while at < len(page.prose) and cells_of(page.prose[at]):
-                cells = cells_of(page.prose[at])
-                rows.append((at + 1, cells + [''] * (len(head) - len(cells))))
-                at += 1
-            found.append((head, rows))
+        cells = cells_of(line)
+        if not cells:
+            table = None
+        elif before and re.match(r'\|[ :|-]+\|\s*$', line):
+            table = before, []
+            found.append(table)
+        elif table:
+            table[1].append((number, cells + [''] * (len(table[0]) - len(cells))))
+        before = cells
     return found
 
 
