@@ -116,6 +116,7 @@ class Session(Told):
             except BaseException:
                 # (the rest of a reply that was not read would be taken for the next one)
                 self._process.kill()
+                self._process.wait()  # (else the next command may still be written, and find that rest)
                 raise
             if last.startswith('refused'):
                 raise refusal(last)
