@@ -1,6 +1,6 @@
 //! Bundles and solutions made of plain numbers, which the calls on bundles accept.
 
-ghost use Rattle.std.specs.Prelude.{◌≡◌, ◌∷◌, [], pos, ◌+ℤ◌, ◌-ℤ◌, ◌≤ℤ◌, IfOk};
+ghost use Rattle.std.specs.Prelude.{◌≡◌, ◌∷◌, [], pos, ◌+ℤ◌, ◌-ℤ◌, ◌≤ℤ◌, IfOk, if◌then◌else◌};
 ghost use Rattle.separation_model.specs.Bundle.{IsBundle, IsItem};
 ghost use Rattle.nudge_tests.specs.Small.{first_before_second};
 

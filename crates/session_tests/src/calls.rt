@@ -243,16 +243,6 @@ const REFUSED_CALLS: &[Step] = &[
     Step::Refused(&[Call::Begin, Call::Begin], SessionFault::AlreadyOpen),
     Step::Refused(&[Call::Begin, Call::Undo], SessionFault::AlreadyOpen),
     Step::Refused(&[Call::Begin, Call::Redo], SessionFault::AlreadyOpen),
-    // The connector has two checkpoints.
-    Step::Refused(
-        &[
-            Call::Begin,
-            Call::Edit(Ask::Via(1, 1, 0)),
-            Call::Edit(Ask::Via(1, 1, 0)),
-            Call::Edit(Ask::Via(1, 1, 0)),
-        ],
-        SessionFault::Edit(SceneFault::TooMany { limit: 4 }),
-    ),
     Step::Refused(
         &[
             Call::Begin,

@@ -248,10 +248,9 @@ fn writes_to_standard_output(rt: HostRuntime) {
     assert!(rt; prints_a_line(&rt));
 }
 
-/// A standard output that takes so many bytes of a piece at most, and keeps what it took.
+/// A standard output that takes at most three bytes of a piece and keeps what it took.
 #[derive(Drop)]
 struct Page {
-    most: usize,
     kept: RefCell<Vec<u8>>,
 }
 
@@ -278,7 +277,7 @@ impl Print for Page {
     }
 
     fn write_some(&self, bytes: &[u8]) -> io::Result<usize> {
-        let taken = bytes.len().min(self.most);
+        let taken = bytes.len().min(3);
         self.keep(&bytes[..taken])?;
         Ok(taken)
     }
@@ -301,49 +300,12 @@ fn are_written(page: &Page) -> bool {
 #[test]
 fn writes_each_piece_once_and_in_order(rt: HostRuntime) {
     let page = Page {
-        most: 3,
         kept: RefCell::new(Vec::new(rt.alloc())),
     };
     let written = are_written(&page);
     let kept = page.kept.into_inner();
     assert!(rt; written);
     assert!(rt; kept.as_slice() == b"onetwo, three4five and six\n".as_slice());
-}
-
-/// Lengths of a piece, and how many bytes of it are taken at most at once.
-const LONG_PIECES: [(usize, usize); 3] = [
-    (100_000, usize::MAX),
-    (2_097_152, usize::MAX),
-    (2_097_152, 65_536),
-];
-
-/// Bytes that change from each place to the next, and do not repeat with a power of two.
-fn varied(alloc: Global, length: usize) -> Result<Vec<u8>, AllocError> {
-    let mut bytes = Vec::new(alloc);
-    for place in 0..length {
-        bytes.push((place % 251) as u8)?;
-    }
-    Ok(bytes)
-}
-
-/// Whether the piece is kept whole by a page that takes so many bytes at most at once.
-fn is_kept_whole(alloc: Global, piece: &[u8], most: usize) -> bool {
-    let page = Page {
-        most,
-        kept: RefCell::new(Vec::new(alloc)),
-    };
-    let written = write_all_to(&mut StdSink::new(&page), piece);
-    let kept = page.kept.into_inner();
-    written == Ok(()) && kept.as_slice() == piece
-}
-
-#[test]
-fn writes_a_long_piece_whole(rt: HostRuntime) -> Result<(), Fail> {
-    for &(length, most) in &LONG_PIECES {
-        let piece = varied(rt.alloc(), length)?;
-        assert!(rt; is_kept_whole(rt.alloc(), &piece, most), "{length}, {most}");
-    }
-    Ok(())
 }
 
 /// A closed standard output.
