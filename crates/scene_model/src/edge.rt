@@ -8,7 +8,7 @@ use std::marker::Model;
 
 /// The checkpoints of a connector, in order. Up to the limit of a connector they take no memory.
 #[derive(Debug, Drop)]
-pub struct Via(SmallVec<Point, 4, Global>);
+pub struct Via(pub SmallVec<Point, 4, Global>);
 
 impl Model for Via {
     ghost use Rattle.std.specs.Prelude.{List};
