@@ -9,6 +9,12 @@ use Rattle.channel_bundles.proofs.Linking.{linking_begins, linking_past, linking
 use Rattle.channel_bundles.proofs.links.join_links_of.Goals as goal
 use Rattle.channel_bundles.proofs.links.join_links_of.Goals.{then-is_some, else-is_some}
 
+pub is_clear_of-requires-clause-member : goal.is_clear_of-requires-clause-member
+is_clear_of-requires-clause-member c = c.requires.members c.args.at _ c.requires.at
+
+pub link-requires-clause-member : goal.link-requires-clause-member
+link-requires-clause-member c = c.requires.members c.args.at _ c.requires.at
+
 pub loop-later-init : goal.loop-later-init
 loop-later-init c =
     let fits : FitsSigned w64 c.args.nudge = search rules in

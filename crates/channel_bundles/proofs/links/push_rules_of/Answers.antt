@@ -10,6 +10,12 @@ use Rattle.channel_bundles.proofs.Linking.{rule_more, no_rules}
 use Rattle.channel_bundles.proofs.links.push_rules_of.Goals as goal
 use Rattle.channel_bundles.proofs.links.push_rules_of.Goals.{in-Some+in_ok-push, in_default}
 
+pub is_clear_of-requires-clause-member : goal.is_clear_of-requires-clause-member
+is_clear_of-requires-clause-member c = c.requires.members c.args.at _ c.requires.at
+
+pub link-requires-clause-member : goal.link-requires-clause-member
+link-requires-clause-member c = c.requires.members c.args.at _ c.requires.at
+
 pub loop-later-preserved : goal.loop-later-preserved
 loop-later-preserved c =
     let fits : FitsSigned w64 c.args.nudge = search rules in

@@ -1,5 +1,5 @@
 -- What has been summed and what is left are together the sum over all rules.
-use Rattle.std.proofs.Common.{◌≡◌, ◌+◌, ◌^◌, true, false, ℤ, pos, ◌+ℤ◌, ◌≤ℤ◌, ◌<ℤ◌, arith, ap, sym, subst, ◌∙◌, FitsSigned, to_z, of_z}
+use Rattle.std.proofs.Common.{◌≡◌, ◌+◌, ◌^◌, ◌<◌, true, false, ℤ, pos, ◌+ℤ◌, ◌≤ℤ◌, ◌<ℤ◌, arith, ap, sym, subst, ◌∙◌, FitsSigned, to_z, of_z}
 use Rattle.std.specs.Int.{w128}
 use lib.Signed.{lt_z}
 use Rattle.std.proofs.lemmas.Int.{ints, to_z-of_z}
@@ -38,6 +38,18 @@ more x a m first before rest total e f g h = omega (arith, ints)
 exceeded : (x y left_rest right_rest left right : ℤ) → x +ℤ left_rest ≡ left → y +ℤ right_rest ≡ right → pos 0 ≤ℤ left_rest → pos 0 ≤ℤ right_rest → pos (2 ^ 126) <ℤ (x +ℤ y) → pos (2 ^ 126) <ℤ (left +ℤ right)
 exceeded x y left_rest right_rest left right e f g h k = omega (arith, ints)
 
+-- a multiplier as it is read
+stored : (m : ℤ) → IsMultiplier m → IsMultiplier (to_z w128 (of_z w128 m))
+stored m h =
+    let fits : FitsSigned w128 m = omega (arith, ints, h.sign, h.small) in
+    subst IsMultiplier (sym (to_z-of_z w128 m fits)) h
+
+pub multiplier_at-requires : goal.multiplier_at-requires
+multiplier_at-requires c = stored _ (c.requires.multipliers c.loop-j.j (pos 0) (subst (λ n. c.loop-j.j < n) (sym c.requires.same) c.loop-j-test.true))
+
+pub multiplier_at-requires-in-loop-j : goal.multiplier_at-requires-in-loop-j
+multiplier_at-requires-in-loop-j c = stored _ (c.requires.multipliers c.loop-j.j (pos 0) (subst (λ n. c.loop-j.j < n) (sym c.requires.same) c.loop-j-test.true))
+
 pub overflow_add-push : goal.overflow_add-push
 overflow_add-push c =
     let now = c.loop-j.invariant in
@@ -63,7 +75,7 @@ returns-then-push-gt-MOST_TOGETHER c =
     let now = c.loop-j.invariant in
     let left = c.multiplier_at.ensures.multiplier in
     let right = c.multiplier_at-in-loop-j.ensures.multiplier in
-    let at = c.requires.multipliers c.loop-j.j (pos 0) (omega arith) in
+    let at = c.requires.multipliers c.loop-j.j (pos 0) (subst (λ n. c.loop-j.j < n) (sym c.requires.same) c.loop-j-test.true) in
     let rs = c.args.rules.now in
     let ms = c.args.multipliers.now in
     let j = c.loop-j.j in
@@ -83,7 +95,7 @@ loop-j-preserved c =
     let now = c.loop-j.invariant in
     let left = c.multiplier_at.ensures.multiplier in
     let right = c.multiplier_at-in-loop-j.ensures.multiplier in
-    let at = c.requires.multipliers c.loop-j.j (pos 0) (omega arith) in
+    let at = c.requires.multipliers c.loop-j.j (pos 0) (subst (λ n. c.loop-j.j < n) (sym c.requires.same) c.loop-j-test.true) in
     let rs = c.args.rules.now in
     let ms = c.args.multipliers.now in
     let j = c.loop-j.j in

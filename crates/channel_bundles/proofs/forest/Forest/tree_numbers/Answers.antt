@@ -38,3 +38,9 @@ loop-number-preserved c =
           more_of _ _ _ _ _ _ _ _ c.loop-number.invariant c.requires in_at c.index-above.ensures w.if-above-number.false w.index-tree.ensures below
           (ap (λ v. v.items) w.numbers-is ∙ w.in_ok-push-3.ensures.items) (ap (λ v. v.items) w.roots-is)
     ]
+
+pub returns : goal.returns
+returns c =
+    let above = c.args.self.now.above.items in
+    let all : c.loop-number.number ≡ length above = omega arith in
+    subst (λ n. AreTreeNumbers above n c.loop-number.roots.items c.loop-number.numbers.items) all c.loop-number.invariant

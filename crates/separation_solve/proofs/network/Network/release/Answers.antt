@@ -6,6 +6,12 @@ use Rattle.separation_solve.proofs.Networks.Forces.{force_at_fits, released, rel
 use Rattle.separation_solve.proofs.LightFractions.Spots.{cast_is}
 use Rattle.separation_solve.proofs.network.Network.release.Goals as goal
 
+pub force-requires-clause-frame : goal.force-requires-clause-frame
+force-requires-clause-frame c = releasing_frame c.args.self.now c.loop-item.self c.loop-item.item c.requires.frame c.loop-item.invariant
+
+pub force-requires-clause-kept : goal.force-requires-clause-kept
+force-requires-clause-kept c = releasing_kept c.args.self.now c.loop-item.self c.loop-item.item c.requires.kept c.loop-item.invariant
+
 pub loop-item-preserved : goal.loop-item-preserved
 loop-item-preserved c =
     let n = c.args.self.now in
