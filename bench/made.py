@@ -1,18 +1,21 @@
 #!/usr/bin/env python3
 """Prints a diagram that is generated from a seed, or its moves: made.py NAME [SEED] [--moves]
 
-far_N     N separate boxes (a number up to 256) and 2 N edges between any two of them
-near_N    the same boxes, and 2 N edges between boxes that stand side by side
-channels  256 boxes that leave a net of channels between them, 2 to 6 units wide, and 512 edges between any two
-parallel  512 equal edges between two boxes that stand on both sides of a third one
-pins      64 boxes with four pins each, and 512 edges that name a pin at each end; 256 have a checkpoint
-zigzag    512 equal edges that pass four walls, so that all their routes share nine runs
-greatest  the diagram with the most lines and crossings within the limits: 1280 whole lines each way
-certified the same within the limits of certificates: 48 boxes, pins and checkpoints, and 64 edges
-pairs     two boxes and an edge, and a list of as many short foreign pairs as 16 MiB leave room for
-nodes     256 boxes, each with as many foreign pairs of the kinds that editors write as 16 MiB leave room for
+far_N      N separate boxes (a number up to 256) and 2 N edges between any two of them
+near_N     the same boxes, and 2 N edges between boxes that stand side by side
+channels   256 boxes that leave a net of channels between them, 2 to 6 units wide, and 512 edges between any two
+parallel   512 equal edges between two boxes that stand on both sides of a third one
+pins       64 boxes with four pins each, and 512 edges that name a pin at each end; 256 have a checkpoint
+zigzag     512 equal edges that pass four walls, so that all their routes share nine runs
+serpentine 512 equal edges on one long way round 60 walls, so that each channel has a run of every edge
+mirrored   a crowd that is its own mirror image in the diagonal, and 512 edges from one end of the diagonal to the other;
+           64 have four checkpoints, by turns near its two ends
+greatest   the diagram with the most lines and crossings within the limits: 1280 whole lines each way
+certified  the same within the limits of certificates: 48 boxes, pins and checkpoints, and 64 edges
+pairs      two boxes and an edge, and a list of as many short foreign pairs as 16 MiB leave room for
+nodes      256 boxes, each with as many foreign pairs of the kinds that editors write as 16 MiB leave room for
 
-With --moves it prints a script of 30 transactions, each of which moves a box; the last five have none.
+With --moves it prints a script of 30 transactions, each of which moves a box; the last seven have none.
 """
 import argparse
 import random
@@ -161,6 +164,30 @@ def zigzag(_):
     return graph([node(1, 0, 0), node(2, 900, 0), *walls], [edge(1, 2)] * 512), ''
 
 
+def serpentine(_):
+    """Walls from the one side and from the other, within a ring, that leave one way, which turns round each of them."""
+    turns = 60
+    walls = [node(k + 10, 50 + k * 50, 550 if k % 2 else -550, 10, 1100) for k in range(turns)]
+    ring = [node(k + 3, turns * 25, y, turns * 50 + 400, 20) for k, y in enumerate((1100, -1100))]
+    ring += [node(k + 5, x, 0, 20, 2300) for k, x in enumerate((-180, turns * 50 + 230))]
+    return graph([node(1, 0, 0), node(2, turns * 50 + 50, 0), *walls, *ring], [edge(1, 2)] * 512), ''
+
+
+def mirrored(draws):
+    """Boxes of 2 to 4 units, each with its mirror image, and eight on the diagonal, which edges join."""
+    boxes = [node(k + 1, k * 400, k * 400) for k in range(8)]
+    for k in range(124):
+        x, y, w, h = (k + 1) * 24, draws.between(0, 3000), 2 * draws.between(1, 2), 2 * draws.between(1, 2)
+        y += 200 if abs(x - y) < 80 else 0
+        boxes += [node(k + 10, x, y, w, h), node(k + 200, y, x, h, w)]
+
+    def rest(k):
+        at = [draws.between(0, 300) + 2700 * ((j + k) % 2 == 0) for j in range(4 if k < 64 else 0)]
+        return ''.join(f' via [ x {z} y {z} ]' for z in at)
+
+    return graph(boxes, [edge(*((1, 8) if k % 2 else (8, 1)), rest(k)) for k in range(512)]), ''
+
+
 def pairs(_):
     front = 'graph [\n' + node(1, 0, 0) + node(2, 100, 0) + edge(1, 2) + ' data [\n'
     end = ' ]\n]\n'
@@ -178,7 +205,8 @@ def nodes(_):
 
 
 KINDS = {'far': far, 'near': near}
-NAMES = {made.__name__: made for made in (channels, parallel, pins, zigzag, greatest, certified, pairs, nodes)}
+NAMES = {made.__name__: made for made in (channels, parallel, pins, zigzag, serpentine, mirrored, greatest, certified,
+                                          pairs, nodes)}
 
 
 def made(name, seed=1):

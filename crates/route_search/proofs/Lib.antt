@@ -1,4 +1,5 @@
 -- The lemmas on searches, callees first.
+pub mod Checkpoints
 pub mod Matching
 pub mod Ahead
 pub mod Moving

@@ -1,5 +1,5 @@
 //! Searches over one arena.
-ghost use Rattle.std.specs.Prelude.{◌≡◌, IfOk, IfSome};
+ghost use Rattle.std.specs.Prelude.{◌≡◌, ◌↔◌, ℕ, All, IfOk, IfSome, IsTrue};
 ghost use Rattle.std.proofs.Props.{props};
 ghost use Rattle.move_model.specs.Problems.{IsProblem};
 ghost use Rattle.plane_geom.specs.declared.floor.Floor.{Floor};
@@ -7,6 +7,7 @@ ghost use Rattle.exit_rows.specs.Rows.{IsMarked};
 ghost use Rattle.exit_spread.specs.Searching.{AreNone};
 ghost use Rattle.route_search.specs.Matching.{AreLinesOf, made_lines};
 ghost use Rattle.walk_model.specs.Answers.{IsAnswer};
+ghost use Rattle.line_arena.specs.Arena.{StandsAt};
 ghost use Rattle.line_arena.specs.Count.{counted_by};
 
 use crate::follow::Follower;
@@ -14,7 +15,7 @@ use crate::lines::{FinderLines, Lines};
 use crate::tally::Tally;
 use exit_spread::Spread;
 use line_arena::LineArena;
-use plane_geom::Solid;
+use plane_geom::{Point, Solid};
 use search_labels::Problem;
 use std::alloc::{AllocError, Global};
 use walk_model::{Route, Task};
@@ -32,7 +33,19 @@ pub struct Finder<'a> {
     ghost made: { IfSome (made_lines lines) (AreLinesOf arena.now solids.now) } by { Prim.hlevel props },
 }
 
-/// The result of a search that begins without exits and leaves some.
+/// Whether there is a crossing at each of the points.
+fn are_crossings(arena: &LineArena, points: &[Point]) -> bool
+    ensures { IsTrue result ↔ All (λ p. (c : ℕ) × StandsAt arena.now c p) points.now }
+{
+    for point in points {
+        if arena.crossing_at(*point).is_none() {
+            return false;
+        }
+    }
+    true
+}
+
+/// The result of a search that begins without exits and may leave some.
 fn search(
     alloc: Global,
     arena: &LineArena,
@@ -47,7 +60,13 @@ fn search(
     ensures answer { IfOk result (IsAnswer solids.now task.now) }
     ensures marked { IsMarked spread.new.rows }
 {
-    let stages = task.via.as_slice().len() + 1;
+    arena.laws();
+    let via = task.via.as_slice();
+    // No walk passes a point where no lines cross, and a search for one would go everywhere.
+    if !are_crossings(arena, via) {
+        return Ok(None);
+    }
+    let stages = via.len() + 1;
     spread.rows.fit(alloc, lines.lists.lines().len(), stages)?;
     let problem = Problem::new(alloc, arena, solids, task)?;
     spread.spread(&problem, &lines.lists, &lines.touches)?;

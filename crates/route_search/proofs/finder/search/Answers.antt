@@ -1,11 +1,14 @@
--- The lists are those of the arena, and there are rows for their lines in all stages.
-use Rattle.std.proofs.Common.{◌≡◌, ℕ, ◌+◌, ◌*◌, ◌<◌, ◌≤◌, length, sym, ap, subst, ◌∙◌, arith}
+-- Where a checkpoint is no crossing there is no walk. The lists are those of the arena, and there are rows for their lines in all stages.
+use Rattle.std.proofs.Common.{◌≡◌, ℕ, All, ◌+◌, ◌*◌, ◌<◌, ◌≤◌, length, sym, ap, subst, ◌∙◌, arith}
 use Rattle.std.proofs.Math.Nat.{mul-le-mul_right}
+use Rattle.std.proofs.lemmas.Bool.{false≢true}
 use Rattle.std.proofs.lemmas.Option.{slice_get_within}
+use Rattle.plane_geom.specs.declared.point.Point.{Point}
 use Rattle.plane_geom.specs.Along.{way_of}
 use Rattle.walk_model.specs.declared.task.Task.{Task}
-use Rattle.line_arena.specs.Arena.{Arena, IsArena}
+use Rattle.line_arena.specs.Arena.{Arena, IsArena, StandsAt}
 use Rattle.line_lists.specs.Lists.{AreListsOf, number_of}
+use Rattle.route_search.proofs.Checkpoints.{no_walk_past}
 use Rattle.route_search.proofs.Matching.{lists_are}
 use Rattle.route_search.proofs.finder.search.Goals as goal
 
@@ -14,6 +17,12 @@ row_within : (k m l n rows : ℕ) → k ≤ m → l < n → (m + 1) * n * 2 ≤ 
 row_within k m l n rows stage line all =
     let more : (k + 1) * n ≤ (m + 1) * n = mul-le-mul_right n (omega (arith, stage)) in
     omega (arith, more, line, all)
+
+pub returns-then-not-are_crossings-clause-answer : goal.returns-then-not-are_crossings-clause-answer
+returns-then-not-are_crossings-clause-answer c =
+    no_walk_past c.requires.problem.0 c.args.arena.now c.args.solids.now c.args.task.now c.laws.ensures.arena c.requires.problem.1
+    (λ all. false≢true (sym c.if-not-are_crossings.true
+    ∙ c.are_crossings.ensures.1 (subst (All (λ (p : Point). (k : ℕ) × StandsAt c.args.arena.now k p)) (sym c.as_slice-via.ensures) all)))
 
 pub spread-requires-clause-lists : goal.spread-requires-clause-lists
 spread-requires-clause-lists c =
@@ -30,11 +39,11 @@ spread-requires-clause-rooms c k c' d at stage here =
     let numbered = are.numbers c' here.pair (way_of d) here.is in
     let within = slice_get_within lists.lines (number_of lists c' (way_of d)) numbered.0 numbered.1.listed in
     let lines : c.fit.new.self.lines ≡ length lists.lines = c.in_ok-fit.ensures.lines ∙ ap length c.lines.ensures in
-    let few : length c.in_ok-problem.problem.task.now.via ≡ length c.as_slice.result.now = ap (λ (t : Task). length t.via) c.in_ok-problem.ensures.task ∙ ap length (sym c.as_slice.ensures) in
+    let few : length c.in_ok-problem.problem.task.now.via ≡ length c.as_slice-via.result.now = ap (λ (t : Task). length t.via) c.in_ok-problem.ensures.task ∙ ap length (sym c.as_slice-via.ensures) in
     record {
       line = omega (arith, within, lines);
-      row = row_within k (length c.as_slice.result.now) (number_of lists c' (way_of d)) c.fit.new.self.lines (length c.fit.new.self.rows.items) (omega (arith, stage, few)) (omega (arith, within, lines))
-          (subst (λ n. (length c.as_slice.result.now + 1) * n * 2 ≤ length c.fit.new.self.rows.items) (sym c.in_ok-fit.ensures.lines) c.in_ok-fit.ensures.rows);
+      row = row_within k (length c.as_slice-via.result.now) (number_of lists c' (way_of d)) c.fit.new.self.lines (length c.fit.new.self.rows.items) (omega (arith, stage, few)) (omega (arith, within, lines))
+          (subst (λ n. (length c.as_slice-via.result.now + 1) * n * 2 ≤ length c.fit.new.self.rows.items) (sym c.in_ok-fit.ensures.lines) c.in_ok-fit.ensures.rows);
     }
 
 pub route-requires : goal.route-requires
