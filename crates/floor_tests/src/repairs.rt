@@ -31,7 +31,7 @@ fn planned(alloc: Global, graph: &mut Graph, new: &Floor) -> Result<[u64; 5], Al
     requires { IsFloor new.now }
 {
     let built = graph.arena().written();
-    let mut repair = plan(alloc, graph, new.copy(alloc)?)?;
+    let mut repair = plan(alloc, graph, new)?;
     let planned = graph.arena().written();
     let [there, back, again] = turned(graph, &mut repair);
     Ok([built, planned, there, back, again])
@@ -148,7 +148,7 @@ fn finds_lines_from(
     requires old { IsFloor old.now }
     requires new { IsFloor new.now }
 {
-    let mut repair = plan(alloc, graph, new.copy(alloc)?)?;
+    let mut repair = plan(alloc, graph, new)?;
     finds_lines_of(alloc, graph, &mut repair, old, new)
 }
 

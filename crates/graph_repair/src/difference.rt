@@ -15,22 +15,22 @@ use sweep_lines::lines_near;
 use visibility_graph::{Graph, crossings_of};
 
 /// Plans a repair of the graph to the new floor, and takes all memory that the repair and the way
-/// back will need.
+/// back will need. The repair keeps a copy of the floor.
 ///
 /// The graph's floor, lines, crossings and `written` stay as they are, even when out of memory,
 /// which is the only error.
-pub fn plan(alloc: Global, graph: &mut Graph, new: Floor) -> Result<Repair, AllocError>
-    requires new_floor { IsFloor new }
+pub fn plan(alloc: Global, graph: &mut Graph, new: &Floor) -> Result<Repair, AllocError>
+    requires new_floor { IsFloor new.now }
     ensures floor { graph.new.floor ≡ graph.old.floor }
     ensures lines { graph.new.arena.lines ≡ graph.old.arena.lines }
     ensures crossings { graph.new.arena.crossings ≡ graph.old.arena.crossings }
     ensures written { graph.new.arena.written ≡ graph.old.arena.written }
     ensures leads { IfOk result (λ r. LeadsFrom graph.new r) }
     ensures planned { IfOk result (λ r. r.applied ≡ false) }
-    ensures new_floor { IfOk result (λ r. r.floor ≡ new) }
+    ensures new_floor { IfOk result (λ r. r.floor ≡ new.now) }
 {
-    let hull = hull_of_difference(graph.floor(), &new);
-    let new_lines = lines_near(alloc, &new, &hull)?;
+    let hull = hull_of_difference(graph.floor(), new);
+    let new_lines = lines_near(alloc, new, &hull)?;
     let old_lines = graph.arena().lines_in_order();
     let Difference { stay, here, there } = compare(alloc, &hull, old_lines, new_lines.as_slice())?;
     graph.arena().laws();
@@ -41,9 +41,10 @@ pub fn plan(alloc: Global, graph: &mut Graph, new: Floor) -> Result<Repair, Allo
         here.as_slice(),
         there.as_slice(),
     )?;
+    let kept = new.copy(alloc)?;
     Ok(Repair {
         alloc,
-        floor: new,
+        floor: kept,
         stay,
         here,
         there,

@@ -45,7 +45,7 @@ impl Present {
         ensures err_written { OnErr result (self.new.graph.arena.written ≡ self.old.graph.arena.written) }
     {
         let floor = other.floor()?;
-        let mut repair = plan(self.alloc, &mut self.graph, floor)?;
+        let mut repair = plan(self.alloc, &mut self.graph, &floor)?;
         apply(&mut self.graph, &mut repair);
         Ok(repair)
     }

@@ -1,12 +1,13 @@
 -- The shared lines and those of one floor alone follow from the two lists of kept lines, and the room that is made is enough.
 use Rattle.std.proofs.Common.{◌≡◌, true, false, List, length, not, refl, sym, ap, subst, ◌∙◌, arith}
 use Rattle.plane_geom.specs.declared.floor.Line.{Line}
+use Rattle.plane_geom.specs.declared.floor.Floor.{Floor}
 use Rattle.plane_geom.specs.Order.{AreOrdered}
 use Rattle.line_arena.specs.Arena.{IsArena}
 use Rattle.line_arena.specs.Stands.{StandsFor}
 use Rattle.sweep_lines.specs.Kept.{AreKept, is_near}
 use Rattle.visibility_graph.specs.Meeting.{coming}
-use Rattle.graph_repair.specs.Change.{AreAlone, AreShared}
+use Rattle.graph_repair.specs.Change.{AreAlone, AreShared, Change}
 use Rattle.graph_repair.specs.Hull.{IsAloneWithin}
 use Rattle.graph_repair.specs.Listed.{goes, is_listed, lines_of, stays}
 use Rattle.graph_repair.proofs.Listing.{kept_of_arena, lines_alone, new_lines, ordered_filter, ordered_lines, shared_lines}
@@ -32,14 +33,14 @@ pub make_room-requires-clause-there_ordered : goal.make_room-requires-clause-the
 make_room-requires-clause-there_ordered c =
     let old = lines_of c.lines_in_order-old_lines.result.now in
     let new = c.as_slice.result.now in
-    let kept = subst (AreKept c.args.new (λ l. is_near c.hull_of_difference-hull.result l ≡ true)) (sym c.as_slice.ensures.value) c.in_ok-new_lines.ensures in
+    let kept = subst (AreKept c.args.new.now (λ l. is_near c.hull_of_difference-hull.result l ≡ true)) (sym c.as_slice.ensures.value) c.in_ok-new_lines.ensures in
     subst AreOrdered (sym (c.as_slice-4.ensures.value ∙ c.in_ok-stay.ensures.there)) (ordered_filter (λ l. not (is_listed old l)) new kept.ordered)
 
 pub returns-clause-leads : goal.returns-clause-leads
 returns-clause-leads c =
     let graph = c.args.graph.now in
     let a = graph.floor in
-    let b = c.args.new in
+    let b = c.args.new.now in
     let old = lines_of c.lines_in_order-old_lines.result.now in
     let new = c.as_slice.result.now in
     let stay = c.in_ok-stay.field-0.stay.items in
@@ -63,6 +64,6 @@ returns-clause-leads c =
     let leads = leads_first graph b stay here there arena shared alone other
     (subst IsArena c.arena-2.ensures.arena c.laws.ensures.arena) (subst (StandsFor a) c.arena.ensures.arena c.arena.ensures.stands)
     c.make_room.ensures.lines c.make_room.ensures.crossings (omega (arith, many, few, room.room_for_lines)) (omega (arith, come, go, room.room_for_crossings)) in
+    let seen : Floor → Change = λ f. record { floor = f; stay = stay; here = here; there = there; applied = false } in
     leads_at (record { floor = a; arena = arena }) c.make_room.new.graph.floor arena
-    (record { floor = b; stay = stay; here = here; there = there; applied = false }) (record { floor = b; stay = stay; here = here; there = there; applied = false })
-    c.make_room.ensures.floor refl refl leads
+    (seen b) (seen c.in_ok-kept.kept) c.make_room.ensures.floor refl (ap seen c.in_ok-kept.ensures) leads
