@@ -5,3 +5,4 @@ pub mod OneRun
 pub mod Numbers
 pub mod FirstWalks
 pub mod OnSheet
+pub mod ShiftedRuns

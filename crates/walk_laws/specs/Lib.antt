@@ -2,3 +2,4 @@
 pub mod Lines
 pub mod Runs
 pub mod Sides
+pub mod Shifts

@@ -50,10 +50,10 @@ module _ (solids : List Solid) (task : Task) (t : Triple) (is_task : IsTask task
   left_of xs ys k cut is = omega (arith, is, ends_at, ap length cut, length-append xs ys)
 
   -- the steps of the walk, where some of those between the ports are in front
-  cut_walk : (xs ys : List Dir) → middle ≡ xs ++ ys → t.walk.steps ≡ (stub l.start ++ xs) ++ (ys ++ stub_back l.end)
+  pub cut_walk : (xs ys : List Dir) → middle ≡ xs ++ ys → t.walk.steps ≡ (stub l.start ++ xs) ++ (ys ++ stub_back l.end)
   cut_walk xs ys cut = tour.steps ∙ ap (λ ds. stub l.start ++ (ds ++ stub_back l.end)) cut ∙ ap (λ ds. stub l.start ++ ds) (append_assoc xs ys (stub_back l.end)) ∙ sym (append_assoc (stub l.start) xs (ys ++ stub_back l.end))
 
-  place_of : (xs : List Dir) → length (stub l.start ++ xs) ≡ from + length xs
+  pub place_of : (xs : List Dir) → length (stub l.start ++ xs) ≡ from + length xs
   place_of xs = omega (arith, length-append (stub l.start) xs, length-replicate (stub_length l.start) l.start.dir)
 
   pub rest_of : (xs ys : List Dir) (k : ℕ) → middle ≡ xs ++ ys → k ≡ from + length xs → drop k t.walk.steps ≡ ys ++ stub_back l.end

@@ -79,7 +79,7 @@ module _ (solids : List Solid) (p : Point) (d u : Dir) (cross : turn u d ≡ 1) 
   step_at_end k s inside other m = no_square k s inside (end_square (get_or solids k s).rect p d u cross m)
 
 -- a run that is clear, beside no side
-record IsAlone (solids : List Solid) (u : Dir) (p : Point) (d : Dir) (n : ℕ) : Type 0 where
+pub record IsAlone (solids : List Solid) (u : Dir) (p : Point) (d : Dir) (n : ℕ) : Type 0 where
   pub clear : IsClear solids None p (replicate n d)
   pub apart : All (λ s. SharesSideTo u (run_line p d n) s.rect → ⊥) solids
 
@@ -209,6 +209,36 @@ doubling West West p h = absurd (omega (arith, h))
 doubling North North p h = absurd (omega (arith, h))
 doubling _ _ p h = absurd (omega (arith, h))
 
+-- a run that is clear between two clear steps, beside no side to where it comes from
+module _ (solids : List Solid) (q : Point) (u d : Dir) (m : ℕ) (cross : turn u d ≡ 1) (alone : IsAlone solids (opposite u) (forward u 1 q) d m) where
+  -- the same run is clear one step sooner
+  pub cut_clear : IsClear solids None q (replicate m d)
+  cut_clear = subst (λ x. IsClear solids None x (replicate m d)) (back_and_there u 1 q) (run_beside solids (forward u 1 q) d (opposite u) m (turn_opposite u d cross) alone)
+
+  -- and so are both steps behind it
+  pub sooner_clear : 0 < m → IsClear solids None (forward u 1 q) (replicate m d ++ (u ∷ [])) → IsClear solids None q (replicate m d ++ (u ∷ u ∷ []))
+  sooner_clear some clear =
+      let p = forward u 1 q in
+      let last : IsClear solids None (forward d m p) (u ∷ []) =
+      subst (λ x. IsClear solids None x (u ∷ [])) (after-replicate p m d) (clear_back solids None p (replicate m d) (u ∷ []) clear) in
+      let across : forward d m p ≡ forward u 1 (forward d m q) = exchange d u m 1 q in
+      let over : IsClearStep solids None (forward d m q) u = λ k s inside other meets.
+      at_end solids p d (opposite u) m (turn_opposite u d cross) some alone k s inside other
+      (subst (λ x. StepMeets (get_or solids k s).rect x (opposite u)) (sym across) (step_back (get_or solids k s).rect (forward d m q) u meets)) in
+      clear-append solids None q (replicate m d) (u ∷ u ∷ []) cut_clear
+      (subst (λ x. IsClear solids None x (u ∷ u ∷ [])) (sym (after-replicate q m d)) (over, subst (λ x. IsClear solids None x (u ∷ [])) across last))
+
+-- beside no side to where it goes on, it is clear one step later, and so are both steps in front of it
+pub later_clear : (solids : List Solid) (q : Point) (u d : Dir) (m : ℕ) → turn u d ≡ 1 → 0 < m → IsAlone solids u (forward u 1 q) d m → IsClearStep solids None q u → IsClear solids None q (u ∷ u ∷ replicate m d)
+later_clear solids q u d m cross some alone first =
+    (first, (at_begin solids (forward u 1 q) d u m cross some alone, run_beside solids (forward u 1 q) d u m cross alone))
+
+-- where a run ends that goes back over
+pub detour_ends : (q : Point) (u d : Dir) (m : ℕ) → after q (u ∷ (replicate m d ++ (opposite u ∷ []))) ≡ forward d m q
+detour_ends q u d m =
+    let p = forward u 1 q in
+    after-append p (replicate m d) (opposite u ∷ []) ∙ ap (λ x. forward (opposite u) 1 x) (after-replicate p m d ∙ exchange d u m 1 q) ∙ back_and_there u 1 (forward d m q)
+
 module _ (solids : List Solid) (task : Task) (t : Triple) (first : IsFirst solids task t) where
   -- within a part a first walk does not double back
   pub no_doubling : (front back : List Dir) (u d : Dir) → IsPart solids task t front (u ∷ d ∷ []) back → 0 < turn u d → turn u d ≡ 1
@@ -240,33 +270,21 @@ module _ (solids : List Solid) (task : Task) (t : Triple) (first : IsFirst solid
             elim (across_two d u v cross cross') as (λ _. ⊥) [
               | inl same ↦ (
                   let h' : IsPart solids task t front (u ∷ (replicate m d ++ (u ∷ []))) back = subst (λ (f : Dir). IsPart solids task t front (u ∷ (replicate m d ++ (f ∷ []))) back) same h in
-                  let last : IsClear solids None (forward d m p) (u ∷ []) =
-                  subst (λ x. IsClear solids None x (u ∷ [])) (after-replicate p m d) (clear_back solids None p (replicate m d) (u ∷ []) h'.clear.1) in
-                  let across : forward d m p ≡ forward u 1 (forward d m q) = exchange d u m 1 q in
                   elim (same_side u) as (λ _. ⊥) [
                     | inl back_there ↦ (
                         let side : held_to u v ≡ opposite u = ap (held_to u) same ∙ back_there in
                         let alone : IsAlone solids (opposite u) p d m = record { clear = run_clear; apart = subst (λ (x : Dir). All (λ s. SharesSideTo x (run_line p d m) s.rect → ⊥) solids) side apart } in
-                        let back_clear : IsClear solids None q (replicate m d) = subst (λ x. IsClear solids None x (replicate m d)) (back_and_there u 1 q) (run_beside solids p d (opposite u) m (turn_opposite u d cross) alone) in
-                        let over : IsClearStep solids None (forward d m q) u = λ k s inside other meets.
-                        at_end solids p d (opposite u) m (turn_opposite u d cross) (omega arith) alone k s inside other
-                        (subst (λ x. StepMeets (get_or solids k s).rect x (opposite u)) (sym across) (step_back (get_or solids k s).rect (forward d m q) u meets)) in
-                        not_sooner solids task t first front back u d m cross (omega arith) h' (backward_leans_less u d q cross back_there)
-                        (clear-append solids None q (replicate m d) (u ∷ u ∷ []) back_clear
-                        (subst (λ x. IsClear solids None x (u ∷ u ∷ [])) (sym (after-replicate q m d)) (over, subst (λ x. IsClear solids None x (u ∷ [])) across last))))
+                        not_sooner solids task t first front back u d m cross (omega arith) h' (backward_leans_less u d q cross back_there) (sooner_clear solids q u d m cross alone (omega arith) h'.clear.1))
                     | inr on_there ↦ (
                         let side : held_to u v ≡ u = ap (held_to u) same ∙ on_there in
                         let alone : IsAlone solids u p d m = record { clear = run_clear; apart = subst (λ (x : Dir). All (λ s. SharesSideTo x (run_line p d m) s.rect → ⊥) solids) side apart } in
-                        not_later solids task t first front back u d m cross (omega arith) h' (forward_leans_less u d q cross on_there)
-                        (h'.clear.0, (at_begin solids p d u m cross (omega arith) alone, run_beside solids p d u m cross alone)))
+                        not_later solids task t first front back u d m cross (omega arith) h' (forward_leans_less u d q cross on_there) (later_clear solids q u d m cross (omega arith) alone h'.clear.0))
                   ])
               | inr other ↦ (
                   let side : held_to u v ≡ opposite u = ap (held_to u) other ∙ other_side u in
                   let alone : IsAlone solids (opposite u) p d m = record { clear = run_clear; apart = subst (λ (x : Dir). All (λ s. SharesSideTo x (run_line p d m) s.rect → ⊥) solids) side apart } in
-                  let back_clear : IsClear solids None q (replicate m d) = subst (λ x. IsClear solids None x (replicate m d)) (back_and_there u 1 q) (run_beside solids p d (opposite u) m (turn_opposite u d cross) alone) in
-                  let ends : after q (u ∷ (replicate m d ++ (v ∷ []))) ≡ forward d m q =
-                  after-append p (replicate m d) (v ∷ []) ∙ ap (λ x. forward v 1 x) (after-replicate p m d ∙ exchange d u m 1 q) ∙ ap (λ (f : Dir). forward f 1 (forward u 1 (forward d m q))) other ∙ back_and_there u 1 (forward d m q) in
-                  let straight : u ∷ (replicate m d ++ (v ∷ [])) ≡ replicate m d = straight_part solids task t first front (u ∷ (replicate m d ++ (v ∷ []))) back d m h ends back_clear in
+                  let ends : after q (u ∷ (replicate m d ++ (v ∷ []))) ≡ forward d m q = ap (λ (f : Dir). after q (u ∷ (replicate m d ++ (f ∷ [])))) other ∙ detour_ends q u d m in
+                  let straight : u ∷ (replicate m d ++ (v ∷ [])) ≡ replicate m d = straight_part solids task t first front (u ∷ (replicate m d ++ (v ∷ []))) back d m h ends (cut_clear solids q u d m cross alone) in
                   let equal : u ≡ d = cc in
                   bend_differs u d hu equal)
             ])

@@ -8,9 +8,10 @@ use Rattle.walk_model.specs.Walk.{after}
 use Rattle.walk_model.specs.Choice.{IsChoice}
 use Rattle.walk_model.specs.Order.{Triple, IsLegalTriple}
 use Rattle.walk_model.proofs.CornerByCorner.Scan.{after-append}
+use Rattle.walk_laws.specs.Shifts.{with_steps}
 use Rattle.walk_laws.proofs.Steps.Clear.{IsClear, ComesBy, clear-append, clear_front, clear_back}
 use Rattle.walk_laws.proofs.Replacing.Tours.{IsTour, stub, stub_back, to_port, legal_from_tour}
-use Rattle.walk_laws.proofs.Replacing.Parts.{IsPart, with_steps}
+use Rattle.walk_laws.proofs.Replacing.Parts.{IsPart}
 
 -- of two ways to cut a list, where an element of the one lies in the other
 pub data Cut (xs : List Dir) (d : Dir) (ys ps qs : List Dir) : Type 0 where
