@@ -1,6 +1,6 @@
 //! The certificate of a diagram that is as large as one with a certificate may be.
 
-use crate::runs::{ends, faultless, written};
+use crate::app::runs::{ends, faultless, written};
 use reroute_app::Status;
 use std::alloc::{AllocError, Global};
 use std::test::Fail;

@@ -1,10 +1,10 @@
 //! Gates that count the pieces of searches that pass, or delay one until the next has passed; and
 //! runs with them.
 
-use crate::rows::{
+use crate::app::rows::{
     EMPTY, FIVE, FOUR, PARALLEL, PARALLEL_OUT, PROPOSALS, PROPOSALS_OUT, ROUND, UNDONE,
 };
-use crate::runs::{Row, ends_gated, faultless};
+use crate::app::runs::{Row, ends_gated, faultless};
 use par_route::Gate;
 use reroute_app::Status;
 use std::alloc::{AllocError, Global};

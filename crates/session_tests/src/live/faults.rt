@@ -1,6 +1,6 @@
 //! Ends of the input, lines at the limit, and reads and writes that fail.
 
-use crate::runs::{Row, Verdict, both_reported, reported, whole_row, wrote};
+use crate::live::runs::{Row, Verdict, both_reported, reported, whole_row, wrote};
 use live_replies::{End, ServeFault};
 use std::alloc::{AllocError, Global};
 use std::test::Fail;

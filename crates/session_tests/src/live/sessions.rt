@@ -2,7 +2,7 @@
 //!
 //! What is expected was found by an independent program.
 
-use crate::runs::{Row, reported, whole_row, wrote};
+use crate::live::runs::{Row, reported, whole_row, wrote};
 use live_replies::End;
 
 /// The session of the guide: a box between two others, a step back and forth, and an edit that is refused.

@@ -1,7 +1,7 @@
 //! Faults of the outside, files that are too long, and the exit codes of all statuses.
 
-use crate::rows::{EMPTY, PARALLEL, ROUND, STRAIGHT, STRAIGHT_OUT};
-use crate::runs::{Row, ends, exit_code, faultless};
+use crate::app::rows::{EMPTY, PARALLEL, ROUND, STRAIGHT, STRAIGHT_OUT};
+use crate::app::runs::{Row, ends, exit_code, faultless};
 use reroute_app::Status;
 use std::alloc::{AllocError, Global};
 use std::process::ExitCode;
