@@ -186,7 +186,7 @@ target_link_libraries(static PRIVATE reroute::static)
         done = self.configured('0.1')
         self.assertEqual(done.returncode, 0, done.stderr)
         subprocess.run(['cmake', '--build', f'{self.folder}/build'], check=True, capture_output=True)
-        with open(f'{TOP}/crates/small_editor/stdout') as file:
+        with open(f'{TOP}/examples/c/move_a_box.txt') as file:
             wanted = file.read()
         for name in ('shared', 'static'):
             self.assertEqual(subprocess.check_output([f'{self.folder}/build/{name}'], text=True), wanted)

@@ -91,7 +91,7 @@ class PackageTest(unittest.TestCase):
         self.addCleanup(folder.cleanup)
         self.folder = folder.name
         shutil.copytree(f'{TOP}/examples', f'{self.folder}/examples')
-        self.moved, self.dragged = text_of('crates/small_editor/stdout'), text_of('examples/c/drag_a_box.txt')
+        self.moved, self.dragged = text_of('examples/c/move_a_box.txt'), text_of('examples/c/drag_a_box.txt')
 
     def installed_debs(self):
         if not shutil.which('dpkg-deb'):

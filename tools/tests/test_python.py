@@ -228,6 +228,42 @@ class ChangesTest(LibraryTest):
         self.assertEqual(session.changes(), {})
 
 
+class LargeTest(LibraryTest):
+    """Texts of more than 4,096 bytes, with 20 connectors of which each is straight."""
+
+    def setUp(self):
+        self.lines = {k + 1: [(0, 100 * k), (1000, 100 * k)] for k in range(20)}
+
+    def test_a_text_is_opened_written_and_opened_again(self):
+        nodes = ''.join(f'node [ id {k} graphics [ x 0 y {100 * k} w 20 h 20 ] ]\n'
+                        f'node [ id {50 + k} graphics [ x 1000 y {100 * k} w 20 h 20 ] ]\n' for k in range(20))
+        label = 'a connector of a text that is long '.ljust(100, '.')
+        edges = ''.join(f'edge [ source {k} target {50 + k} label "{label}" ]\n' for k in range(20))
+        text = f'graph [\n{nodes}{edges}]\n'
+        self.assertGreater(len(text), 4096)
+        with Session(text) as session:
+            self.assertEqual(session.lines(), self.lines)
+            written = session.gml()
+        with Session(written) as session:
+            self.assertEqual((session.lines(), session.gml()), (self.lines, written))
+
+    def test_a_script_draws_and_tells_all_lines(self):
+        comment = 'so that the script is long '.ljust(200, '.')
+        script = ''.join(f'node {k} 0 {100 * k} 20 20\nnode {50 + k} 1000 {100 * k} 20 20\nedge {k} {50 + k} 0 0\n'
+                         f'# {comment}\n' for k in range(20))
+        self.assertGreater(len(script), 4096)
+        with Session() as session:
+            session.play(f'begin\n{script}commit\n')
+            self.assertEqual(session.changes(), self.lines)
+            with session.transaction():
+                session.move(19, 0, 1950)
+                session.move(69, 1000, 1950)
+            moved = {20: [(0, 1950), (1000, 1950)]}
+            self.assertEqual((session.changes(), session.lines()), (moved, {**self.lines, **moved}))
+            session.undo()
+            self.assertEqual(session.lines(), self.lines)
+
+
 class GraphTest(LibraryTest):
     def setUp(self):
         try:

@@ -1,6 +1,9 @@
-//! Tests of books, of sessions, of proposals, of nudged and shared lines and of replays, through public calls.
+//! Tests of sessions and of what stands on them, through public calls: books, calls, proposals, nudged lines, the
+//! program's runs, and sessions beside an editor.
 #![tactic(auto)]
 
+#[cfg(test)]
+mod app;
 #[cfg(test)]
 mod asks;
 #[cfg(test)]
@@ -10,10 +13,6 @@ mod calls;
 #[cfg(test)]
 mod lines;
 #[cfg(test)]
+mod live;
+#[cfg(test)]
 mod previews;
-#[cfg(test)]
-mod replies;
-#[cfg(test)]
-mod seeds;
-#[cfg(test)]
-mod shared;

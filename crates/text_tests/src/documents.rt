@@ -166,51 +166,6 @@ fn refuses_the_first_byte_that_no_document_has_there(rt: HostRuntime) {
     }
 }
 
-/// A number of lists, each opened in the one before, and a number of closing brackets.
-fn lists(alloc: Global, opened: usize, closed: usize) -> Result<Vec<u8>, AllocError> {
-    let mut bytes = repeated(alloc, b"a[", opened)?;
-    for _ in 0..closed {
-        bytes.push(b']')?;
-    }
-    Ok(bytes)
-}
-
-/// The fault of the lists.
-fn fault_of(alloc: Global, opened: usize, closed: usize) -> Result<Option<GmlFault>, AllocError> {
-    let bytes = lists(alloc, opened, closed)?;
-    Ok(parse(alloc, &bytes).err())
-}
-
-/// Numbers of lists that are opened and of closing brackets, and the fault.
-const LISTS: [(usize, usize, Option<GmlFault>); 3] = [
-    (65, 0, Some(GmlFault::TooDeep { at: 129 })),
-    (64, 0, Some(GmlFault::Syntax { at: 128 })),
-    (64, 64, None),
-];
-
-#[test]
-fn reads_lists_up_to_the_limit(rt: HostRuntime) -> Result<(), Fail> {
-    for &(opened, closed, want) in &LISTS {
-        let fault = fault_of(rt.alloc(), opened, closed)?;
-        assert!(rt; fault == want, "{opened} and {closed}");
-    }
-    Ok(())
-}
-
-/// Whether the printed form of the bytes is unchanged when it is printed again.
-fn is_kept(alloc: Global, bytes: &[u8]) -> Result<bool, Fail> {
-    let once = printed(alloc, bytes)?;
-    let twice = printed(alloc, &once)?;
-    Ok(once.as_slice() == twice.as_slice())
-}
-
-#[test]
-fn prints_the_deepest_lists(rt: HostRuntime) -> Result<(), Fail> {
-    let bytes = lists(rt.alloc(), 64, 64)?;
-    assert!(rt; is_kept(rt.alloc(), &bytes)?);
-    Ok(())
-}
-
 /// The index of the first pair with the key.
 fn found(alloc: Global, text: &[u8], key: &[u8]) -> Result<Option<usize>, GmlFault> {
     let doc = parse(alloc, text)?;

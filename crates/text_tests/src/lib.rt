@@ -8,12 +8,8 @@ mod certificates;
 #[cfg(test)]
 mod documents;
 #[cfg(test)]
-mod lines;
-#[cfg(test)]
 mod numbers;
 #[cfg(test)]
 mod outside;
 #[cfg(test)]
 mod scripts;
-#[cfg(test)]
-mod words;

@@ -1,10 +1,4 @@
-//! Reads and writes, in memory and with real files and standard output.
-
-ghost use Rattle.std.specs.Prelude.{◌≡◌, ◌≢◌, ℕ, true, Err, IfOk, OnOk, OnErr, IfSome, IsErrOf};
-ghost use Rattle.std.specs.Io.KnownBytes.{append_known};
-ghost use Rattle.host_edge.specs.Count.{Rose};
-ghost use Rattle.host_edge.specs.Folder.{file_named, GainsNote};
-ghost use Rattle.host_edge.specs.Note.{fault_count};
+//! Reads and writes, in memory and with real files, and outputs that take few bytes at a time or are closed.
 
 use host_edge::{
     DiskFolder, Folder, FolderFault, MemFolder, MemSink, NamedFile, Sink, StdSink, WriteFailed,
@@ -19,26 +13,6 @@ use std::{env, fs, io, process};
 
 /// More bytes than any small buffer has.
 const MEGABYTE: usize = 1_000_000;
-
-/// Copies a file to a sink, using only the traits.
-fn copy<F: Folder, O: Sink>(
-    folder: &mut F,
-    name: &str,
-    out: &mut O,
-) -> Result<Result<(), WriteFailed>, FolderFault>
-    ensures copied { IfOk result (λ written. OnOk written
-        (IfSome (F.files folder.old) (λ exposed. IfSome (file_named exposed name.now) (λ bytes.
-        O.held out.new ≡ append_known (O.held out.old) bytes)))) }
-    ensures unread { IsErrOf result FolderFault.Failed → (taken : ℕ)
-        × GainsNote (F.notes folder.old) (F.notes folder.new) name.now 100 taken true }
-    ensures faultless { fault_count (F.notes folder.new) ≡ fault_count (F.notes folder.old)
-        → result ≢ Err FolderFault.Failed }
-    ensures unwritten { IfOk result (λ written.
-        OnErr written (Rose (O.faults out.old) (O.faults out.new))) }
-{
-    let bytes = folder.read_file(name, 100)?;
-    Ok(write_all_to(out, &bytes))
-}
 
 /// A file in memory with this name and these bytes.
 fn named(alloc: Global, name: &str, bytes: &str) -> Result<NamedFile, AllocError> {
@@ -136,41 +110,6 @@ fn writes_in_memory(rt: HostRuntime) -> Result<(), Fail> {
     Ok(())
 }
 
-/// Whether the bytes are written at once and held after it.
-fn is_written(alloc: Global, bytes: &[u8]) -> bool {
-    let mut sink = MemSink::new(alloc, MEGABYTE, Vec::new(alloc));
-    let written = sink.write(bytes);
-    written == Ok(bytes.len()) && sink.held() == bytes
-}
-
-#[test]
-fn writes_a_megabyte_in_memory(rt: HostRuntime) -> Result<(), Fail> {
-    let large = vec![in rt.alloc(); b'x'; MEGABYTE]?;
-    assert!(rt; is_written(rt.alloc(), &large));
-    Ok(())
-}
-
-/// Whether the file is copied whole.
-fn copied(folder: &mut MemFolder, name: &str, sink: &mut MemSink) -> Result<bool, FolderFault> {
-    let written = copy(folder, name, sink)?;
-    Ok(written == Ok(()))
-}
-
-#[test]
-fn copies_a_file(rt: HostRuntime) -> Result<(), Fail> {
-    let alloc = rt.alloc();
-    let files = vec![in alloc; named(alloc, "a", "text")?]?;
-    let mut folder = MemFolder::new(alloc, files, Vec::new(alloc));
-    let mut sink = MemSink::new(alloc, 3, Vec::new(alloc));
-    assert_eq!(rt; copied(&mut folder, "a", &mut sink), Ok(true));
-    assert_eq!(rt; sink.held(), "text".as_bytes());
-    assert_eq!(rt;
-        copied(&mut folder, "b", &mut sink),
-        Err(FolderFault::Failed)
-    );
-    Ok(())
-}
-
 /// The folder of files that pass.
 fn directory(rt: &HostRuntime) -> Result<String, Fail> {
     Ok(String::from_str(rt.alloc(), env::temp_dir(rt)?.as_str())?)
@@ -203,18 +142,12 @@ fn is_read(
 }
 
 #[test]
-fn reads_a_real_file(rt: HostRuntime) -> Result<(), Fail> {
+fn reads_real_files(rt: HostRuntime) -> Result<(), Fail> {
     let name = file_name(&rt, "digits")?;
     let digits = "0123456789".as_bytes();
     let longer = Err(FolderFault::TooLong { limit: 9 });
     assert!(rt; is_read(&rt, name.as_str(), digits, 10, Ok(digits))?);
     assert!(rt; is_read(&rt, name.as_str(), digits, 9, longer)?);
-    Ok(())
-}
-
-#[test]
-fn reads_a_real_megabyte(rt: HostRuntime) -> Result<(), Fail> {
-    let name = file_name(&rt, "megabyte")?;
     let large = vec![in rt.alloc(); b'x'; MEGABYTE]?;
     assert!(rt; is_read(&rt, name.as_str(), &large, MEGABYTE as u64, Ok(&large))?);
     Ok(())
@@ -236,21 +169,11 @@ fn reads_no_missing_file_and_no_directory(rt: HostRuntime) -> Result<(), Fail> {
     Ok(())
 }
 
-/// Whether nothing, and then a line, is written to standard output.
-fn prints_a_line(rt: &HostRuntime) -> bool {
-    let mut sink = StdSink::new(rt);
-    let none = sink.write(b"");
-    none == Ok(0) && write_all_to(&mut sink, b"written to standard output\n") == Ok(())
-}
-
-#[test]
-fn writes_to_standard_output(rt: HostRuntime) {
-    assert!(rt; prints_a_line(&rt));
-}
-
-/// A standard output that takes at most three bytes of a piece and keeps what it took.
+/// A standard output that is closed, or takes so many bytes of a piece at most and keeps what it took.
 #[derive(Drop)]
 struct Page {
+    is_closed: bool,
+    most: usize,
     kept: RefCell<Vec<u8>>,
 }
 
@@ -277,20 +200,23 @@ impl Print for Page {
     }
 
     fn write_some(&self, bytes: &[u8]) -> io::Result<usize> {
-        let taken = bytes.len().min(3);
+        if self.is_closed {
+            return Err(io::Error::from(ErrorKind::BrokenPipe));
+        }
+        let taken = bytes.len().min(self.most);
         self.keep(&bytes[..taken])?;
         Ok(taken)
     }
 }
 
 /// Pieces that are written one after the other.
-const PIECES: [&str; 5] = ["one", "", "two, three", "4", "five and six\n"];
+const PIECES: [&[u8]; 5] = [b"one", b"", b"two, three", b"4", b"five and six\n"];
 
 /// Whether each piece is written to the page.
-fn are_written(page: &Page) -> bool {
+fn are_written(page: &Page, pieces: &[&[u8]]) -> bool {
     let mut sink = StdSink::new(page);
-    for piece in &PIECES {
-        if write_all_to(&mut sink, piece.as_bytes()) != Ok(()) {
+    for piece in pieces {
+        if write_all_to(&mut sink, piece) != Ok(()) {
             return false;
         }
     }
@@ -300,33 +226,40 @@ fn are_written(page: &Page) -> bool {
 #[test]
 fn writes_each_piece_once_and_in_order(rt: HostRuntime) {
     let page = Page {
+        is_closed: false,
+        most: 3,
         kept: RefCell::new(Vec::new(rt.alloc())),
     };
-    let written = are_written(&page);
+    let written = are_written(&page, &PIECES);
     let kept = page.kept.into_inner();
     assert!(rt; written);
     assert!(rt; kept.as_slice() == b"onetwo, three4five and six\n".as_slice());
 }
 
-/// A closed standard output.
-struct Closed;
+/// The length of a piece that is written by several calls.
+const LONG: usize = 2_097_152;
 
-impl Print for Closed {
-    fn print<D: Display + Drop>(&self, _value: D) -> io::Result<()> {
-        Err(io::Error::from(ErrorKind::BrokenPipe))
-    }
-
-    fn println<D: Display + Drop>(&self, _value: D) -> io::Result<()> {
-        Err(io::Error::from(ErrorKind::BrokenPipe))
-    }
-
-    fn write_all(&self, _bytes: &[u8]) -> io::Result<()> {
-        Err(io::Error::from(ErrorKind::BrokenPipe))
-    }
+#[test]
+fn writes_a_long_piece_whole(rt: HostRuntime) -> Result<(), Fail> {
+    let page = Page {
+        is_closed: false,
+        most: 100_000,
+        kept: RefCell::new(Vec::new(rt.alloc())),
+    };
+    let piece = vec![in rt.alloc(); b'x'; LONG]?;
+    let written = are_written(&page, &[piece.as_slice()]);
+    let kept = page.kept.into_inner();
+    assert!(rt; written);
+    assert!(rt; kept.as_slice() == piece.as_slice());
+    Ok(())
 }
 
 #[test]
 fn reports_a_closed_output(rt: HostRuntime) {
-    let mut sink = StdSink::new(&Closed);
-    assert!(rt; sink.write(b"lost") == Err(WriteFailed));
+    let page = Page {
+        is_closed: true,
+        most: 3,
+        kept: RefCell::new(Vec::new(rt.alloc())),
+    };
+    assert!(rt; !are_written(&page, &PIECES));
 }

@@ -145,12 +145,6 @@ fn wrong_line_of(alloc: Global, script: &[u8], wanted: &[Row]) -> Result<usize, 
     Ok(wrong_line(&commands(alloc, script)?, wanted))
 }
 
-#[test]
-fn reads_each_form(rt: HostRuntime) -> Result<(), Fail> {
-    assert_eq!(rt; wrong_line_of(rt.alloc(), SCRIPT.as_bytes(), &ROWS)?, 0);
-    Ok(())
-}
-
 /// A node that is further than any number is read.
 const FAR: Command = Command::Edit(Edit::AddNode {
     id: 1,
@@ -161,15 +155,9 @@ const FAR: Command = Command::Edit(Edit::AddNode {
 });
 
 #[test]
-fn reads_far_numbers(rt: HostRuntime) -> Result<(), Fail> {
-    let script = b"node 1 1E999 0 1 1";
-    assert_eq!(rt; wrong_line_of(rt.alloc(), script, &[(1, FAR)])?, 0);
-    Ok(())
-}
-
-#[test]
-fn reads_a_long_line(rt: HostRuntime) -> Result<(), Fail> {
-    let long = vec![in rt.alloc(); b'a'; 4_194_304]?;
-    assert_eq!(rt; wrong_line_of(rt.alloc(), &long, &[(1, Command::Bad)])?, 0);
+fn reads_each_form(rt: HostRuntime) -> Result<(), Fail> {
+    assert_eq!(rt; wrong_line_of(rt.alloc(), SCRIPT.as_bytes(), &ROWS)?, 0);
+    let far = b"node 1 1E999 0 1 1";
+    assert_eq!(rt; wrong_line_of(rt.alloc(), far, &[(1, FAR)])?, 0);
     Ok(())
 }

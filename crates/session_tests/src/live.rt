@@ -1,0 +1,5 @@
+//! Tests of a session beside an editor: whole sessions over input and output in memory.
+
+mod faults;
+mod runs;
+mod sessions;

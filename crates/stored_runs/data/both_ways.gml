@@ -1,0 +1,6 @@
+graph [
+  node [ id 1 graphics [ x 0 y 0 w 20 h 20 ] ]
+  node [ id 2 graphics [ x 100 y 0 w 20 h 20 ] ]
+  edge [ source 1 target 2 ]
+  edge [ source 2 target 1 ]
+]

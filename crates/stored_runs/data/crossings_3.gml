@@ -1,0 +1,11 @@
+graph [
+  node [ id 1 graphics [ x 0 y 50 w 20 h 20 ] ]
+  node [ id 2 graphics [ x 50 y 50 w 20 h 20 ] ]
+  node [ id 3 graphics [ x 150 y 0 w 20 h 20 ] ]
+  node [ id 4 graphics [ x 0 y 0 w 20 h 20 ] ]
+  node [ id 5 graphics [ x 50 y 200 w 20 h 20 ] ]
+  node [ id 6 graphics [ x 100 y 150 w 20 h 20 ] ]
+  edge [ source 6 target 1 ]
+  edge [ source 3 target 1 via [ x 0 y 100 ] ]
+  edge [ source 5 target 6 via [ x 25 y -25 ] ]
+]

@@ -1,0 +1,1 @@
+graph 3 graph [ node [ id 1 ] ] graph [ ]

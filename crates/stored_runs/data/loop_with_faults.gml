@@ -1,0 +1,1 @@
+graph [ node [ id 1 graphics [ x 0 y 0 ] ] node [ id 2 graphics [ x 100 y 0 w 20 h 20 ] ] edge [ source 1 target 1 sourcePin 9 via 3 nudgeWeight 9 ] ]

@@ -1,0 +1,4 @@
+graph [
+  node [ id 1 graphics [ x 0 y 0 w 20 h 20 ] ]
+  node [ id 2 graphics [ x 100 y 0 w 20 h 20 ] ]
+]

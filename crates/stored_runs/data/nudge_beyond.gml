@@ -1,0 +1,1 @@
+graph [ router [ nudge 1000.0005 ] ]

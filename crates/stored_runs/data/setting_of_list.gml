@@ -1,0 +1,1 @@
+graph [ router [ penalty 0 buffer [ ] ] ]

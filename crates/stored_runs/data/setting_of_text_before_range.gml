@@ -1,0 +1,1 @@
+graph [ router [ penalty "a" buffer 0 ] ]

@@ -1,0 +1,11 @@
+graph [
+  router [ nudge 0.001 ]
+  node [ id 1 graphics [ x 0 y 24 w 20 h 20 ] ]
+  node [ id 2 graphics [ x 200 y 24 w 20 h 20 ] ]
+  node [ id 3 graphics [ x 50 y 24 w 20 h 40 ] ]
+  node [ id 4 graphics [ x 120 y 60 w 20 h 20 ] pin [ class 1 x 0 y 0 dirs "N" ] ]
+  node [ id 5 graphics [ x 300 y -60 w 20 h 20 ] pin [ class 1 x 0 y 0 dirs "S" ] ]
+  node [ id 6 graphics [ x 235 y -30 w 22 h 52 ] ]
+  edge [ source 1 target 2 ]
+  edge [ source 4 target 5 sourcePin 1 targetPin 1 ]
+]

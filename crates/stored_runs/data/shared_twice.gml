@@ -1,0 +1,11 @@
+graph [
+  node [ id 1 graphics [ x 0 y 0 w 20 h 20 ] ]
+  node [ id 2 graphics [ x 50 y 50 w 20 h 20 ] ]
+  node [ id 3 graphics [ x 150 y 200 w 20 h 20 ] ]
+  node [ id 4 graphics [ x 200 y 150 w 20 h 20 ] ]
+  node [ id 5 graphics [ x 150 y 0 w 20 h 20 ] ]
+  edge [ source 1 target 5 via [ x 25 y 100 ] ]
+  edge [ source 2 target 4 ]
+  edge [ source 5 target 4 ]
+  edge [ source 5 target 1 via [ x 125 y 125 ] ]
+]
