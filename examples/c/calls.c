@@ -192,7 +192,7 @@ static void cut(reroute_session *s) {
     DONE(reroute_commit(s));
     WANT(!reroute_cost(s, 1, &cost) && cost == 7);
     DONE(reroute_lines(s, &count));
-    WANT(count == 0);
+    WANT(count == 0 && reroute_gone_count(s) == 1 && reroute_gone(s, 0) == 1 && reroute_gone(s, 1) == 0);
 }
 
 /* Two boxes with a connector, a script that puts a third one between them, and what is then written. */

@@ -7,7 +7,7 @@ use Rattle.std.specs.declared.cmp.Ordering.TheVariants.{Less, Equal, Greater}
 use Rattle.std.specs.Cmp.{ranks}
 use Rattle.std.proofs.lemmas.List.{append-nil, drop_more, drop_all}
 use Rattle.std.proofs.lemmas.List.Elements.{recursion_from_All}
-use Rattle.std.proofs.lemmas.Option.{none-some, same_Some, slice_get-get_or, slice_get_past, slice_get_within}
+use Rattle.std.proofs.lemmas.Option.{none-some, same_Some, slice_get-get_or, slice_get_within}
 use Rattle.walk_model.specs.declared.route.WrittenRoute.{WrittenRoute}
 use Rattle.drawing.specs.Changes.{AreInOrder, are_same_corners, gone_between, is_changed, order_of}
 use Rattle.drawing.proofs.Passing.{AreAbove, changed_both, changed_new, changed_past, gone_both, gone_first, gone_new}
@@ -35,7 +35,9 @@ above (l ∷ ls) rise (suc k) n h =
 
 -- the lines after one are above it
 after : (ls : List WrittenRoute) → AreInOrder ls → (k : ℕ) (d : WrittenRoute) → k < length ls → AreAbove (get_or ls k d).edge (drop (k + 1) ls)
-after ls rise k d within = above ls rise (k + 1) (get_or ls k d).edge (λ e more. subst (λ (m : WrittenRoute). m.edge < (get_or ls (k + 1) e).edge) refl (rise k (k + 1) d (omega arith) more))
+after ls rise k d within = above ls rise (k + 1) (get_or ls k d).edge (λ e more.
+    let same = same_Some (get_or ls k e) (get_or ls k d) (sym (slice_get-get_or ls k e within) ∙ slice_get-get_or ls k d within) in
+    subst (λ (m : WrittenRoute). m.edge < (get_or ls (k + 1) e).edge) same (rise k (k + 1) e (omega arith) more))
 
 -- what the order of two lines says of them
 rank_of : (b l : WrittenRoute) (r : Ordering) → nat_cmp b.edge l.edge ≡ r → MatchOrdering r (b.edge < l.edge) (b.edge ≡ l.edge) (l.edge < b.edge)
