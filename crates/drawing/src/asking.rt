@@ -5,7 +5,7 @@ ghost use Rattle.drawing.specs.Lines.{IsUnproposed};
 
 use crate::changes::changes_between;
 use crate::drawing::Drawing;
-use crate::lines::{lines_after, present_lines};
+use crate::lines::Lines;
 use scene_model::SessionFault;
 use std::alloc::{AllocError, Global};
 use walk_model::WrittenRoute;
@@ -20,8 +20,8 @@ impl Drawing {
         ensures reports { OnOk result (Reports self.old self.new) }
         ensures err { OnErr result (self.new ≡ self.old) }
     {
-        let lines = present_lines(&self.session)?;
-        self.differences = changes_between(alloc, &self.reported, &lines)?;
+        let lines = Lines::of_present(&self.session)?;
+        self.differences = changes_between(alloc, self.reported.as_slice(), lines.as_slice())?;
         self.reported = lines;
         self.proposed = None;
         Ok(())
@@ -41,10 +41,11 @@ impl Drawing {
         let Some(working) = self.session.working() else {
             return Err(SessionFault::NoTransaction);
         };
-        let Ok(lines) = lines_after(alloc, &self.session, working) else {
+        let Ok(lines) = Lines::of_working(alloc, &self.session, working) else {
             return Err(SessionFault::Memory);
         };
-        let Ok(differences) = changes_between(alloc, &self.reported, &lines) else {
+        let compared = changes_between(alloc, self.reported.as_slice(), lines.as_slice());
+        let Ok(differences) = compared else {
             return Err(SessionFault::Memory);
         };
         self.differences = differences;
@@ -57,8 +58,8 @@ impl Drawing {
         ensures { result.now ≡ self.now.asked.lines }
     {
         match &self.proposed {
-            Some(lines) => lines,
-            None => &self.reported,
+            Some(lines) => lines.as_slice(),
+            None => self.reported.as_slice(),
         }
     }
 

@@ -9,6 +9,7 @@ ghost use Rattle.drawing.specs.Opening.{IsOpenFault, Opens, empty_diagram};
 
 use crate::changes::Differences;
 use crate::fault::OpenFault;
+use crate::lines::Lines;
 use diagram_read::scene_of;
 use form_route::printed_diagram;
 use gml_text::{Bytes, Doc, Pair, Value, parse};
@@ -16,26 +17,24 @@ use route_session::Session;
 use scene_store::Scene;
 use std::alloc::{AllocError, Global};
 use std::marker::Model;
-use walk_model::WrittenRoute;
 
 /// A session, with the document that its scenes come from, the lines that were reported last, and what was asked for last.
 #[derive(Drop)]
 pub struct Drawing {
     pub(crate) doc: Doc,
     pub(crate) session: Session,
-    pub(crate) reported: Vec<WrittenRoute>,
+    pub(crate) reported: Lines,
     /// The lines of a preview, if one was asked for last; otherwise those that were reported were.
-    pub(crate) proposed: Option<Vec<WrittenRoute>>,
+    pub(crate) proposed: Option<Lines>,
     /// What the lines that were asked for last differ in from those that were reported before.
     pub(crate) differences: Differences,
 }
 
 impl Model for Drawing {
-    ghost use Rattle.std.specs.Prelude.{option_map, unwrap_or};
+    ghost use Rattle.std.specs.Prelude.{unwrap_or};
     ghost use Rattle.gml_text.specs.View.{tree};
     ghost use Rattle.gml_text.specs.contracts.tree.Doc as document;
     ghost use Rattle.std.specs.Coded.{codes};
-    ghost use Rattle.drawing.specs.Changes.{AreInOrder};
     ghost use Rattle.drawing.specs.Drawing.{DrawingState, IsSource};
 
     ghost Value = { DrawingState };
@@ -45,15 +44,15 @@ impl Model for Drawing {
     ghost view = { λ d. record {
       session = d.session;
       document = d.doc;
-      reported = d.reported.items;
+      reported = d.reported;
       asked = record {
-        lines = unwrap_or (option_map (λ v. v.items) d.proposed) d.reported.items;
+        lines = unwrap_or d.proposed d.reported;
         changed = d.differences.changed.items;
         gone = d.differences.gone.items;
       };
     } };
 
-    ghost invariant = { λ d. IsSource (tree d.doc) d.session.world × AreInOrder d.reported.items };
+    ghost invariant = { λ d. IsSource (tree d.doc) d.session.world };
 }
 
 /// The document `graph [ ]`. The only error is out of memory.
@@ -83,7 +82,7 @@ impl Drawing {
         Ok(Drawing {
             doc,
             session,
-            reported: Vec::new(alloc),
+            reported: Lines::none(alloc),
             proposed: None,
             differences: Differences::none(alloc),
         })

@@ -3,10 +3,10 @@ use Rattle.std.proofs.Common.{subst}
 use Rattle.form_route.proofs.Lines.{lines_are_routes}
 use Rattle.gml_scene.specs.Origins.{AreRoutesOf}
 use Rattle.drawing.specs.Lines.{AreDrawn}
-use Rattle.drawing.proofs.lines.present_lines.Goals as goal
+use Rattle.drawing.proofs.lines.Lines.of_present.Goals as goal
 
-pub returns-clause-drawn : goal.returns-clause-drawn
-returns-clause-drawn c =
+pub returns : goal.returns
+returns c =
     let n = c.in_ok-routes.field-0 in
     let apart = c.in_ok-routes.ensures.apart c.in_ok-routes.ensures.nudged in
     let drawn : AreDrawn c.args.session.now n.routes.items = record {
@@ -19,8 +19,8 @@ returns-clause-drawn c =
     } in
     drawn
 
-pub returns-clause-in_order : goal.returns-clause-in_order
-returns-clause-in_order c =
+pub invariant_of-result : goal.invariant_of-result
+invariant_of-result c =
     let n = c.in_ok-routes.field-0 in
     let routes : AreRoutesOf c.scene-scene.result.now n.routes.items =
     lines_are_routes c.scene-scene.result.now c.args.session.now.book n.routes.items c.valid.ensures c.scene-scene.ensures.right c.in_ok-routes.ensures.edges in

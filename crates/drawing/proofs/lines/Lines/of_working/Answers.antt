@@ -9,7 +9,7 @@ use Rattle.session_laws.specs.State.{State}
 use Rattle.session_laws.specs.Calls.{IsCall}
 use Rattle.form_route.proofs.Lines.{lines_are_routes}
 use Rattle.drawing.specs.Lines.{AreDrawn}
-use Rattle.drawing.proofs.lines.lines_after.Goals as goal
+use Rattle.drawing.proofs.lines.Lines.of_working.Goals as goal
 
 -- the session after a commit of its open transaction, with this working scene and its right answers
 abbrev committed : State → Scene → List Answer → State
@@ -28,8 +28,8 @@ commit_done s working answers is_open right = record {
   right = right;
 }
 
-pub returns-clause-proposed : goal.returns-clause-proposed
-returns-clause-proposed c =
+pub returns : goal.returns
+returns c =
     let s = c.args.session.now in
     let n = c.in_ok-routes.field-0 in
     let answers = c.answers.result.now in
@@ -46,8 +46,8 @@ returns-clause-proposed c =
     } in
     record { after = after; commit = commit_done s c.args.working.now answers c.requires right; drawn = drawn }
 
-pub returns-clause-in_order : goal.returns-clause-in_order
-returns-clause-in_order c =
+pub invariant_of-result : goal.invariant_of-result
+invariant_of-result c =
     let working = c.args.working.now in
     let answers = c.answers.result.now in
     let right : AreAnswers working answers = subst (AreAnswers working) (sym c.answers.ensures) c.in_ok-book.ensures.right in
