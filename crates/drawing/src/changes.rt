@@ -9,7 +9,7 @@ use std::cmp::Ordering;
 use walk_model::WrittenRoute;
 
 /// What differs between lines and those that were reported before.
-#[derive(Debug, Drop)]
+#[derive(Drop)]
 pub(crate) struct Differences {
     /// Of each line whether it differs from the one that was reported of its connector, if one was.
     pub changed: Vec<bool>,
