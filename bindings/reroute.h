@@ -102,7 +102,7 @@ reroute_fault reroute_begin(reroute_session *session);
  * none if no route is legal. Only connectors that the edits may affect are searched. The scene before can be undone to, at
  * most 100 of them; what was undone before can no longer be redone. */
 reroute_fault reroute_commit(reroute_session *session);
-/* Drops it. Takes no memory. */
+/* Drops it. Takes no memory: the faults are REROUTE_NO_TRANSACTION and REROUTE_NO_SESSION. */
 reroute_fault reroute_abort(reroute_session *session);
 /* The scene before the last commit that is not undone, with the routes that it had. Nothing is searched. */
 reroute_fault reroute_undo(reroute_session *session);
@@ -124,7 +124,7 @@ reroute_fault reroute_add_pin(reroute_session *session, int64_t id, uint32_t pin
 reroute_fault reroute_drop_pin(reroute_session *session, int64_t id, uint32_t place);
 /* A connector between any pins of the two classes. *number becomes its number; if the call is refused, it stays. */
 reroute_fault reroute_connect(reroute_session *session, int64_t from, uint32_t from_class, int64_t to, uint32_t to_class, uint32_t *number);
-/* The number that the next connector gets; 0 if the session is closed. */
+/* The number that the next connector gets: in the open transaction, if one is open; 0 if the session is closed. */
 uint32_t reroute_next(reroute_session *session);
 reroute_fault reroute_cut(reroute_session *session, uint32_t number);
 reroute_fault reroute_set_classes(reroute_session *session, uint32_t number, uint32_t from_class, uint32_t to_class);
@@ -138,32 +138,42 @@ reroute_fault reroute_set_buffer(reroute_session *session, int64_t value);
 /* How far lines side by side are kept apart where there is room: 0 to 10^6. */
 reroute_fault reroute_set_nudge(reroute_session *session, int64_t value);
 
-/* --- Lines of the present scene; an open transaction makes no difference ------------------------------------------- */
-/* Nudges the lines and sets *count to how many connectors have one; they are in the order of their numbers, and can be read
- * by the next two calls, by their places from 0, until this is called again. The faults are REROUTE_NO_SESSION and
- * REROUTE_MEMORY; after one, the lines that could be read before and *count are as they were. */
+/* --- Lines --------------------------------------------------------------------------------------------------------- */
+/* Lines are reported by reroute_lines. Both calls below compare the lines that they give with those that were reported last:
+ * a line changed if none was reported of its connector or another was, and a connector is gone if a line was reported of it
+ * and it has none now, since it was cut or has no legal route. No line was reported when a session opens. count is not NULL. */
+/* Nudges the lines of the present scene, whether or not a transaction is open, and sets *count to how many connectors have one.
+ * These are the lines that are reported from now on. They are in the order of the connectors' numbers, and can be read by
+ * their places from 0 until one of the two calls is done again. The faults are REROUTE_NO_SESSION and REROUTE_MEMORY; after one,
+ * the lines that could be read before, those that are reported, and *count are as they were. */
 reroute_fault reroute_lines(reroute_session *session, size_t *count);
-/* A line: its connector, its number of corners, and whether it was not among the lines before the last reroute_lines. */
+/* The same for the lines that a commit of the open transaction would give, but these are not reported: what was reported last
+ * stays, and so does the transaction. So nothing is lost where it is dropped, and a reroute_lines after its commit says what
+ * differs from what was reported before the first preview. If none is open: REROUTE_NO_TRANSACTION; the other faults are
+ * REROUTE_NO_SESSION and REROUTE_MEMORY, and after any, all stays as after a fault of reroute_lines. */
+reroute_fault reroute_preview(reroute_session *session, size_t *count);
+/* A line of those that were asked for last: its connector, its number of corners, and whether it changed. */
 typedef struct reroute_line_info { uint32_t connector; size_t corners; bool changed; } reroute_line_info;
 /* The line at a place. If there is none, or the session is closed: connector 0, no corners, not changed. */
 reroute_line_info reroute_line(reroute_session *session, size_t place);
 typedef struct reroute_point { int64_t x, y; } reroute_point;
-/* Writes the corner at a place, from 0, of the line at a place. False, and nothing is written, if there is none. */
+/* Writes the corner at a place, from 0, of the line at a place. False, and nothing is written, if there is none, or the session
+ * is closed. corner is not NULL. */
 bool reroute_corner(reroute_session *session, size_t place, size_t at, reroute_point *corner);
+/* How many connectors are gone from the lines that were asked for last; 0 if the session is closed. */
+size_t reroute_gone_count(reroute_session *session);
+/* The number of such a connector, by its place from 0; 0 if there is none, or the session is closed. */
+uint32_t reroute_gone(reroute_session *session, size_t place);
+
+/* --- The present scene; an open transaction makes no difference ------------------------------------------------------ */
 /* Writes what a connector's route costs: its length and the penalty for each bend, before nudging. False, and nothing is
- * written, if the connector has no route. */
+ * written, if the connector has no route, or the session is closed. cost is not NULL. */
 bool reroute_cost(reroute_session *session, uint32_t number, uint64_t *cost);
 /* How many searches the session has made; 0 if it is closed. */
 uint64_t reroute_searched(reroute_session *session);
 /* How many boxes and how many connectors the present scene has; 0 if the session is closed. */
 size_t reroute_box_count(reroute_session *session);
 size_t reroute_connector_count(reroute_session *session);
-
-/* --- A preview of the open transaction ----------------------------------------------------------------------------- */
-/* As reroute_lines, for the lines that a commit of the open transaction would give: reroute_line and reroute_corner then read
- * these. The transaction stays open, and scene, routes and history stay. If none is open: REROUTE_NO_TRANSACTION. After a
- * fault, the lines that could be read before and *count are as they were. */
-reroute_fault reroute_preview(reroute_session *session, size_t *count);
 
 /* --- Texts ----------------------------------------------------------------------------------------------------------- */
 /* Writes the diagram that was opened, with the present scene and its lines put in, as the program writes it; reroute_open
@@ -233,13 +243,18 @@ static inline size_t reroute_corners(reroute_session *session, size_t place, rer
     while (at < room && reroute_corner(session, place, at, &out[at])) at++;
     return at;
 }
-/* Calls back for each line that changed since the last call, in place of libavoid's callback of a connector. */
+/* Reports the lines, and calls back for each that changed and for each connector that is gone, whose line has no corners, in
+ * place of libavoid's callback of a connector. */
 static inline reroute_fault reroute_for_changed(reroute_session *session, void (*changed)(void *context, reroute_line_info line, size_t place), void *context) {
     size_t count = 0;
     reroute_fault fault = reroute_lines(session, &count);
     for (size_t place = 0; fault.code == REROUTE_OK && place < count; place++) {
         reroute_line_info line = reroute_line(session, place);
         if (line.changed) changed(context, line, place);
+    }
+    for (size_t place = 0; fault.code == REROUTE_OK && place < reroute_gone_count(session); place++) {
+        reroute_line_info line = { reroute_gone(session, place), 0, true };
+        changed(context, line, count + place);
     }
     return fault;
 }

@@ -37,6 +37,7 @@ static void closed(reroute_session *s) {
     WANT(line.connector == 0 && line.corners == 0 && !line.changed);
     WANT(!reroute_corner(s, 0, 0, &corner) && !reroute_cost(s, 1, &cost));
     WANT(reroute_searched(s) == 0 && reroute_next(s) == 0);
+    WANT(reroute_gone_count(s) == 0 && reroute_gone(s, 0) == 0);
     WANT(count == 7 && number == 7 && cost == 7 && corner.x == 7 && corner.y == 7);
 }
 
@@ -97,7 +98,7 @@ static void refusals(reroute_session *s) {
     REFUSES(reroute_commit(s), REROUTE_NO_TRANSACTION, 0);
 }
 
-/* The line of a present scene; which of them changed is said once. */
+/* The line of a present scene, which is reported; what changed since is said once. */
 static void lines(reroute_session *s) {
     size_t count = 0;
     reroute_point corners[9];
@@ -113,7 +114,7 @@ static void lines(reroute_session *s) {
     WANT(reroute_line(s, 1).connector == 0);
 }
 
-/* What a move would give, of which nothing stays but that its line can be read. */
+/* What edits would give, against what was reported; nothing of it stays but that its lines can be read. */
 static void preview(reroute_session *s) {
     size_t count = 7;
     reroute_point corners[9];
@@ -127,11 +128,17 @@ static void preview(reroute_session *s) {
     WANT(count == 1 && line.connector == 1 && line.corners == 4 && line.changed);
     WANT(reroute_corners(s, 0, corners, 9) == 4 && corners[1].x == 0 && corners[1].y == -24000);
     DONE(reroute_preview(s, &count));
-    WANT(count == 1 && !reroute_line(s, 0).changed);
+    WANT(count == 1 && reroute_line(s, 0).changed);
     DONE(reroute_drop_box(s, 3));
     DONE(reroute_preview(s, &count));
-    WANT(count == 1 && reroute_line(s, 0).corners == 2 && reroute_line(s, 0).changed);
+    WANT(count == 1 && reroute_line(s, 0).corners == 2 && !reroute_line(s, 0).changed);
+    DONE(reroute_cut(s, 1));
+    DONE(reroute_preview(s, &count));
+    WANT(count == 0 && reroute_gone_count(s) == 1 && reroute_gone(s, 0) == 1 && reroute_gone(s, 1) == 0);
+    WANT(reroute_line(s, 0).connector == 0 && !reroute_line(s, 0).changed);
     DONE(reroute_abort(s));
+    DONE(reroute_lines(s, &count));
+    WANT(count == 1 && !reroute_line(s, 0).changed && reroute_gone_count(s) == 0);
     costs(s, 1, 100000);
     WANT(reroute_searched(s) == 1 && reroute_box_count(s) == 3);
 }
@@ -185,7 +192,7 @@ static void cut(reroute_session *s) {
     DONE(reroute_commit(s));
     WANT(!reroute_cost(s, 1, &cost) && cost == 7);
     DONE(reroute_lines(s, &count));
-    WANT(count == 0);
+    WANT(count == 0 && reroute_gone_count(s) == 1 && reroute_gone(s, 0) == 1 && reroute_gone(s, 1) == 0);
 }
 
 /* Two boxes with a connector, a script that puts a third one between them, and what is then written. */

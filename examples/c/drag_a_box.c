@@ -21,17 +21,18 @@ static void done(reroute_fault fault) {
     exit(1);
 }
 
-/* The lines of the scene, or of the open transaction. What a preview reports as changed is what differs from the preview
- * before it, so read all lines and compare them with those on the screen. */
-static screen lines_of(reroute_session *session, reroute_fault (*call)(reroute_session *, size_t *)) {
-    screen found;
+/* The lines that were reported, with what the call says changed, and without those that are gone: the lines of the scene, which
+ * are reported then, or those of the open transaction, which are not. */
+static screen lines_by(reroute_session *session, const screen *reported, reroute_fault (*call)(reroute_session *, size_t *)) {
+    screen found = *reported;
     size_t count = 0;
-    memset(&found, 0, sizeof found);
     done(call(session, &count));
     for (size_t place = 0; place < count; place++) {
-        line *drawn = &found.lines[reroute_line(session, place).connector];
-        drawn->count = reroute_corners(session, place, drawn->corners, CORNERS);
+        reroute_line_info info = reroute_line(session, place);
+        line *drawn = &found.lines[info.connector];
+        if (info.changed) drawn->count = reroute_corners(session, place, drawn->corners, CORNERS);
     }
+    for (size_t place = 0; place < reroute_gone_count(session); place++) found.lines[reroute_gone(session, place)].count = 0;
     return found;
 }
 
@@ -73,24 +74,24 @@ static void draw(reroute_session *session) {
 }
 
 /* Shows box 3 at 50 places on its way; returns how many of them redrew something. The screen is then that of the last one. */
-static int drag(reroute_session *session, screen *shown, int64_t x, int64_t y, int64_t to_x, int64_t to_y) {
+static int drag(reroute_session *session, const screen *reported, screen *shown, int64_t x, int64_t y, int64_t to_x, int64_t to_y) {
     int redrawn = 0;
     for (int step = 1; step <= STEPS; step++) {
         done(reroute_begin(session));
         done(reroute_move_box(session, 3, x + (to_x - x) * step / STEPS, y + (to_y - y) * step / STEPS));
-        screen now = lines_of(session, reroute_preview);
+        screen now = lines_by(session, reported, reroute_preview);
         done(reroute_abort(session));
         redrawn += redraw(shown, &now) > 0;
     }
     return redrawn;
 }
 
-static void release(reroute_session *session, screen *shown, int64_t x, int64_t y) {
+static void release(reroute_session *session, screen *reported, screen *shown, int64_t x, int64_t y) {
     done(reroute_begin(session));
     done(reroute_move_box(session, 3, x, y));
     done(reroute_commit(session));
-    screen now = lines_of(session, reroute_lines);
-    redraw(shown, &now);
+    *reported = lines_by(session, reported, reroute_lines);
+    redraw(shown, reported);
 }
 
 int main(void) {
@@ -98,26 +99,26 @@ int main(void) {
     char title[64];
     done(reroute_start(&session));
     draw(&session);
-    screen shown = lines_of(&session, reroute_lines), before = shown;
+    screen nothing = { 0 }, reported = lines_by(&session, &nothing, reroute_lines), shown = reported;
     print(&shown, "Before");
 
-    int redrawn = drag(&session, &shown, 50000, 80000, 50000, 0);
+    int redrawn = drag(&session, &reported, &shown, 50000, 80000, 50000, 0);
     print(&shown, "Held between the others");
-    redraw(&shown, &before);
+    redraw(&shown, &reported);
     snprintf(title, sizeof title, "Cancelled after %d previews, of which %d redrew lines", STEPS, redrawn);
     print(&shown, title);
 
-    drag(&session, &shown, 50000, 80000, 50000, 0);
-    release(&session, &shown, 50000, 0);
+    drag(&session, &reported, &shown, 50000, 80000, 50000, 0);
+    release(&session, &reported, &shown, 50000, 0);
     print(&shown, "Released between the others");
-    drag(&session, &shown, 50000, 0, 100000, 0);
-    release(&session, &shown, 100000, 0);
+    drag(&session, &reported, &shown, 50000, 0, 100000, 0);
+    release(&session, &reported, &shown, 100000, 0);
     print(&shown, "Released over box 2");
 
     done(reroute_undo(&session));
     done(reroute_undo(&session));
-    screen now = lines_of(&session, reroute_lines);
-    redraw(&shown, &now);
+    reported = lines_by(&session, &reported, reroute_lines);
+    redraw(&shown, &reported);
     print(&shown, "Undone twice");
     reroute_end(&session);
     return 0;

@@ -42,6 +42,7 @@ CALLS = {
     'set_buffer': (Fault, I), 'set_nudge': (Fault, I), 'lines': (Fault, c.POINTER(Z)), 'line': (Line, Z),
     'corner': (c.c_bool, Z, Z, c.POINTER(Point)), 'cost': (c.c_bool, U, c.POINTER(c.c_uint64)),
     'searched': (c.c_uint64,), 'box_count': (Z,), 'connector_count': (Z,), 'preview': (Fault, c.POINTER(Z)),
+    'gone_count': (Z,), 'gone': (U, Z),
     'open_gml': (Fault, c.c_char_p, Z), 'write_gml': (Fault, c.c_char_p, Z, c.POINTER(Z)),
     'play': (Fault, c.c_char_p, Z, c.POINTER(Z))}
 

@@ -1,3 +1,4 @@
 -- The lemmas of the exports.
+mod Aborted
 mod Answered
 mod Unpreviewed

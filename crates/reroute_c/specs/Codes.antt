@@ -5,15 +5,18 @@ use Rattle.scene_model.specs.declared.fault.SceneFault.TheVariants as scenes
 use Rattle.scene_model.specs.declared.fault.SessionFault.{SessionFault}
 use Rattle.scene_model.specs.declared.fault.SessionFault.TheVariants as faults
 use Rattle.scene_model.specs.declared.edit.Command.{Command}
-use Rattle.editor_files.specs.Drawing.{DrawingState, IsDrawingCall}
+use Rattle.drawing.specs.Drawing.{DrawingState, IsDrawingCall}
 use Rattle.reroute_c.specs.declared.fault.Fault.{Fault}
 
--- nothing is refused; what is asked for is not valid; a session is open; there is no session; there is no memory
+-- nothing is refused; what is asked for is not valid; no transaction is open; a session is open; there is no session; there is no memory
 abbrev pub no_fault : Fault
 no_fault = record { code = 0; value = pos 0 }
 
 abbrev pub syntax_fault : Fault
 syntax_fault = record { code = 1; value = pos 0 }
+
+abbrev pub no_transaction_fault : Fault
+no_transaction_fault = record { code = 2; value = pos 0 }
 
 abbrev pub already_open_fault : Fault
 already_open_fault = record { code = 3; value = pos 0 }
@@ -45,7 +48,7 @@ edit_fault scenes.Memory = memory_fault
 
 -- why a call is refused
 abbrev pub call_fault : SessionFault → Fault
-call_fault faults.NoTransaction = record { code = 2; value = pos 0 }
+call_fault faults.NoTransaction = no_transaction_fault
 call_fault faults.AlreadyOpen = already_open_fault
 call_fault faults.NothingToUndo = record { code = 14; value = pos 0 }
 call_fault faults.NothingToRedo = record { code = 15; value = pos 0 }

@@ -7,14 +7,14 @@ use Rattle.diagram_read.specs.declared.fault.Part.TheVariants.{Router, Node, Edg
 use Rattle.diagram_read.specs.declared.fault.DiagramFault.{DiagramFault}
 use Rattle.diagram_read.specs.declared.fault.DiagramFault.TheVariants as diagrams
 use Rattle.scene_model.specs.declared.edit.Command.{Command}
-use Rattle.editor_files.specs.declared.fault.OpenFault.{OpenFault}
-use Rattle.editor_files.specs.declared.fault.OpenFault.TheVariants as opens
-use Rattle.editor_files.specs.declared.script.Why.{Why}
-use Rattle.editor_files.specs.declared.script.Why.TheVariants.{NoForm, Refused}
-use Rattle.editor_files.specs.declared.script.Stopped.{Stopped}
-use Rattle.editor_files.specs.Drawing.{DrawingState, IsWritten}
-use Rattle.editor_files.specs.Opening.{IsOpenFault}
-use Rattle.editor_files.specs.Played.{IsPlayed}
+use Rattle.drawing.specs.declared.fault.OpenFault.{OpenFault}
+use Rattle.drawing.specs.declared.fault.OpenFault.TheVariants as opens
+use Rattle.drawing.specs.declared.script.Why.{Why}
+use Rattle.drawing.specs.declared.script.Why.TheVariants.{NoForm, Refused}
+use Rattle.drawing.specs.declared.script.Stopped.{Stopped}
+use Rattle.drawing.specs.Drawing.{DrawingState, IsWritten}
+use Rattle.drawing.specs.Opening.{IsOpenFault}
+use Rattle.drawing.specs.Played.{IsPlayed}
 use Rattle.reroute_c.specs.declared.fault.Fault.{Fault}
 use Rattle.reroute_c.specs.Codes.{call_fault, memory_fault, no_fault, numbered, syntax_fault}
 

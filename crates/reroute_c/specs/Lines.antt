@@ -1,14 +1,13 @@
 -- The lines as C reads them.
-use Rattle.std.specs.Prelude.{◌≡◌, ℕ, Bool, true, false, not, length, Option, None, Some, slice_get}
-use Rattle.std.specs.List.{list_any}
+use Rattle.std.specs.Prelude.{◌≡◌, ℕ, Bool, true, false, length, Option, None, Some, slice_get, unwrap_or}
 use Rattle.plane_geom.specs.declared.point.Point.{Point}
 use Rattle.walk_model.specs.declared.route.Answer.{Answer}
 use Rattle.walk_model.specs.declared.route.Route.{Route}
 use Rattle.walk_model.specs.declared.route.WrittenRoute.{WrittenRoute}
-use Rattle.editor_files.specs.Drawing.{DrawingState}
+use Rattle.drawing.specs.Drawing.{DrawingState}
 use Rattle.scene_model.specs.declared.fault.SessionFault.{SessionFault}
 use Rattle.session_laws.specs.State.{State}
-use Rattle.editor_session.specs.Lines.{IsUnproposed, is_same_line}
+use Rattle.drawing.specs.Lines.{IsUnproposed}
 use Rattle.reroute_c.specs.declared.fault.Fault.{Fault}
 use Rattle.reroute_c.specs.Codes.{call_fault}
 use Rattle.reroute_c.specs.declared.lines.Corner.{Corner}
@@ -22,22 +21,22 @@ IsUnpreviewed s fault = (why : SessionFault) × IsUnproposed s why × (fault ≡
 abbrev pub no_line : Line
 no_line = record { connector = 0; corners = 0; changed = false }
 
--- a line, and whether it is none of these
-abbrev pub reported_line : DrawingState → WrittenRoute → Line
-reported_line d l = record {
+-- the line that was found, if one was, and whether it changed
+abbrev pub found_line : Option WrittenRoute → Bool → Line
+found_line None changed = no_line
+found_line (Some l) changed = record {
   connector = l.edge;
   corners = length l.points;
-  changed = not (list_any (λ m. is_same_line m l) d.lines_before);
+  changed = changed;
 }
-
--- the line that was found, if one was
-abbrev pub found_line : DrawingState → Option WrittenRoute → Line
-found_line d None = no_line
-found_line d (Some l) = reported_line d l
 
 -- the line at a place, from 0, of those that were asked for last
 abbrev pub line_at : DrawingState → ℕ → Line
-line_at d place = found_line d (slice_get d.lines place)
+line_at d place = found_line (slice_get d.asked.lines place) (unwrap_or (slice_get d.asked.changed place) false)
+
+-- the number of the gone connector at a place, from 0; 0 if there is none
+abbrev pub gone_at : DrawingState → ℕ → ℕ
+gone_at d place = unwrap_or (slice_get d.asked.gone place) 0
 
 -- the corner at a place of a line, from 0
 abbrev pub corner_of : Option WrittenRoute → ℕ → Option Point
@@ -45,7 +44,7 @@ corner_of None at = None
 corner_of (Some l) at = slice_get l.points at
 
 abbrev pub corner_at : DrawingState → ℕ → ℕ → Option Point
-corner_at d place at = corner_of (slice_get d.lines place) at
+corner_at d place at = corner_of (slice_get d.asked.lines place) at
 
 -- the corner is written if there is one; otherwise nothing is
 abbrev pub IsWritten : Option Point → Bool → Corner → Corner → Type 0

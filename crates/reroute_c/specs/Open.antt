@@ -2,8 +2,8 @@
 use Rattle.std.specs.Prelude.{◌≡◌, Option, IfSome, IsNone}
 use Rattle.gml_text.specs.View.{tree}
 use Rattle.scene_model.specs.Scene.{empty_scene}
-use Rattle.editor_files.specs.Drawing.{DrawingState, IsOpened}
-use Rattle.editor_files.specs.Opening.{empty_diagram}
+use Rattle.drawing.specs.Drawing.{DrawingState, IsOpened}
+use Rattle.drawing.specs.Opening.{empty_diagram}
 use Rattle.reroute_c.specs.declared.fault.Fault.{Fault}
 use Rattle.reroute_c.specs.Codes.{closed_fault}
 

@@ -5,8 +5,8 @@ use base.Fml.{Fml}
 use denote.RattleType.{RattleType}
 use denote.RawPtr.{Ptr, lies_at, room_at}
 use Rattle.std.specs.contracts.option.Option as option
-use Rattle.editor_files.specs.contracts.drawing.Drawing as drawing
-use Rattle.editor_files.specs.Drawing.{DrawingState}
+use Rattle.drawing.specs.contracts.drawing.Drawing as drawing
+use Rattle.drawing.specs.Drawing.{DrawingState}
 
 -- a drawing or none, as a type of the logic
 abbrev pub Held : RattleType

@@ -1,13 +1,13 @@
 //! The calls of a session: open, close, transactions, undo and redo.
 ghost use Rattle.std.specs.Prelude.{◌≡◌, ◌≢◌, ◌⊎◌, IfSome, IsNone, IsSome, None};
-ghost use Rattle.reroute_c.specs.Codes.{IsAnswered, already_open_fault, memory_fault, no_fault};
+ghost use Rattle.reroute_c.specs.Codes.{IsAnswered, already_open_fault, memory_fault, no_fault, no_transaction_fault};
 ghost use Rattle.reroute_c.specs.Open.{IfOpen, IsOpenedEmpty, IsRefusedClosed};
 ghost use Rattle.scene_model.specs.World.{IsDirectedCommand};
 ghost use Rattle.scene_model.specs.declared.edit.Command.TheVariants as commands;
 
 use crate::fault::Fault;
 use crate::handle::Handle;
-use editor_files::Drawing;
+use drawing::Drawing;
 use scene_model::{Command, SessionFault};
 use std::alloc::{AllocError, Global};
 
@@ -75,7 +75,7 @@ pub(crate) fn call(handle: &mut Handle, command: &Command) -> Fault
     let Some(mut drawing) = handle.take() else {
         return Fault::closed();
     };
-    let answer = drawing.call(command);
+    let answer = drawing.run(command);
     handle.put(drawing);
     Fault::of(answer)
 }
@@ -100,9 +100,10 @@ pub extern "C" fn reroute_commit(handle: &mut Handle) -> Fault
     call(handle, &Command::Commit)
 }
 
-/// Drops the transaction. Takes no memory.
+/// Drops the transaction. Takes no memory: the fault is 2 exactly if none is open, otherwise only 98.
 #[unsafe(no_mangle)]
 pub extern "C" fn reroute_abort(handle: &mut Handle) -> Fault
+    ensures faults { IsSome handle.old.drawing → (result ≡ no_fault) ⊎ (result ≡ no_transaction_fault) }
     ensures closed { IsNone handle.old.drawing → IsRefusedClosed result handle.new.drawing }
     ensures open { IsSome handle.old.drawing → IsSome handle.new.drawing }
     ensures call { IfOpen handle.old.drawing handle.new.drawing (IsAnswered commands.Abort result) }

@@ -3,7 +3,7 @@ ghost use Rattle.std.specs.Prelude.{◌≡◌, IfSome, IsNone, length};
 ghost use Rattle.scene_model.specs.Scene.{connectors};
 
 use crate::handle::Handle;
-use editor_files::Drawing;
+use drawing::Drawing;
 
 /// The number of boxes of the present scene; 0 if no session is open.
 #[unsafe(no_mangle)]
@@ -15,7 +15,7 @@ pub extern "C" fn reroute_box_count(handle: &mut Handle) -> usize
     let Some(drawing) = handle.take() else {
         return 0;
     };
-    let count = drawing.editor().session.scene().nodes().len();
+    let count = drawing.session().scene().nodes().len();
     handle.put(drawing);
     count
 }
@@ -25,7 +25,7 @@ pub extern "C" fn reroute_box_count(handle: &mut Handle) -> usize
 fn connector_count(drawing: &Drawing) -> usize
     ensures { result ≡ length (connectors drawing.now.session.world.present) }
 {
-    drawing.editor().session.book().answers().len()
+    drawing.session().book().answers().len()
 }
 
 /// The number of connectors of the present scene; 0 if no session is open.

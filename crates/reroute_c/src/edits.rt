@@ -3,7 +3,8 @@
 //! Each is refused as the working scene refuses it; then no transaction is open any more.
 ghost use Rattle.std.specs.Prelude.{◌≡◌, ◌≢◌, IfSome, IsNone, IsSome, false, true};
 ghost use Rattle.reroute_c.specs.Codes.{IsAnswered};
-ghost use Rattle.reroute_c.specs.Edits.{IsRolledBack, dirs_of, has_direction, next_edge};
+ghost use Rattle.drawing.specs.Drawing.{next_edge};
+ghost use Rattle.reroute_c.specs.Edits.{IsRolledBack, dirs_of, has_direction};
 ghost use Rattle.reroute_c.specs.Open.{IfOpen, IsRefusedClosed};
 ghost use Rattle.scene_model.specs.Edits.{IsDirected};
 ghost use Rattle.scene_model.specs.declared.edit.Command.TheVariants as commands;
@@ -13,7 +14,6 @@ ghost use Rattle.scene_model.specs.declared.settings.Setting.TheVariants as sett
 use crate::calls::call;
 use crate::fault::Fault;
 use crate::handle::Handle;
-use editor_files::Drawing;
 use scene_model::{Command, Dirs, Edit, Setting};
 
 /// The directions in which lines may leave a pin.
@@ -185,18 +185,7 @@ pub extern "C" fn reroute_connect(
     fault
 }
 
-/// The number that the next connector gets.
-fn next_edge(drawing: &Drawing) -> u32
-    ensures { result ≡ next_edge drawing.now.session.world }
-{
-    let session = &drawing.editor().session;
-    match session.working() {
-        Some(scene) => scene.next_edge(),
-        None => session.scene().next_edge(),
-    }
-}
-
-/// The number that the next connector gets; 0 if no session is open.
+/// The number that the next connector gets, in the open transaction if one is open; 0 if no session is open.
 #[unsafe(no_mangle)]
 pub extern "C" fn reroute_next(handle: &mut Handle) -> u32
     ensures closed { IsNone handle.old.drawing → result ≡ 0 }
@@ -206,7 +195,7 @@ pub extern "C" fn reroute_next(handle: &mut Handle) -> u32
     let Some(drawing) = handle.take() else {
         return 0;
     };
-    let next = next_edge(&drawing);
+    let next = drawing.next_number();
     handle.put(drawing);
     next
 }

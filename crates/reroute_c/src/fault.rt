@@ -4,7 +4,7 @@ ghost use Rattle.reroute_c.specs.Files.{diagram_fault, offset_fault, open_fault,
 ghost use Rattle.reroute_c.specs.Codes.{call_fault, closed_fault, edit_fault, fault_of, memory_fault, no_fault, numbered, syntax_fault};
 
 use diagram_read::{DiagramFault, Part};
-use editor_files::{OpenFault, Why};
+use drawing::{OpenFault, Why};
 use gml_text::GmlFault;
 use scene_model::{SceneFault, SessionFault};
 

@@ -1,14 +1,14 @@
 //! Diagrams in GML, opened and written, and scripts.
 ghost use Rattle.std.specs.Prelude.{◌≡◌, ◌≢◌, IfSome, IsNone, IsSome, IsSomeAnd};
 ghost use Rattle.edit_script.specs.Script.{commands};
-ghost use Rattle.editor_files.specs.Opening.{Opens};
+ghost use Rattle.drawing.specs.Opening.{Opens};
 ghost use Rattle.reroute_c.specs.Codes.{already_open_fault, closed_fault, memory_fault};
 ghost use Rattle.reroute_c.specs.Files.{IsUnopened, IsWrittenTo, ReportsScript, overlaid};
 ghost use Rattle.reroute_c.specs.Open.{IfOpen, IsRefusedClosed};
 
 use crate::fault::{Fault, of_open, of_why};
 use crate::handle::Handle;
-use editor_files::Drawing;
+use drawing::Drawing;
 use scene_model::SessionFault;
 use std::alloc::{AllocError, Global};
 

@@ -1,13 +1,14 @@
 //! The handle: the place of a session in its caller's room.
 ghost use Rattle.std.specs.Prelude.{◌≡◌, None, Option, Some};
 ghost use Rattle.std.specs.Borrow.{sem};
-ghost use Rattle.editor_files.specs.Drawing.{DrawingState};
+ghost use Rattle.std.specs.Mem.{type_size};
+ghost use Rattle.drawing.specs.Drawing.{DrawingState};
 ghost use Rattle.reroute_c.specs.Owned.{Held, owned, room};
 
-use editor_files::Drawing;
+use drawing::Drawing;
 use std::marker::Model;
 
-/// A session's handle in C: the place of a session, with the lines that were asked for, or of none.
+/// A session's handle in C: the place of a drawing, or of none.
 #[repr(C)]
 pub struct Handle {
     held: *mut u8,
@@ -60,6 +61,8 @@ pub unsafe extern "C" fn reroute_ready(at: *mut u8)
 
 /// The number of bytes of a room.
 #[unsafe(no_mangle)]
-pub extern "C" fn reroute_size() -> usize {
+pub extern "C" fn reroute_size() -> usize
+    ensures { result ≡ type_size Held }
+{
     std::mem::size_of::<Option<Drawing>>()
 }

@@ -1,16 +1,15 @@
-//! The lines of the present scene: how many there are, their corners, their costs, and which changed.
+//! The lines: of the present scene or of a preview, their corners, their costs, which changed, and which are gone.
 ghost use Rattle.std.specs.Prelude.{◌≡◌, ◌≢◌, IfSome, IsNone, IsSome, false, length};
-ghost use Rattle.editor_files.specs.Drawing.{Keeps};
-ghost use Rattle.editor_session.specs.Lines.{AreDrawn, AreProposed};
+ghost use Rattle.drawing.specs.Drawing.{Previews, Reports};
 ghost use Rattle.reroute_c.specs.Codes.{memory_fault};
-ghost use Rattle.reroute_c.specs.Lines.{IsCost, IsUnpreviewed, IsWritten, corner_at, cost_of, line_at, no_line};
+ghost use Rattle.reroute_c.specs.Lines.{IsCost, IsUnpreviewed, IsWritten, corner_at, cost_of, gone_at, line_at, no_line};
 ghost use Rattle.reroute_c.specs.Open.{IfOpen, IsRefusedClosed};
 ghost use Rattle.scene_model.specs.Stale.{answer_of};
 
 use crate::fault::Fault;
 use crate::handle::Handle;
-use editor_files::Drawing;
-use std::alloc::Global;
+use drawing::Drawing;
+use std::alloc::{AllocError, Global};
 
 /// A corner of a line.
 #[repr(C)]
@@ -20,8 +19,8 @@ pub struct Corner {
     pub y: i64,
 }
 
-/// A line: the number of its connector, 0 if there is no line; how many corners it has; and whether it is none of the
-/// lines that were asked for before the last ones.
+/// A line: the number of its connector, 0 if there is no line; how many corners it has; and whether it differs from the
+/// line that was reported of the connector before, if one was.
 #[repr(C)]
 #[derive(Drop)]
 pub struct Line {
@@ -30,38 +29,38 @@ pub struct Line {
     pub changed: bool,
 }
 
-/// Nudges the lines of the present scene, and says how many there are.
+/// Nudges the lines of the present scene, and says how many there are. These are the lines that are reported from now on.
 ///
-/// They can be read until this is called again. After a fault, which is 99 or 98, all is as before.
+/// They can be read until lines are asked for again. After a fault, which is 99 or 98, all is as before.
 #[unsafe(no_mangle)]
-pub extern "C" fn reroute_lines(handle: &mut Handle, count: &mut usize) -> Fault
+pub extern "C" fn reroute_lines(alloc: Global, handle: &mut Handle, count: &mut usize) -> Fault
     ensures closed { IsNone handle.old.drawing → IsRefusedClosed result handle.new.drawing }
     ensures open { IsSome handle.old.drawing → IsSome handle.new.drawing }
     ensures session { IfOpen handle.old.drawing handle.new.drawing (λ s n. n.session ≡ s.session) }
     ensures document { IfOpen handle.old.drawing handle.new.drawing (λ s n. n.document ≡ s.document) }
-    ensures lines { result.code ≡ 0 → IfSome handle.new.drawing (λ n. AreDrawn n.session n.lines) }
-    ensures lines_before { result.code ≡ 0 → IfOpen handle.old.drawing handle.new.drawing (λ s n. n.lines_before ≡ s.lines) }
-    ensures count { result.code ≡ 0 → IfSome handle.new.drawing (λ n. count.new ≡ length n.lines) }
-    ensures refused { result.code ≢ 0 → IfOpen handle.old.drawing handle.new.drawing Keeps }
+    ensures reports { result.code ≡ 0 → IfOpen handle.old.drawing handle.new.drawing Reports }
+    ensures count { result.code ≡ 0 → IfSome handle.new.drawing (λ n. count.new ≡ length n.asked.lines) }
+    ensures refused { result.code ≢ 0 → handle.new.drawing ≡ handle.old.drawing }
     ensures kept { result.code ≢ 0 → count.new ≡ count.old }
     ensures memory { IsSome handle.old.drawing → result.code ≢ 0 → result ≡ memory_fault }
 {
     let Some(mut drawing) = handle.take() else {
         return Fault::closed();
     };
-    let answer = drawing.update_lines();
-    let there = drawing.editor().lines.len();
+    let answer = drawing.report_lines(alloc);
+    let there = drawing.lines().len();
     handle.put(drawing);
     match answer {
         Ok(()) => {
             *count = there;
             Fault::none()
         }
-        Err(_) => Fault::memory(),
+        Err(AllocError) => Fault::memory(),
     }
 }
 
-/// Nudges the lines that a commit of the open transaction would give, and says how many there are.
+/// Nudges the lines that a commit of the open transaction would give, and says how many there are. They are compared with
+/// the lines that were reported last, which stay.
 ///
 /// They can be read as those of `reroute_lines`, and the transaction stays open. The fault is 2 exactly if none is open;
 /// after a fault all is as before.
@@ -71,40 +70,46 @@ pub extern "C" fn reroute_preview(alloc: Global, handle: &mut Handle, count: &mu
     ensures open { IsSome handle.old.drawing → IsSome handle.new.drawing }
     ensures session { IfOpen handle.old.drawing handle.new.drawing (λ s n. n.session ≡ s.session) }
     ensures document { IfOpen handle.old.drawing handle.new.drawing (λ s n. n.document ≡ s.document) }
-    ensures lines { result.code ≡ 0 → IfSome handle.new.drawing (λ n. AreProposed n.session n.lines) }
-    ensures lines_before { result.code ≡ 0 → IfOpen handle.old.drawing handle.new.drawing (λ s n. n.lines_before ≡ s.lines) }
-    ensures count { result.code ≡ 0 → IfSome handle.new.drawing (λ n. count.new ≡ length n.lines) }
+    ensures previews { result.code ≡ 0 → IfOpen handle.old.drawing handle.new.drawing Previews }
+    ensures count { result.code ≡ 0 → IfSome handle.new.drawing (λ n. count.new ≡ length n.asked.lines) }
     ensures fault { result.code ≢ 0 → IfSome handle.old.drawing (λ s. IsUnpreviewed s.session result) }
-    ensures refused { result.code ≢ 0 → IfOpen handle.old.drawing handle.new.drawing Keeps }
+    ensures refused { result.code ≢ 0 → handle.new.drawing ≡ handle.old.drawing }
     ensures kept { result.code ≢ 0 → count.new ≡ count.old }
 {
     let Some(mut drawing) = handle.take() else {
         return Fault::closed();
     };
-    let answer = drawing.update_proposed(alloc);
+    let answer = drawing.preview_lines(alloc);
     if answer.is_ok() {
-        *count = drawing.editor().lines.len();
+        *count = drawing.lines().len();
     }
     handle.put(drawing);
     Fault::of(answer)
+}
+
+/// No line.
+fn no_line() -> Line
+    ensures { result ≡ no_line }
+{
+    Line {
+        connector: 0,
+        corners: 0,
+        changed: false,
+    }
 }
 
 /// The line at the place, from 0, of those that were asked for last.
 fn line_of(drawing: &Drawing, place: usize) -> Line
     ensures { result ≡ line_at drawing.now place }
 {
-    let editor = drawing.editor();
-    match editor.line(place) {
+    let changed = drawing.changed().get(place).copied().unwrap_or(false);
+    match drawing.lines().get(place) {
         Some(line) => Line {
             connector: line.edge,
             corners: line.points.as_slice().len(),
-            changed: editor.is_changed(line),
+            changed,
         },
-        None => Line {
-            connector: 0,
-            corners: 0,
-            changed: false,
-        },
+        None => no_line(),
     }
 }
 
@@ -116,22 +121,49 @@ pub extern "C" fn reroute_line(handle: &mut Handle, place: usize) -> Line
     ensures kept { handle.new.drawing ≡ handle.old.drawing }
 {
     let Some(drawing) = handle.take() else {
-        return Line {
-            connector: 0,
-            corners: 0,
-            changed: false,
-        };
+        return no_line();
     };
     let line = line_of(&drawing, place);
     handle.put(drawing);
     line
 }
 
+/// How many connectors have no line among those that were asked for last, of those of which a line was reported before; 0
+/// if no session is open.
+#[unsafe(no_mangle)]
+pub extern "C" fn reroute_gone_count(handle: &mut Handle) -> usize
+    ensures closed { IsNone handle.old.drawing → result ≡ 0 }
+    ensures count { IfSome handle.old.drawing (λ s. result ≡ length s.asked.gone) }
+    ensures kept { handle.new.drawing ≡ handle.old.drawing }
+{
+    let Some(drawing) = handle.take() else {
+        return 0;
+    };
+    let count = drawing.gone().len();
+    handle.put(drawing);
+    count
+}
+
+/// The number of such a connector, at a place from 0; 0 if there is none, or no session is open.
+#[unsafe(no_mangle)]
+pub extern "C" fn reroute_gone(handle: &mut Handle, place: usize) -> u32
+    ensures closed { IsNone handle.old.drawing → result ≡ 0 }
+    ensures gone { IfSome handle.old.drawing (λ s. result ≡ gone_at s place) }
+    ensures kept { handle.new.drawing ≡ handle.old.drawing }
+{
+    let Some(drawing) = handle.take() else {
+        return 0;
+    };
+    let number = drawing.gone().get(place).copied().unwrap_or(0);
+    handle.put(drawing);
+    number
+}
+
 /// Writes a corner of a line, if there is one.
 fn write_corner(drawing: &Drawing, place: usize, at: usize, corner: &mut Corner) -> bool
     ensures { IsWritten (corner_at drawing.now place at) result corner.old corner.new }
 {
-    let Some(line) = drawing.editor().line(place) else {
+    let Some(line) = drawing.lines().get(place) else {
         return false;
     };
     let Some(point) = line.points.as_slice().get(at) else {
@@ -167,7 +199,7 @@ pub extern "C" fn reroute_corner(
 fn write_cost(drawing: &Drawing, connector: u32, cost: &mut u64) -> bool
     ensures { IsCost (cost_of (answer_of drawing.now.session.book connector)) result cost.old cost.new }
 {
-    let Some(answer) = drawing.editor().session.book().answer(connector) else {
+    let Some(answer) = drawing.session().book().answer(connector) else {
         return false;
     };
     let Some(route) = &answer.route else {
@@ -203,7 +235,7 @@ pub extern "C" fn reroute_searched(handle: &mut Handle) -> u64
     let Some(drawing) = handle.take() else {
         return 0;
     };
-    let searched = drawing.editor().session.searched();
+    let searched = drawing.session().searched();
     handle.put(drawing);
     searched
 }

@@ -21,7 +21,7 @@ use denote.Triple.Walked.{Stays, walk_of, stay_dropped, Goes-dropped, ends_at}
 use borrow.Table.OneValue.{part_in}
 use Rattle.std.proofs.option.Made.{none_of}
 use Rattle.std.proofs.raw_atomic.Walks.{proved}
-use Rattle.editor_files.specs.contracts.drawing.Drawing as drawing
+use Rattle.drawing.specs.contracts.drawing.Drawing as drawing
 use Rattle.reroute_c.specs.Owned.{Held, room}
 use Rattle.reroute_c.specs.contracts.handle.reroute_ready as f
 use Rattle.reroute_c.proofs.handle.reroute_ready.Statement.{statement}

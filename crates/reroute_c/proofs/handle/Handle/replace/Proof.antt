@@ -32,8 +32,8 @@ use Rattle.std.proofs.mem.Facts.{says_two}
 use Rattle.std.proofs.alloc.Calls.{Goes-blank}
 use Rattle.std.proofs.raw_atomic.Walks.{proved_at}
 use Rattle.std.proofs.option.Option.TheLaws as option_laws
-use Rattle.editor_files.specs.contracts.drawing.Drawing as drawing
-use Rattle.editor_files.proofs.drawing.Drawing.TheLaws as drawing_laws
+use Rattle.drawing.specs.contracts.drawing.Drawing as drawing
+use Rattle.drawing.proofs.drawing.Drawing.TheLaws as drawing_laws
 use Rattle.reroute_c.specs.Owned.{Held}
 use Rattle.reroute_c.specs.contracts.handle.Handle.replace as f
 use Rattle.reroute_c.proofs.handle.Handle.replace.Statement.{statement}

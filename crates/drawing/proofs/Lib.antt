@@ -1,0 +1,6 @@
+-- The lemmas of drawings.
+mod InOrder
+mod Passing
+mod Places
+mod Playing
+mod Sources

@@ -1,0 +1,9 @@
+-- What is called keeps the scenes of the document.
+use Rattle.gml_text.specs.View.{tree}
+use Rattle.drawing.proofs.Sources.{source_called}
+use Rattle.drawing.proofs.drawing.Drawing.run.Goals as goal
+
+pub invariant_of-self : goal.invariant_of-self
+invariant_of-self c =
+    source_called (tree c.self.inside.doc) c.args.command.now c.made-answer.result c.self.inside.session c.made-answer.new.session c.requires.directed
+    (record { ok = c.made-answer.ensures.ok; fault = c.made-answer.ensures.fault; err = c.made-answer.ensures.err; right = c.right.ensures }) c.self.invariant

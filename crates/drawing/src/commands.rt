@@ -1,0 +1,53 @@
+//! A command as a call of a drawing's session: the one place that tells commands apart.
+ghost use Rattle.std.specs.Prelude.{◌≡◌, ◌≢◌, IfErr, Ok, OnErr, OnOk};
+ghost use Rattle.drawing.specs.Drawing.{IsDrawingCall, IsRefusable, RollsBack, Searches};
+ghost use Rattle.scene_model.specs.World.{IsDirectedCommand, rolled_back, step};
+ghost use Rattle.scene_model.specs.declared.edit.Command.TheVariants as commands;
+ghost use Rattle.session_laws.specs.Calls.{IsFaultOf};
+
+use crate::drawing::Drawing;
+use route_session::Session;
+use scene_model::{Command, SessionFault};
+
+/// Makes the call of a command, and none for a line that is not a valid command.
+fn made(session: &mut Session, command: &Command) -> Result<(), SessionFault>
+    requires directed { IsDirectedCommand command.now }
+    requires form { command.now ≢ commands.Bad }
+    ensures ok { OnOk result (step command.now session.old.world ≡ Ok session.new.world) }
+    ensures fault { IfErr result (IsFaultOf command.now session.old.world) }
+    ensures err { OnErr result (session.new.world ≡ rolled_back session.old.world) }
+    ensures searches { Searches command.now result session.old session.new }
+    ensures refusable { IfErr result (IsRefusable command.now) }
+{
+    match command {
+        Command::Begin => session.begin(),
+        Command::Edit(edit) => session.edit(edit),
+        Command::Commit => session.commit_alone(),
+        Command::Abort => session.abort(),
+        Command::Undo => session.undo(),
+        Command::Redo => session.redo(),
+        Command::Bad => Ok(()),
+    }
+}
+
+impl Drawing {
+    /// Calls the session as a command says. A pin that it adds has a direction.
+    ///
+    /// The error is that of the session; then no transaction is open, and scenes, answers and history are as before it.
+    pub fn run(&mut self, command: &Command) -> Result<(), SessionFault>
+        requires directed { IsDirectedCommand command.now }
+        requires form { command.now ≢ commands.Bad }
+        ensures { IsDrawingCall command.now result self.old self.new }
+    {
+        let answer = made(&mut self.session, command);
+        self.session.right();
+        answer
+    }
+
+    /// Drops the transaction if one is open. Takes no memory.
+    pub fn roll_back(&mut self)
+        ensures { RollsBack self.old self.new }
+    {
+        self.session.give_up();
+    }
+}

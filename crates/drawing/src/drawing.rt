@@ -1,0 +1,150 @@
+//! A drawing: opened from the bytes of a diagram, and written back.
+ghost use Rattle.std.specs.Prelude.{◌≡◌, IfErr, IfOk, Ok, codes};
+ghost use Rattle.gml_text.specs.Printed.{IsPrintable};
+ghost use Rattle.gml_text.specs.View.{tree};
+ghost use Rattle.diagram_read.specs.Scene.{scene_of};
+ghost use Rattle.scene_model.specs.Scene.{empty_scene};
+ghost use Rattle.drawing.specs.Drawing.{IsOpened, IsWritten, edited_scene, next_edge};
+ghost use Rattle.drawing.specs.Opening.{IsOpenFault, Opens, empty_diagram};
+
+use crate::changes::Differences;
+use crate::fault::OpenFault;
+use crate::lines::Lines;
+use diagram_read::scene_of;
+use form_route::printed_diagram;
+use gml_text::{Bytes, Doc, Pair, Value, parse};
+use route_session::Session;
+use scene_store::Scene;
+use std::alloc::{AllocError, Global};
+use std::marker::Model;
+
+/// A session, with the document that its scenes come from, the lines that were reported last, and what was asked for last.
+#[derive(Drop)]
+pub struct Drawing {
+    pub(crate) doc: Doc,
+    pub(crate) session: Session,
+    pub(crate) reported: Lines,
+    /// The lines of a preview, if one was asked for last; otherwise those that were reported were.
+    pub(crate) proposed: Option<Lines>,
+    /// What the lines that were asked for last differ in from those that were reported before.
+    pub(crate) differences: Differences,
+}
+
+impl Model for Drawing {
+    ghost use Rattle.std.specs.Prelude.{unwrap_or};
+    ghost use Rattle.gml_text.specs.View.{tree};
+    ghost use Rattle.gml_text.specs.contracts.tree.Doc as document;
+    ghost use Rattle.std.specs.Coded.{codes};
+    ghost use Rattle.drawing.specs.Drawing.{DrawingState, IsSource};
+
+    ghost Value = { DrawingState };
+
+    ghost coded = { Prim.hlevel (codes, document.the_row.coded) };
+
+    ghost view = { λ d. record {
+      session = d.session;
+      document = d.doc;
+      reported = d.reported;
+      asked = record {
+        lines = unwrap_or d.proposed d.reported;
+        changed = d.differences.changed.items;
+        gone = d.differences.gone.items;
+      };
+    } };
+
+    ghost invariant = { λ d. IsSource (tree d.doc) d.session.world };
+}
+
+/// The document `graph [ ]`. The only error is out of memory.
+fn empty_document(alloc: Global) -> Result<Doc, AllocError>
+    ensures { IfOk result (λ doc. tree doc ≡ empty_diagram) }
+{
+    let mut key = Vec::new(alloc);
+    key.extend_from_slice(b"graph")?;
+    let mut pairs = Vec::new(alloc);
+    pairs.push(Pair {
+        key: Bytes(key),
+        value: Value::List(Vec::new(alloc)),
+    })?;
+    Ok(Doc { pairs })
+}
+
+impl Drawing {
+    /// A session on the scene of a document. The only error is out of memory.
+    fn on(alloc: Global, doc: Doc, scene: Scene) -> Result<Drawing, AllocError>
+        requires source { scene_of (tree doc) ≡ Ok scene }
+        requires printable { IsPrintable (tree doc) }
+        ensures opened { IfOk result (IsOpened scene) }
+        ensures document { IfOk result (λ d. d.document ≡ doc) }
+    {
+        scene.valid();
+        let session = Session::open_alone(alloc, scene)?;
+        Ok(Drawing {
+            doc,
+            session,
+            reported: Lines::none(alloc),
+            proposed: None,
+            differences: Differences::none(alloc),
+        })
+    }
+
+    /// A session on the empty scene, of a document without a node. It is searched by this thread alone, as in all calls.
+    ///
+    /// The only error is out of memory.
+    pub fn new(alloc: Global) -> Result<Drawing, AllocError>
+        ensures opened { IfOk result (IsOpened empty_scene) }
+        ensures document { IfOk result (λ d. tree d.document ≡ empty_diagram) }
+    {
+        Drawing::on(alloc, empty_document(alloc)?, Scene::new(alloc))
+    }
+
+    /// A session on the scene of a diagram in GML.
+    pub fn open(alloc: Global, text: &[u8]) -> Result<Drawing, OpenFault>
+        ensures ok { IfOk result (Opens text.now) }
+        ensures err { IfErr result (IsOpenFault text.now) }
+    {
+        let doc = match parse(alloc, text) {
+            Ok(doc) => doc,
+            Err(fault) => return Err(OpenFault::Text(fault)),
+        };
+        let scene = match scene_of(alloc, &doc) {
+            Ok(scene) => scene,
+            Err(fault) => return Err(OpenFault::Diagram(fault)),
+        };
+        match Drawing::on(alloc, doc, scene) {
+            Ok(drawing) => Ok(drawing),
+            Err(AllocError) => Err(OpenFault::Memory),
+        }
+    }
+
+    /// The session.
+    pub fn session(&self) -> &Session
+        ensures { result.now ≡ self.now.session }
+    {
+        &self.session
+    }
+
+    /// The scene that the next edit changes: that of the open transaction, or the present one.
+    pub fn scene(&self) -> &Scene
+        ensures { result.now ≡ edited_scene self.now.session.world.working self.now.session.world.present }
+    {
+        match self.session.working() {
+            Some(working) => working,
+            None => self.session.scene(),
+        }
+    }
+
+    /// The number that the next connector gets: in the open transaction, if one is open.
+    pub fn next_number(&self) -> u32
+        ensures { result ≡ next_edge self.now.session.world }
+    {
+        self.scene().next_edge()
+    }
+
+    /// The bytes of the document, with the present scene and its lines put in. The only error is out of memory.
+    pub fn text(&self, alloc: Global) -> Result<Vec<u8>, AllocError>
+        ensures { IfOk result (λ text. IsWritten self.now text.items) }
+    {
+        printed_diagram(alloc, &self.doc, &self.session)
+    }
+}

@@ -1,0 +1,16 @@
+//! What each front holds: a session, the document that its scenes come from, and the lines that were reported.
+//!
+//! Coordinates are whole thousandths of a GML unit. No call starts a thread.
+#![tactic(auto)]
+
+mod asking;
+mod changes;
+mod commands;
+mod drawing;
+mod fault;
+mod lines;
+mod script;
+
+pub use drawing::Drawing;
+pub use fault::OpenFault;
+pub use script::{Stopped, Why};

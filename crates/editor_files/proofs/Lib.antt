@@ -1,3 +1,0 @@
--- The lemmas of drawings.
-mod Playing
-mod Sources

@@ -1,8 +1,0 @@
--- The scene that is opened comes from its document.
-use Rattle.gml_text.specs.View.{tree}
-use Rattle.editor_files.proofs.Sources.{source_opened}
-use Rattle.editor_files.proofs.drawing.Drawing.on.Goals as goal
-
-pub invariant_of-result : goal.invariant_of-result
-invariant_of-result c =
-    source_opened (tree c.args.doc) c.args.scene c.in_ok-editor.editor.session.world c.in_ok-editor.ensures.world c.requires.source c.requires.printable c.valid.ensures

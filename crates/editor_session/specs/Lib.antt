@@ -1,2 +1,0 @@
--- The definitions of the lines of an editor.
-pub mod Lines
