@@ -25,7 +25,7 @@ const NO_MEMORY: u8 = 6;
 /// The status of a fault that ends a session.
 fn status_of(fault: ServeFault) -> u8 {
     match fault {
-        ServeFault::Read => READ_FAULT,
+        ServeFault::Read | ServeFault::Exhausted => READ_FAULT,
         ServeFault::Write => WRITE_FAULT,
         ServeFault::Memory => NO_MEMORY,
     }
@@ -45,7 +45,7 @@ fn serve_standard<R: Threads + Sync>(
     let Ok(reader) = BufReader::new(alloc, edge.reader()) else {
         return NO_MEMORY;
     };
-    let mut lines = ReaderLines { reader };
+    let mut lines = ReaderLines::new(reader);
     let mut out = StdSink::new(edge);
     match serve(rt, alloc, live, &mut lines, &mut out, workers, &OpenGate) {
         Ok(_) => 0,
