@@ -6,6 +6,8 @@ mod faults;
 #[cfg(test)]
 mod gates;
 #[cfg(test)]
+mod hints;
+#[cfg(test)]
 mod rows;
 #[cfg(test)]
 mod runs;
