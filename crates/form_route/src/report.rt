@@ -1,6 +1,6 @@
 //! The report of a replay.
 ghost use Rattle.std.specs.Prelude.{◌≡◌, IfOk, not};
-ghost use Rattle.std.specs.List.{list_any};
+ghost use Rattle.std.specs.List.{count_by, list_any};
 ghost use Rattle.form_route.specs.Report.{edges_routed, has_refusal, is_no_route, is_refused, report, routed_by, unrouted_in};
 ghost use Rattle.scene_model.specs.Scene.{is_loop};
 
@@ -69,15 +69,28 @@ fn is_connector(edge: &Edge) -> bool
     edge.from != edge.to
 }
 
+/// How many of the edges have no route by the answers of the book.
+fn unrouted_count(book: &Book, edges: &[Edge]) -> usize
+    ensures { result ≡ count_by (λ e. is_no_route (routed_by book.now e)) edges.now }
+{
+    edges.iter().filter(|edge| is_unrouted(book, edge)).count()
+}
+
+/// How many of the edges are connectors.
+fn connector_count(edges: &[Edge]) -> usize
+    ensures { result ≡ count_by (λ e. not (is_loop e)) edges.now }
+{
+    edges.iter().filter(|edge| is_connector(edge)).count()
+}
+
 /// How many connectors of the session's present scene have no route.
 pub(crate) fn unrouted_of(session: &Session) -> Unrouted
     ensures { result ≡ unrouted_in session.now.world.present session.now.book }
 {
     let edges = session.scene().edges();
-    let book = session.book();
     Unrouted {
-        without: edges.iter().filter(|edge| is_unrouted(book, edge)).count(),
-        all: edges.iter().filter(|edge| is_connector(edge)).count(),
+        without: unrouted_count(session.book(), edges),
+        all: connector_count(edges),
     }
 }
 

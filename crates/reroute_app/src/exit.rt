@@ -1,15 +1,17 @@
 //! The end of the program: its exit code, and what people are told.
 ghost use Rattle.std.specs.Prelude.{◌≡◌, IfOk, OnErr, map, string_bytes};
 ghost use Rattle.std.specs.Process.{exit_status};
-ghost use Rattle.reroute_app.specs.Exit.{ExitsWith, told};
-ghost use Rattle.reroute_app.specs.Run.{ReadsInOrder};
-ghost use Rattle.reroute_app.specs.Status.{code_of};
+ghost use Rattle.reroute_app.specs.Exit.{WritesAndTells, told};
+ghost use Rattle.reroute_app.specs.Run.{ReadsInOrder, WritesPart};
+ghost use Rattle.reroute_app.specs.Status.{IsOutputWritten, code_of};
 ghost use Rattle.reroute_app.specs.declared.hint.Hint.TheVariants as hints;
 
 use crate::form::outcome_of;
 use crate::hint::{Hint, words_hint};
 use crate::outcome::Outcome;
 use crate::status::Status;
+use form_certificate::certificates_come_to_one;
+use form_preview::proposals_come_to_one;
 use host_edge::{Folder, Sink, WriteFailed, write_all_to};
 use par_route::OpenGate;
 use std::alloc::{AllocError, Global};
@@ -59,10 +61,17 @@ fn ended<R: Threads + Sync, F: Folder, O: Sink>(
     folder: &mut F,
     out: &mut O,
 ) -> Exit
-    ensures ends { ExitsWith (map string_bytes words.now) (F.files folder.old) (F.notes folder.old) (F.notes folder.new)
-        (O.held out.old) (O.held out.new) result.status result.hint }
+    ensures whole { IsOutputWritten result.status → WritesAndTells (map string_bytes words.now) (F.files folder.old)
+        (F.notes folder.old) (F.notes folder.new) (O.held out.old) (O.held out.new) result.status result.hint }
+    ensures part { result.status ≡ Status.WriteFault → WritesPart (map string_bytes words.now) (F.files folder.old)
+        (F.notes folder.old) (F.notes folder.new) (O.held out.old) (O.held out.new) }
+    ensures nothing { result.status ≡ Status.NoMemory → O.held out.new ≡ O.held out.old }
+    ensures silent { (IsOutputWritten result.status → ⊥) → result.hint ≡ hints.Nothing }
     ensures notes { ReadsInOrder (map string_bytes words.now) (F.files folder.old) (F.notes folder.old) (F.notes folder.new) }
 {
+    // For the proof: proposals and audits have one answer.
+    proposals_come_to_one();
+    certificates_come_to_one();
     let Ok(outcome) = outcome_of(rt, alloc, words, folder, &OpenGate) else {
         return Exit {
             status: Status::NoMemory,
@@ -98,15 +107,19 @@ pub fn exit_of<R: Threads + Sync, F: Folder, O: Sink>(
     folder: &mut F,
     out: &mut O,
 ) -> Exit
-    ensures ends { IfOk arguments.now (λ a. ExitsWith (map string_bytes a.items) (F.files folder.old) (F.notes folder.old)
-        (F.notes folder.new) (O.held out.old) (O.held out.new) result.status result.hint) }
+    // The bytes that the sink got are the output, and people are told its hint, unless the sink failed or memory ran out.
+    ensures whole { IfOk arguments.now (λ a. IsOutputWritten result.status → WritesAndTells (map string_bytes a.items)
+        (F.files folder.old) (F.notes folder.old) (F.notes folder.new) (O.held out.old) (O.held out.new) result.status result.hint) }
+    ensures part { IfOk arguments.now (λ a. result.status ≡ Status.WriteFault → WritesPart (map string_bytes a.items)
+        (F.files folder.old) (F.notes folder.old) (F.notes folder.new) (O.held out.old) (O.held out.new)) }
+    ensures nothing { result.status ≡ Status.NoMemory → O.held out.new ≡ O.held out.old }
+    ensures silent { (IsOutputWritten result.status → ⊥) → result.hint ≡ hints.Nothing }
     ensures notes { IfOk arguments.now (λ a. ReadsInOrder (map string_bytes a.items) (F.files folder.old)
         (F.notes folder.old) (F.notes folder.new)) }
 
-    // Without the arguments nothing is done.
-    ensures no_arguments { OnErr arguments.now (result ≡ record { status = Status.NoMemory; hint = hints.Nothing }) }
+    // Without the arguments nothing is read.
+    ensures no_arguments { OnErr arguments.now (result.status ≡ Status.NoMemory) }
     ensures no_reads { OnErr arguments.now (F.notes folder.new ≡ F.notes folder.old) }
-    ensures no_writes { OnErr arguments.now (O.held out.new ≡ O.held out.old) }
 {
     match arguments {
         Ok(words) => ended(rt, alloc, words, folder, out),
