@@ -1,5 +1,5 @@
 -- Turns that follow one another.
-use Rattle.std.proofs.Common.{◌≡◌, ◌≢◌, ℕ, ◌+◌, Bool, true, false, List, [], ◌∷◌, ◌++◌, length, Option, None, Some, Result, Ok, Err, inl, inr, refl, sym, subst, arith, length-append}
+use Rattle.std.proofs.Common.{◌≡◌, ℕ, ◌+◌, Bool, true, false, List, [], ◌∷◌, ◌++◌, length, Option, None, Some, Result, Ok, Err, inl, inr, refl, sym, subst, arith, length-append}
 use Rattle.live_replies.specs.declared.serving.End.{End}
 use Rattle.live_replies.specs.declared.serving.End.TheVariants.{Input, Quit}
 use Rattle.live_replies.specs.declared.serving.ServeFault.{ServeFault}
@@ -7,7 +7,7 @@ use Rattle.live_replies.specs.declared.serving.ServeFault.TheVariants.{Read, Wri
 use Rattle.std.specs.Prelude.{IfErr, IfOk, IfSome, OnErr, OnOk}
 use Rattle.std.specs.Io.KnownBytes.{append_known}
 use Rattle.host_edge.specs.declared.line_source.LineRead.{LineRead}
-use Rattle.host_edge.specs.Count.{NeverFalls, Rose}
+use Rattle.host_edge.specs.Count.{NeverFalls, Rose, last_count}
 use Rattle.host_edge.specs.Lines.{IsLineRead}
 use Rattle.host_edge.specs.Sink.{AppendsPart}
 use Rattle.live_replies.specs.Answers.{AnswersRead}
@@ -84,3 +84,12 @@ ended_by count r (Err Exhausted) a b c is h k = absurd (subst (λ q. EndsTurn q 
 pub rose_after : (a b c : ℕ) → NeverFalls a b → Rose b c → Rose a c
 rose_after a b c first (inl more) = inl (omega (arith, first.0, more))
 rose_after a b c first (inr last) = inr last
+
+-- after the greatest number of turns
+pub all_turns : (count : ℕ) (a b : Moment) → count ≡ last_count → Serves count a b → Serves last_count a b
+all_turns count a b is h = subst (λ (n : ℕ). Serves n a b) is h
+
+-- the fault of the whole is that of the turn
+pub same_fault : (r : Result (Option End) ServeFault) (q : Result End ServeFault) (fault : ServeFault) → IfErr q (λ f. r ≡ Err f) → q ≡ Err fault → r ≡ Err fault
+same_fault r (Ok end) fault is h = cc
+same_fault r (Err f) fault is h = cc
