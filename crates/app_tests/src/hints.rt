@@ -1,7 +1,7 @@
 //! What people are told besides the output.
 
 use crate::rows::EMPTY;
-use crate::runs::{Row, exit, faultless};
+use crate::runs::{Row, exit_on, faultless};
 use reroute_app::{Exit, Hint, Place, Status, Unrouted};
 use std::test::Fail;
 
@@ -95,7 +95,7 @@ fn tells_where_and_how_many(rt: HostRuntime) -> Result<(), Fail> {
             status: row.status,
             hint,
         };
-        assert_eq!(rt; exit(&rt, rt.alloc(), &row)?, wanted, "{}", row.words);
+        assert_eq!(rt; exit_on(&rt, rt.alloc(), &row)?, wanted, "{}", row.words);
     }
     Ok(())
 }

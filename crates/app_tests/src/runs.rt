@@ -170,7 +170,7 @@ fn exit_in_folder(
 }
 
 /// How the program ends on the row.
-pub(crate) fn exit(
+pub(crate) fn exit_on(
     rt: &(impl Threads + Sync),
     alloc: Global,
     row: &Row,

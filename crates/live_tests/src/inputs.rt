@@ -31,7 +31,7 @@ impl<'a> Read for Hindered<'a> {
 }
 
 /// The lines of `DRAWN`, each of whose bytes is read after such an error.
-fn hindered(kind: ErrorKind) -> ReaderLines<Hindered<'static>> {
+fn hindered_lines(kind: ErrorKind) -> ReaderLines<Hindered<'static>> {
     ReaderLines::new(Hindered {
         bytes: DRAWN.as_bytes(),
         kind,
@@ -42,7 +42,7 @@ fn hindered(kind: ErrorKind) -> ReaderLines<Hindered<'static>> {
 #[test]
 fn reads_on_after_interrupts(rt: HostRuntime) {
     let row = whole_row("interrupts", b"", DRAWN_REPLIES);
-    let mut lines = hindered(ErrorKind::Interrupted);
+    let mut lines = hindered_lines(ErrorKind::Interrupted);
     let reported = reported_lines(&rt, rt.alloc(), &mut lines, &row);
     assert_eq!(rt; reported, Some(wrote(Ok(End::Input))));
     assert_eq!(rt; lines.faults, 0);
@@ -51,7 +51,7 @@ fn reads_on_after_interrupts(rt: HostRuntime) {
 #[test]
 fn ends_at_other_errors(rt: HostRuntime) {
     let row = whole_row("an error", b"", "");
-    let mut lines = hindered(ErrorKind::UnexpectedEof);
+    let mut lines = hindered_lines(ErrorKind::UnexpectedEof);
     let reported = reported_lines(&rt, rt.alloc(), &mut lines, &row);
     assert_eq!(rt; reported, Some(wrote(Err(ServeFault::Read))));
     assert_eq!(rt; lines.faults, 1);
