@@ -10,7 +10,7 @@ TOP = os.path.dirname(os.path.dirname(os.path.dirname(os.path.realpath(__file__)
 FAULTS = (
     ('README.md', '(docs/GUIDE.md)', '(docs/GUIDES.md)', 'README.md', 'docs/GUIDES.md, which is not there'),
     ('docs/GUIDE.md', '](#exit-statuses)', '](#exit-status)', 'docs/GUIDE.md', 'has no heading `exit-status`'),
-    ('docs/ARCHITECTURE.md', '[`exit_code_of`]', '[`exit_codes_of`]', 'docs/ARCHITECTURE.md', '`exit_codes_of` is not in'),
+    ('docs/ARCHITECTURE.md', '[`exit_of`]', '[`exits_of`]', 'docs/ARCHITECTURE.md', '`exits_of` is not in'),
     ('README.md', 'at most 256 boxes', 'at most 255 boxes', 'README.md', '255 for the limit MOST_NODES, which is 256'),
     ('docs/SPECIFICATION.md', 'The penalty is 50 units', 'The penalty is 40 units', 'docs/SPECIFICATION.md', '40 for the default penalty'),
     ('docs/WORDS.md', 'keep from boxes; 4 units', 'keep from boxes; 5 units', 'docs/WORDS.md', '5 for the default buffer'),

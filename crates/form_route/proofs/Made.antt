@@ -11,7 +11,8 @@ use Rattle.report_text.specs.declared.reply.LineReply.{LineReply}
 use Rattle.gml_scene.specs.Tree.{tree_of}
 use Rattle.script_replay.specs.Replies.{AreReplies, searched_in, world_after}
 use Rattle.form_route.specs.Diagram.{IsDiagram, IsOutput}
-use Rattle.form_route.specs.Report.{has_refusal, report}
+use Rattle.form_route.specs.declared.report.Unrouted.{Unrouted}
+use Rattle.form_route.specs.Report.{has_refusal, report, unrouted_in}
 use Rattle.form_route.specs.Routes.{AreLines, Routes}
 
 -- what holds of the value of a result
@@ -33,10 +34,11 @@ with_diagram tree count opening replies w answers front diagram text (Ok was) is
 with_diagram tree count opening replies w answers front diagram text (Err e) is_front is_diagram is_text = tt
 
 module _ (tree : Pairs) (s : Scene) (commands : List (ℕ × Command)) (count : Bool) (replies : List LineReply) (w : World) (answers : List Answer) where
-  pub made : (opening searched : ℕ) (text : List ℕ) (refused : Bool) → w ≡ world_after s commands → AreReplies (opened s) commands replies
+  pub made : (opening searched : ℕ) (text : List ℕ) (refused : Bool) (unrouted : Unrouted) → w ≡ world_after s commands → AreReplies (opened s) commands replies
       → opening ≡ length (connectors s) → IsOutput tree s count opening replies w answers text
-      → refused ≡ has_refusal replies w → searched ≡ length (connectors s) + searched_in replies → Routes tree s commands count text refused searched
-  made opening searched text refused same are_replies is_opening is_output refused_is searched_is = record {
+      → refused ≡ has_refusal replies w → searched ≡ length (connectors s) + searched_in replies → unrouted ≡ unrouted_in w.present answers
+      → Routes tree s commands count text refused searched unrouted
+  made opening searched text refused unrouted same are_replies is_opening is_output refused_is searched_is unrouted_is = record {
     replies = replies;
     answers = answers;
     lines = is_output.is_diagram.lines;
@@ -48,4 +50,5 @@ module _ (tree : Pairs) (s : Scene) (commands : List (ℕ × Command)) (count : 
         ∙ (λ i. report count (is_opening i) replies (same i) answers ++ printed (tree_of tree s (same i).present is_output.is_diagram.lines));
     is_refused = refused_is ∙ ap (has_refusal replies) same;
     is_searched = searched_is;
+    is_unrouted = unrouted_is ∙ ap (λ (v : World). unrouted_in v.present answers) same;
   }

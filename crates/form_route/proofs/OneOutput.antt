@@ -12,7 +12,7 @@ use Rattle.scene_model.specs.World.{IsDirectedCommand, ScenesStayValid, opened}
 use Rattle.gml_scene.specs.Tree.{tree_of}
 use Rattle.nudge_phases.specs.Nudged.{HaveOneNudged}
 use Rattle.script_replay.specs.Replies.{AreDirected, HaveOneListOfReplies, searched_in, world_after}
-use Rattle.form_route.specs.Report.{has_refusal, report}
+use Rattle.form_route.specs.Report.{has_refusal, report, unrouted_in}
 use Rattle.form_route.specs.Routes.{AreLines, ComesToOne}
 
 all_directed : (commands : List (ℕ × Command)) → AreDirected commands → Each IsDirectedCommand (map (λ (c : ℕ × Command). c.1) commands)
@@ -30,7 +30,7 @@ module _ (one_replies : HaveOneListOfReplies) (one_answers : HaveOneList) (stay 
   same_lines s answers lines others valid a b = one_nudged s answers a.x_solutions a.y_solutions b.x_solutions b.y_solutions lines others valid a.right a.nudged b.nudged
 
   pub comes_to_one : ComesToOne
-  comes_to_one tree s commands count text other refused other_refused searched other_searched valid directed a b =
+  comes_to_one tree s commands count text other refused other_refused searched other_searched unrouted other_unrouted valid directed a b =
       let w = world_after s commands in
       let replies = one_replies (opened s) commands a.replies b.replies a.are_replies b.are_replies in
       let answers = one_answers w.present a.answers b.answers a.are_lines.right b.are_lines.right in
@@ -40,4 +40,5 @@ module _ (one_replies : HaveOneListOfReplies) (one_answers : HaveOneList) (stay 
         same_text = a.is_text ∙ (λ i. report count (length (connectors s)) (replies i) w (answers i) ++ printed (tree_of tree s w.present (lines i))) ∙ sym b.is_text;
         same_verdict = a.is_refused ∙ ap (λ rs. has_refusal rs w) replies ∙ sym b.is_refused;
         same_count = a.is_searched ∙ ap (λ rs. length (connectors s) + searched_in rs) replies ∙ sym b.is_searched;
+        same_unrouted = a.is_unrouted ∙ ap (unrouted_in w.present) answers ∙ sym b.is_unrouted;
       }

@@ -1,6 +1,6 @@
 -- The report of a replay.
-use Rattle.std.specs.Prelude.{ℕ, Bool, true, false, ◌||◌, List, ◌++◌, map, Option, Some, None, is_some, option_and_then, if◌then◌else◌}
-use Rattle.std.specs.List.{list_any}
+use Rattle.std.specs.Prelude.{ℕ, Bool, true, false, not, ◌||◌, List, ◌++◌, map, Option, Some, None, is_some, option_and_then, if◌then◌else◌}
+use Rattle.std.specs.List.{count_by, list_any}
 use Rattle.walk_model.specs.declared.route.Answer.{Answer}
 use Rattle.walk_model.specs.declared.route.Route.{Route}
 use Rattle.scene_model.specs.declared.edge.Edge.{Edge}
@@ -13,6 +13,7 @@ use Rattle.report_text.specs.declared.reply.LineReply.{LineReply}
 use Rattle.report_text.specs.declared.routed.Routed.{Routed}
 use Rattle.report_text.specs.declared.routed.Routed.TheVariants.{Loop, NoRoute, Cost}
 use Rattle.report_text.specs.declared.routed.EdgeRouted.{EdgeRouted}
+use Rattle.form_route.specs.declared.report.Unrouted.{Unrouted}
 use Rattle.report_text.specs.Replies.{open_line, reply_lines, end_line}
 use Rattle.report_text.specs.Routed.{routed_lines}
 
@@ -28,6 +29,19 @@ routed_by answers e = if is_loop e then Loop else reported_route (option_and_the
 -- how each edge of the scene is routed, in order
 abbrev pub edges_routed : Scene → List Answer → List EdgeRouted
 edges_routed s answers = map (λ e. record { edge = e.number; routed = routed_by answers e }) s.edges
+
+-- the edge has no route, though it is no loop
+abbrev pub is_no_route : Routed → Bool
+is_no_route NoRoute = true
+is_no_route Loop = false
+is_no_route (Cost cost) = false
+
+-- how many connectors of the scene have no route by the answers, and how many connectors it has
+abbrev pub unrouted_in : Scene → List Answer → Unrouted
+unrouted_in s answers = record {
+  without = count_by (λ e. is_no_route (routed_by answers e)) s.edges;
+  all = count_by (λ e. not (is_loop e)) s.edges;
+}
 
 -- the lines for the opening with this number of searches, for the commands, for the end of the script, and for the edges
 abbrev pub report : Bool → ℕ → List LineReply → World → List Answer → List ℕ

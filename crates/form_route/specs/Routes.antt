@@ -14,7 +14,8 @@ use Rattle.report_text.specs.declared.reply.LineReply.{LineReply}
 use Rattle.gml_scene.specs.Tree.{tree_of}
 use Rattle.nudge_phases.specs.Nudged.{IsNudgedScene}
 use Rattle.script_replay.specs.Replies.{AreDirected, AreReplies, searched_in, world_after}
-use Rattle.form_route.specs.Report.{report, has_refusal}
+use Rattle.form_route.specs.declared.report.Unrouted.{Unrouted}
+use Rattle.form_route.specs.Report.{report, has_refusal, unrouted_in}
 
 -- the scene routed alone: the first legal walks of its connectors, and their nudged lines
 pub record AreLines (s : Scene) (answers : List Answer) (lines : List WrittenRoute) : Type 0 where
@@ -23,8 +24,8 @@ pub record AreLines (s : Scene) (answers : List Answer) (lines : List WrittenRou
   pub y_solutions : List Solution
   pub nudged : IsNudgedScene s answers x_solutions y_solutions lines
 
--- the output of a script on the diagram of the tree, whose scene is this one; whether something was refused; and the number of searches
-pub record Routes (tree : Pairs) (s : Scene) (commands : List (ℕ × Command)) (count : Bool) (text : List ℕ) (refused : Bool) (searched : ℕ) : Type 0 where
+-- the output of a script on the diagram of the tree, whose scene is this one; whether something was refused; the number of searches; and how many connectors have no route
+pub record Routes (tree : Pairs) (s : Scene) (commands : List (ℕ × Command)) (count : Bool) (text : List ℕ) (refused : Bool) (searched : ℕ) (unrouted : Unrouted) : Type 0 where
   pub replies : List LineReply
   pub answers : List Answer
   pub lines : List WrittenRoute
@@ -34,16 +35,18 @@ pub record Routes (tree : Pairs) (s : Scene) (commands : List (ℕ × Command)) 
       ++ printed (tree_of tree s (world_after s commands).present lines)
   pub is_refused : refused ≡ has_refusal replies (world_after s commands)
   pub is_searched : searched ≡ length (connectors s) + searched_in replies
+  pub is_unrouted : unrouted ≡ unrouted_in (world_after s commands).present answers
 
--- the law: a script on a diagram has at most one output, one verdict and one number of searches
-pub record IsSameRoutes (text other_text : List ℕ) (refused other_refused : Bool) (searched other_searched : ℕ) : Type 0 where
+-- the law: a script on a diagram has at most one output, one verdict, one number of searches, and one of connectors without a route
+pub record IsSameRoutes (text other_text : List ℕ) (refused other_refused : Bool) (searched other_searched : ℕ) (unrouted other_unrouted : Unrouted) : Type 0 where
   pub same_text : text ≡ other_text
   pub same_verdict : refused ≡ other_refused
   pub same_count : searched ≡ other_searched
+  pub same_unrouted : unrouted ≡ other_unrouted
 
 abbrev pub ComesToOne : Type 0
 ComesToOne = (tree : Pairs) (s : Scene) (commands : List (ℕ × Command)) (count : Bool)
-    (text other_text : List ℕ) (refused other_refused : Bool) (searched other_searched : ℕ) →
+    (text other_text : List ℕ) (refused other_refused : Bool) (searched other_searched : ℕ) (unrouted other_unrouted : Unrouted) →
     IsValid s → AreDirected commands →
-    Routes tree s commands count text refused searched → Routes tree s commands count other_text other_refused other_searched →
-    IsSameRoutes text other_text refused other_refused searched other_searched
+    Routes tree s commands count text refused searched unrouted → Routes tree s commands count other_text other_refused other_searched other_unrouted →
+    IsSameRoutes text other_text refused other_refused searched other_searched unrouted other_unrouted

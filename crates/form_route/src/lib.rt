@@ -6,5 +6,5 @@ mod report;
 mod script;
 
 pub use laws::replays_come_to_one;
-pub use report::edges_routed;
+pub use report::{Unrouted, edges_routed};
 pub use script::{Options, Routing, printed_diagram, route};

@@ -1,7 +1,8 @@
 //! The report of a replay.
-ghost use Rattle.std.specs.Prelude.{◌≡◌, IfOk};
-ghost use Rattle.std.specs.List.{list_any};
-ghost use Rattle.form_route.specs.Report.{edges_routed, has_refusal, is_refused, report, routed_by};
+ghost use Rattle.std.specs.Prelude.{◌≡◌, IfOk, not};
+ghost use Rattle.std.specs.List.{count_by, list_any};
+ghost use Rattle.form_route.specs.Report.{edges_routed, has_refusal, is_no_route, is_refused, report, routed_by, unrouted_in};
+ghost use Rattle.scene_model.specs.Scene.{is_loop};
 
 use report_text::{
     EdgeRouted, LineReply, Reply, Routed, push_end_line, push_open_line, push_reply_lines,
@@ -45,6 +46,52 @@ pub fn edges_routed(
         })?;
     }
     Ok(edges)
+}
+
+/// How many connectors have no route, and how many connectors there are.
+#[derive(Clone, Copy, Debug, PartialEq, Eq)]
+pub struct Unrouted {
+    pub without: usize,
+    pub all: usize,
+}
+
+/// Whether the edge has no route by the answers of the book, though it is no loop.
+fn is_unrouted(book: &Book, edge: &Edge) -> bool
+    ensures { result ≡ is_no_route (routed_by book.now edge.now) }
+{
+    matches!(routed_by(book, edge), Routed::NoRoute)
+}
+
+/// Whether the edge leads from one node to another.
+fn is_connector(edge: &Edge) -> bool
+    ensures { result ≡ not (is_loop edge.now) }
+{
+    edge.from != edge.to
+}
+
+/// How many of the edges have no route by the answers of the book.
+fn unrouted_count(book: &Book, edges: &[Edge]) -> usize
+    ensures { result ≡ count_by (λ e. is_no_route (routed_by book.now e)) edges.now }
+{
+    edges.iter().filter(|edge| is_unrouted(book, edge)).count()
+}
+
+/// How many of the edges are connectors.
+fn connector_count(edges: &[Edge]) -> usize
+    ensures { result ≡ count_by (λ e. not (is_loop e)) edges.now }
+{
+    edges.iter().filter(|edge| is_connector(edge)).count()
+}
+
+/// How many connectors of the session's present scene have no route.
+pub(crate) fn unrouted_of(session: &Session) -> Unrouted
+    ensures { result ≡ unrouted_in session.now.world.present session.now.book }
+{
+    let edges = session.scene().edges();
+    Unrouted {
+        without: unrouted_count(session.book(), edges),
+        all: connector_count(edges),
+    }
 }
 
 /// The report on a script whose opening searched `opening` connectors, with these replies, and with

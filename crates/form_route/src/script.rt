@@ -8,7 +8,7 @@ ghost use Rattle.script_replay.specs.Replies.{AreDirected};
 ghost use Rattle.form_route.specs.Diagram.{IsDiagram, IsOutput};
 ghost use Rattle.form_route.specs.Routes.{AreLines, Routes};
 
-use crate::report::{has_refusal, report};
+use crate::report::{Unrouted, has_refusal, report, unrouted_of};
 use gml_scene::put_routes;
 use gml_text::{Doc, print};
 use par_route::Gate;
@@ -41,6 +41,8 @@ pub struct Routing {
     pub is_refused: bool,
     /// The counter of the searches.
     pub tally: Tally,
+    /// The connectors of the scene at the end that have no route.
+    pub unrouted: Unrouted,
 }
 
 /// Replays the commands, each with the number of its line, on the scene of the document. Then it
@@ -62,7 +64,7 @@ pub fn route<R: Threads + Sync, G: Gate>(
     requires directed { AreDirected commands.now }
     requires source { scene_of (tree doc.now) ≡ Ok scene }
     requires printable { IsPrintable (tree doc.now) }
-    ensures { IfOk result (λ r. Routes (tree doc.now) scene commands.now options.count r.text.items r.is_refused r.tally) }
+    ensures { IfOk result (λ r. Routes (tree doc.now) scene commands.now options.count r.text.items r.is_refused r.tally r.unrouted) }
 {
     // For the proof: the scene is valid, so its replay keeps origins.
     scene.valid();
@@ -77,12 +79,14 @@ pub fn route<R: Threads + Sync, G: Gate>(
         &replayed.session,
     );
     let is_refused = has_refusal(&replayed.replies, &replayed.session);
+    let unrouted = unrouted_of(&replayed.session);
     let tally = replayed.session.into_tally();
     let text = written?;
     Ok(Routing {
         text,
         is_refused,
         tally,
+        unrouted,
     })
 }
 

@@ -1,8 +1,8 @@
 //! The outside of a program: files that are read by name, input line by line, output, and arguments.
 //!
-//! Contracts describe the outside through three traits. A `Folder` adds a note of each read, a
-//! `LineSource` has the bytes that are still to be read, and a `Sink` counts its faults; only some
-//! of them expose their bytes. `MemFolder`, `MemLines` and `MemSink` are in memory and expose all of
+//! Contracts describe the outside through three traits. A `Folder` adds a note of each read; a
+//! `LineSource`, which gives input line by line, and a `Sink` count their faults. Only some of them
+//! expose their bytes. `MemFolder`, `MemLines` and `MemSink` are in memory and expose all of
 //! them. `DiskFolder`, `StdSink` and `ReaderLines` over standard input stand for the real machine,
 //! and are opaque. `all_arguments` reads the program's arguments, of which nothing is stated.
 #![tactic(auto)]

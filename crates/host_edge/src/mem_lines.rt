@@ -1,6 +1,6 @@
 //! Input in memory.
-ghost use Rattle.std.specs.Prelude.{◌≡◌, ◌≤◌, ℕ, List, ◌++◌, IfOk, IsErr, IsTrue, Some, vec_capacity};
-ghost use Rattle.host_edge.specs.Count.{is_listed, next_count};
+ghost use Rattle.std.specs.Prelude.{◌≡◌, ◌≤◌, ℕ, List, ◌++◌, IfOk, IsErr, IsTrue, OnErr, OnOk, Some, vec_capacity};
+ghost use Rattle.host_edge.specs.Count.{NeverFalls, is_listed, next_count};
 ghost use Rattle.host_edge.specs.Lines.{IsLineRead};
 
 use crate::line_source::{LineRead, LineSource, ReadFailed};
@@ -17,6 +17,7 @@ pub struct MemLines {
     bytes: VecDeque<u8>,
     fails: Vec<u64>,
     calls: u64,
+    faults: u64,
 }
 
 impl Model for MemLines {
@@ -28,6 +29,7 @@ impl Model for MemLines {
       bytes = s.bytes.items;
       fails = s.fails.items;
       calls = s.calls;
+      faults = s.faults;
     } };
 }
 
@@ -35,19 +37,22 @@ impl MemLines {
     /// Input of these bytes, where the calls with the numbers in `fails` fail and read nothing. Its only error is out
     /// of memory.
     pub fn new(alloc: Global, bytes: &[u8], fails: Vec<u64>) -> Result<MemLines, AllocError>
-        ensures { IfOk result (λ s. s ≡ record { bytes = bytes.now; fails = fails.items; calls = 0 }) }
+        ensures { IfOk result (λ s. s ≡ record { bytes = bytes.now; fails = fails.items; calls = 0; faults = 0 }) }
     {
         let bytes = VecDeque::from(Vec::from_slice(alloc, bytes)?);
         Ok(MemLines {
             bytes,
             fails,
             calls: 0,
+            faults: 0,
         })
     }
 }
 
 impl LineSource for MemLines {
     ghost rest = { λ s. Some s.bytes };
+
+    ghost faults = { λ s. s.faults };
 
     fn next_line(&mut self, line: &mut Vec<u8>, limit: usize) -> Result<LineRead, ReadFailed>
         requires { limit ≤ vec_capacity line.old }
@@ -60,11 +65,21 @@ impl LineSource for MemLines {
         ensures counted { self.new.calls ≡ next_count self.old.calls }
         ensures listed { IsTrue (is_listed self.old.fails self.new.calls) → IsErr result × (self.new.bytes ≡ self.old.bytes) }
         ensures fails_kept { self.new.fails ≡ self.old.fails }
+
+        // A fault is counted exactly if a call fails.
+        ensures ok { OnOk result (self.new.faults ≡ self.old.faults) }
+        ensures err { OnErr result (self.new.faults ≡ next_count self.old.faults) }
+        ensures never_falls { NeverFalls self.old.faults self.new.faults }
     {
         self.calls = self.calls.saturating_add(1);
         if self.fails.contains(&self.calls) {
+            self.faults = self.faults.saturating_add(1);
             return Err(ReadFailed);
         }
-        read_line(&mut self.bytes, line, limit)
+        let read = read_line(&mut self.bytes, line, limit);
+        if read.is_err() {
+            self.faults = self.faults.saturating_add(1);
+        }
+        read
     }
 }

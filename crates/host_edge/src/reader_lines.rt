@@ -1,7 +1,8 @@
 //! The lines of a reader, such as standard input.
 ghost use Rattle.std.specs.Prelude.{◌≡◌, ℕ, ◌<◌, ◌≤◌, List, ◌++◌, ◌∷◌, [], length, true, false, if◌then◌else◌};
-ghost use Rattle.std.specs.Prelude.{IfOk, IfSome, OnErr, vec_capacity};
+ghost use Rattle.std.specs.Prelude.{IfOk, IfSome, OnErr, OnOk, vec_capacity};
 ghost use Rattle.std.specs.Io.KnownBytes.{Consumes, Keeps};
+ghost use Rattle.host_edge.specs.Count.{NeverFalls, next_count};
 ghost use Rattle.host_edge.specs.Lines.{IsLineRead, IsNextByte};
 
 use crate::line_source::{LineRead, LineSource, ReadFailed};
@@ -9,10 +10,21 @@ use std::io::{ErrorKind, Read};
 
 /// The lines of a reader. It asks for one byte at a time, so give it a reader with a buffer.
 ///
-/// It reads no further than the line that it answers, so it waits only for the end of that line.
+/// It reads no further than the line that it answers, so it waits only for the end of that line. It counts a fault if a
+/// read returns an error other than `Interrupted`, after which it reads on.
 #[derive(Drop)]
 pub struct ReaderLines<R: Read> {
     pub reader: R,
+    pub faults: u64,
+}
+
+impl<R: Read> ReaderLines<R> {
+    /// The lines of the reader, without a fault so far. Takes no memory.
+    pub fn new(reader: R) -> ReaderLines<R>
+        ensures { result ≡ record { reader = reader; faults = 0 } }
+    {
+        ReaderLines { reader, faults: 0 }
+    }
 }
 
 /// The next byte, or `None` at the end of the input.
@@ -87,7 +99,24 @@ pub(crate) fn read_line<R: Read>(
 impl<R: Read> LineSource for ReaderLines<R> {
     ghost rest = { λ s. R.remaining s.reader };
 
-    fn next_line(&mut self, line: &mut Vec<u8>, limit: usize) -> Result<LineRead, ReadFailed> {
-        read_line(&mut self.reader, line, limit)
+    ghost faults = { λ s. s.faults };
+
+    fn next_line(&mut self, line: &mut Vec<u8>, limit: usize) -> Result<LineRead, ReadFailed>
+        requires { limit ≤ vec_capacity line.old }
+        ensures read { IfSome (R.remaining self.old.reader) (λ bytes.
+            IfOk result (λ read. IsLineRead limit bytes read line.new.items (R.remaining self.new.reader))) }
+        ensures room { vec_capacity line.new ≡ vec_capacity line.old }
+        ensures taken { (bytes : List ℕ) × Consumes (R.remaining self.old.reader) (R.remaining self.new.reader) bytes }
+
+        // A fault is counted exactly if the reading fails.
+        ensures ok { OnOk result (self.new.faults ≡ self.old.faults) }
+        ensures err { OnErr result (self.new.faults ≡ next_count self.old.faults) }
+        ensures never_falls { NeverFalls self.old.faults self.new.faults }
+    {
+        let read = read_line(&mut self.reader, line, limit);
+        if read.is_err() {
+            self.faults = self.faults.saturating_add(1);
+        }
+        read
     }
 }

@@ -10,7 +10,7 @@ use Rattle.live_replies.specs.declared.request.Request.TheVariants.{Nothing, Do,
 use Rattle.live_replies.specs.declared.serving.End.{End}
 use Rattle.live_replies.specs.declared.serving.End.TheVariants.{Input, Quit}
 use Rattle.live_replies.specs.declared.serving.ServeFault.{ServeFault}
-use Rattle.live_replies.specs.declared.serving.ServeFault.TheVariants.{Read, Write, Memory}
+use Rattle.live_replies.specs.declared.serving.ServeFault.TheVariants.{Read, Write, Memory, Exhausted}
 use Rattle.live_replies.specs.Answers.{Answers, AnswersCommand, AnswersPreview, AnswersRead}
 use Rattle.live_replies.specs.Live.{LiveState}
 use Rattle.live_replies.specs.Requests.{request_of}
@@ -63,7 +63,8 @@ after_last (Ok (Some Quit)) a b h =
     ap (λ (m : Moment). m.live.diagram) (sym h.leads) ∙ after_reading a.live h.turn.after.live h.turn.said h.turn.read h.turn.line h.is_turn.answered
 after_last (Err Read) a b h = ap (λ (l : LiveState). l.diagram) h.live
 after_last (Err Write) a b h = after_reading a.live b.live h.turn.said h.turn.read h.turn.line h.answered
-after_last (Err Memory) a b h = ap (λ (m : Moment). m.live.diagram) (sym h)
+after_last (Err Memory) a b h = absurd h
+after_last (Err Exhausted) a b h = absurd h
 
 pub diagrams_stay : DiagramsStay
 diagrams_stay last a b h = after_last last h.middle b h.ended ∙ after_turns a h.middle h.served.turns h.served.are_turns

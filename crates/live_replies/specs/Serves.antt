@@ -1,14 +1,15 @@
 -- A session that is served: lines are read, and each is replied to before the next.
-use Rattle.std.specs.Prelude.{◌≡◌, ℕ, Bool, true, false, List, [], ◌∷◌, Option, None, Some, IfSome, Result, Ok, Err}
+use Rattle.std.specs.Prelude.{◌≡◌, ℕ, Bool, true, false, List, [], ◌∷◌, length, Option, None, Some, IfSome, Result, Ok, Err}
 use Rattle.std.specs.Io.KnownBytes.{append_known}
 use Rattle.host_edge.specs.declared.line_source.LineRead.{LineRead}
 use Rattle.host_edge.specs.declared.line_source.LineRead.TheVariants.{Whole, TooLong, End as NoLine}
+use Rattle.host_edge.specs.Count.{last_count}
 use Rattle.host_edge.specs.Lines.{IsLineRead}
 use Rattle.host_edge.specs.Sink.{AppendsPart}
 use Rattle.live_replies.specs.declared.serving.End.{End}
 use Rattle.live_replies.specs.declared.serving.End.TheVariants.{Input, Quit}
 use Rattle.live_replies.specs.declared.serving.ServeFault.{ServeFault}
-use Rattle.live_replies.specs.declared.serving.ServeFault.TheVariants.{Read, Write, Memory}
+use Rattle.live_replies.specs.declared.serving.ServeFault.TheVariants.{Read, Write, Memory, Exhausted}
 use Rattle.live_replies.specs.Answers.{AnswersRead}
 use Rattle.live_replies.specs.Live.{LiveState}
 use Rattle.live_replies.specs.Requests.{is_quit}
@@ -56,10 +57,11 @@ abbrev pub AreTurns : Moment → List Turn → Moment → Type 0
 AreTurns a [] b = a ≡ b
 AreTurns a (t ∷ turns) b = IsTurn a t × (asks_for_end t.read t.line ≡ false) × AreTurns t.after turns b
 
--- some turns lead there
-pub record Serves (a b : Moment) : Type 0 where
+-- so many turns lead there
+pub record Serves (count : ℕ) (a b : Moment) : Type 0 where
   pub turns : List Turn
   pub are_turns : AreTurns a turns b
+  pub counted : length turns ≡ count
 
 -- one turn leads there, which asks for the end
 pub record IsLastTurn (a b : Moment) : Type 0 where
@@ -81,20 +83,29 @@ pub record StaysAt (a b : Moment) : Type 0 where
   pub held : b.held ≡ a.held
   pub live : b.live ≡ a.live
 
--- how the last turn ends: at the end of the input, after `quit`, at a fault; or it does not end the session
+-- how a turn ends: at the end of the input, after `quit`, at a fault of the input or the output; or it does not end the session
 abbrev pub EndsTurn : Result (Option End) ServeFault → Moment → Moment → Type 0
-EndsTurn (Ok None) a b = Serves a b
+EndsTurn (Ok None) a b = Serves 1 a b
 EndsTurn (Ok (Some Input)) a b = StaysAt a b × IfSome a.rest (λ bytes. bytes ≡ [])
 EndsTurn (Ok (Some Quit)) a b = IsLastTurn a b
 EndsTurn (Err Read) a b = StaysAt a b
 EndsTurn (Err Write) a b = WritesPart a b
-EndsTurn (Err Memory) a b = a ≡ b
+EndsTurn (Err Memory) a b = ⊥
+EndsTurn (Err Exhausted) a b = ⊥
 
 -- some turns lead to a moment at which the last one ends so
 pub record ServesTo (last : Result (Option End) ServeFault) (a b : Moment) : Type 0 where
+  pub count : ℕ
   pub middle : Moment
-  pub served : Serves a middle
+  pub served : Serves count a middle
   pub ended : EndsTurn last middle b
+
+-- how serving fails: before the first line where there is no memory for one, after the greatest number of lines, or at the last turn
+abbrev pub FailsTo : ServeFault → Moment → Moment → Type 0
+FailsTo Memory a b = a ≡ b
+FailsTo Exhausted a b = Serves last_count a b
+FailsTo Read a b = ServesTo (Err Read) a b
+FailsTo Write a b = ServesTo (Err Write) a b
 
 -- the law: a session keeps the diagram that it was opened with
 abbrev pub DiagramsStay : Type 0

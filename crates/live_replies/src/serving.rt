@@ -1,10 +1,11 @@
 //! The loop that serves: it reads a line, and writes the reply to it before it reads the next.
 ghost use Rattle.std.specs.Prelude.{◌≡◌, ◌≤◌, Err, IfErr, IfOk, IsOk, OnErr, OnOk, Ok, Some, vec_capacity};
 ghost use Rattle.std.specs.Io.KnownBytes.{append_known};
+ghost use Rattle.host_edge.specs.Count.{NeverFalls, Rose};
 ghost use Rattle.host_edge.specs.Sink.{AppendsPart};
 ghost use Rattle.live_replies.specs.declared.serving.ServeFault.TheVariants as faults;
 ghost use Rattle.live_replies.specs.Said.{said_bytes};
-ghost use Rattle.live_replies.specs.Serves.{EndsTurn, ServesTo, end_after};
+ghost use Rattle.live_replies.specs.Serves.{EndsTurn, FailsTo, ServesTo, end_after};
 
 use crate::live::Live;
 use crate::reply::Said;
@@ -38,6 +39,9 @@ pub enum ServeFault {
     /// No memory was left for a line, before the first one was read.
     #[error("no memory is left")]
     Memory,
+    /// 2^64 - 1 lines were answered.
+    #[error("no more lines are answered")]
+    Exhausted,
 }
 
 impl From<ReadFailed> for ServeFault {
@@ -70,6 +74,8 @@ fn say<O: Sink>(out: &mut O, said: (Said, bool)) -> Result<Option<End>, ServeFau
     ensures end { IfOk result (λ end. end ≡ end_after said.1) }
     ensures err { IfErr result (λ fault. fault ≡ ServeFault.Write) }
     ensures part { OnErr result (AppendsPart (O.held out.old) (O.held out.new) (said_bytes said.0)) }
+    ensures rose { OnErr result (Rose (O.faults out.old) (O.faults out.new)) }
+    ensures never_falls { NeverFalls (O.faults out.old) (O.faults out.new) }
 {
     let (said, is_last) = said;
     write_all_to(out, said.bytes())?;
@@ -93,6 +99,10 @@ fn turn<R: Threads + Sync, G: Gate, L: LineSource, O: Sink>(
         (record { rest = L.rest lines.old; held = O.held out.old; live = live.old })
         (record { rest = L.rest lines.new; held = O.held out.new; live = live.new }) }
     ensures room { vec_capacity line.new ≡ vec_capacity line.old }
+    ensures read_failed { result ≡ Err ServeFault.Read → Rose (L.faults lines.old) (L.faults lines.new) }
+    ensures write_failed { result ≡ Err ServeFault.Write → Rose (O.faults out.old) (O.faults out.new) }
+    ensures reads { NeverFalls (L.faults lines.old) (L.faults lines.new) }
+    ensures writes { NeverFalls (O.faults out.old) (O.faults out.new) }
 {
     match lines.next_line(line, MOST_LINE)? {
         LineRead::Whole => say(out, live.reply(rt, line, workers, gate)),
@@ -104,8 +114,9 @@ fn turn<R: Threads + Sync, G: Gate, L: LineSource, O: Sink>(
 /// Reads lines, and writes the reply to each before it reads the next, until the input ends, the client asks for the
 /// end, or a fault comes. A line has at most 4096 bytes.
 ///
-/// After 2^64 - 1 lines it ends as if the input could not be read. Whatever ends it, `live` is as after the lines that
-/// were read.
+/// It does not end by itself: an error is `Read` or `Write` only where the input or the output counted a fault, `Memory`
+/// only before the first line is read, and `Exhausted` only after 2^64 - 1 lines. Whatever ends it, `live` is as after the
+/// lines that were read.
 pub fn serve<R: Threads + Sync, G: Gate, L: LineSource, O: Sink>(
     rt: &R,
     alloc: Global,
@@ -120,15 +131,19 @@ pub fn serve<R: Threads + Sync, G: Gate, L: LineSource, O: Sink>(
     ensures ok { IfOk result (λ end. ServesTo (Ok (Some end))
         (record { rest = L.rest lines.old; held = O.held out.old; live = live.old })
         (record { rest = L.rest lines.new; held = O.held out.new; live = live.new })) }
-    ensures err { IfErr result (λ fault. ServesTo (Err fault)
+    ensures err { IfErr result (λ fault. FailsTo fault
         (record { rest = L.rest lines.old; held = O.held out.old; live = live.old })
         (record { rest = L.rest lines.new; held = O.held out.new; live = live.new })) }
+    ensures read_failed { result ≡ Err ServeFault.Read → Rose (L.faults lines.old) (L.faults lines.new) }
+    ensures write_failed { result ≡ Err ServeFault.Write → Rose (O.faults out.old) (O.faults out.new) }
 {
     let mut line = Vec::with_capacity(alloc, MOST_LINE)?;
-    for _ in 0..u64::MAX {
+    let mut count = 0;
+    while count < u64::MAX {
         if let Some(end) = turn(rt, live, lines, out, &mut line, workers, gate)? {
             return Ok(end);
         }
+        count += 1;
     }
-    Err(ServeFault::Read)
+    Err(ServeFault::Exhausted)
 }

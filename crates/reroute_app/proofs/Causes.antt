@@ -505,7 +505,7 @@ module _ (words : List (List ℕ)) (files : Option ExposedFiles) (old new : List
       end_scene bytes middle tree (Err fault) read reads is later =
           by_finding (no_diagram (refuses bytes (read_to_end bytes middle later.0 read) (no_scene bytes tree fault reads is))) (read_status _ later.1)
 
-      end_tree : (bytes : List ℕ) (middle : List Note) (r : Result Pairs GmlFault) → HasRead files name most_bytes old middle bytes → ParsesAs bytes r → TakesTree next r middle new o → Ending o.status
+      end_tree : (bytes : List ℕ) (middle : List Note) (r : Result Pairs GmlFault) → HasRead files name most_bytes old middle bytes → ParsesAs bytes r → TakesTree next bytes r middle new o → Ending o.status
       end_tree bytes middle (Ok tree) read reads later = end_scene bytes middle tree (scene_of tree) read reads refl later
       end_tree bytes middle (Err fault) read reads later =
           by_finding (no_diagram (refuses bytes (read_to_end bytes middle later.0 read) (no_document bytes fault reads))) (read_status _ later.1)

@@ -53,7 +53,7 @@ module _ (files : Option ExposedFiles) (diagram certificate : List ℕ) (old new
   scened bytes middle tree (Err fault) read reads is later = (let e = not_done _ later.1 in cc)
 
   treed : (bytes : List ℕ) (middle : List Note) (r : Result Pairs GmlFault) → HasRead files diagram most_bytes old middle bytes → ParsesAs bytes r
-      → TakesTree (λ tree s. UnlessLarge (too_large s) (ReadsFile files certificate most_certificate_bytes (λ bytes. Ends (AuditsCertificate s bytes)))) r middle new o
+      → TakesTree (λ tree s. UnlessLarge (too_large s) (ReadsFile files certificate most_certificate_bytes (λ bytes. Ends (AuditsCertificate s bytes)))) bytes r middle new o
       → FindsTrueClaims files diagram certificate old new
   treed bytes middle (Ok tree) read reads later = scened bytes middle tree (scene_of tree) read reads refl later
   treed bytes middle (Err fault) read reads later = (let e = not_done _ later.1 in cc)

@@ -112,20 +112,20 @@ module _ (files : Option ExposedFiles) (name : List ℕ) (limit : ℕ) (next : L
 
 -- ---- diagrams
 
-course_tree : (next : Pairs → Scene → Course) → ((tree : Pairs) (s : Scene) → scene_of tree ≡ Ok s → IsCourse (next tree s)) → (r : Result Pairs GmlFault) → IsCourse (TakesTree next r)
-course_tree next good (Ok tree) = by (scene_of tree) refl
+course_tree : (next : Pairs → Scene → Course) → ((tree : Pairs) (s : Scene) → scene_of tree ≡ Ok s → IsCourse (next tree s)) → (bytes : List ℕ) (r : Result Pairs GmlFault) → IsCourse (TakesTree next bytes r)
+course_tree next good bytes (Ok tree) = by (scene_of tree) refl
   where
     by : (r : Result Scene DiagramFault) → scene_of tree ≡ r → IsCourse (TakesScene (next tree) r)
     by (Ok s) is = good tree s is
     by (Err fault) is = course_ends_with _
-course_tree next good (Err fault) = course_ends_with _
+course_tree next good bytes (Err fault) = course_ends_with _
 
 course_bytes : (next : Pairs → Scene → Course) → ((tree : Pairs) (s : Scene) → scene_of tree ≡ Ok s → IsCourse (next tree s)) → (bytes : List ℕ) → IsCourse (TakesDiagram next bytes)
 course_bytes next good bytes = record {
-  grows = λ old new o is. (course_tree next good is.0).grows old new o is.2;
+  grows = λ old new o is. (course_tree next good bytes is.0).grows old new o is.2;
   one = λ old new a b p q.
       let same = reads_once bytes p.0 q.0 p.1 q.1 in
-      (course_tree next good q.0).one old new a b (subst (λ (r : Result Pairs GmlFault). TakesTree next r old new a) same p.2) q.2;
+      (course_tree next good bytes q.0).one old new a b (subst (λ (r : Result Pairs GmlFault). TakesTree next bytes r old new a) same p.2) q.2;
 }
 
 pub course_diagram : (files : Option ExposedFiles) (name : List ℕ) (next : Pairs → Scene → Course) → IsSome files → ((tree : Pairs) (s : Scene) → scene_of tree ≡ Ok s → IsCourse (next tree s)) → IsCourse (ReadsDiagram files name next)

@@ -19,7 +19,9 @@ use Rattle.form_certificate.specs.Sizes.{too_large}
 use Rattle.form_certificate.specs.Proving.{HaveOneCertificate}
 use Rattle.form_certificate.specs.Auditing.{HaveOneAudit}
 use Rattle.command_words.specs.Words.{Form, check, route, make, preview, shared, prove, audit, form_of}
+use Rattle.reroute_app.specs.declared.hint.Hint.TheVariants.{Nothing}
 use Rattle.reroute_app.specs.declared.status.Status.TheVariants.{Done}
+use Rattle.reroute_app.specs.Hint.{unrouted_hint}
 use Rattle.reroute_app.specs.Outcome.{Outcome, Course, Ends, uncounted, unsearched}
 use Rattle.reroute_app.specs.Reads.{ReadsFile}
 use Rattle.reroute_app.specs.Check.{ChecksUnless, Checks, check_status}
@@ -41,13 +43,13 @@ module _ (checks : HaveOneCheck) (replays : ComesToOne) (seeds : SeedsComeToOne)
 
   one_replay : (tree : Pairs) (s : Scene) (bytes : List ℕ) (count : Bool) → scene_of tree ≡ Ok s → (a b : Outcome) → Replays tree s (commands bytes) count a → Replays tree s (commands bytes) count b → a ≡ b
   one_replay tree s bytes count is a b p q =
-      let same = replays tree s (commands bytes) count p.text q.text p.refused q.refused p.searched q.searched (scene_valid tree s is) (have_directions bytes) p.routes q.routes in
-      p.outcome ∙ (λ i. record { status = replay_status (same.same_verdict i); text = same.same_text i; searched = Some (same.same_count i) }) ∙ sym q.outcome
+      let same = replays tree s (commands bytes) count p.text q.text p.refused q.refused p.searched q.searched p.unrouted q.unrouted (scene_valid tree s is) (have_directions bytes) p.routes q.routes in
+      p.outcome ∙ (λ i. record { status = replay_status (same.same_verdict i); text = same.same_text i; searched = Some (same.same_count i); hint = unrouted_hint (same.same_unrouted i) }) ∙ sym q.outcome
 
   one_summary : (seed : ℕ) (a b : Outcome) → Summarizes seed a → Summarizes seed b → a ≡ b
   one_summary seed a b p q =
       let same = seeds seed p.text q.text p.searched q.searched p.makes q.makes in
-      p.outcome ∙ (λ i. record { status = Done; text = same.0 i; searched = Some (same.1 i) }) ∙ sym q.outcome
+      p.outcome ∙ (λ i. record { status = Done; text = same.0 i; searched = Some (same.1 i); hint = Nothing }) ∙ sym q.outcome
 
   one_preview : (s : Scene) (bytes : List ℕ) → (a b : Outcome) → Previews s (commands bytes) a → Previews s (commands bytes) b → a ≡ b
   one_preview s bytes a b p q =

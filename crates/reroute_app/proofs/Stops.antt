@@ -21,7 +21,8 @@ use Rattle.reroute_app.specs.declared.outcome.Stop.{Stop}
 use Rattle.reroute_app.specs.declared.outcome.Stop.TheVariants.{Ended, Memory}
 use Rattle.reroute_app.specs.declared.status.Status.TheVariants.{Diagram}
 use Rattle.command_words.specs.Words.{Form, form_of}
-use Rattle.reroute_app.specs.Outcome.{Outcome, Course, Ends, unsearched}
+use Rattle.reroute_app.specs.Hint.{gml_hint}
+use Rattle.reroute_app.specs.Outcome.{Outcome, Course, Ends, hinted, unsearched}
 use Rattle.reroute_app.specs.Reads.{HasRead, ReadsFile}
 use Rattle.reroute_app.specs.Reads.ReadsFile.{fails, is_too_long, goes_on}
 use Rattle.reroute_app.specs.Diagram.{most_bytes, HasDiagram, TakesScene, TakesTree, TakesDiagram, ReadsDiagram}
@@ -46,7 +47,7 @@ read_with bytes (gml.TooDeep at) r is known syntax too_deep = too_deep at is
 read_with bytes gml.Memory r is known syntax too_deep = absurd (known refl)
 
 -- so it is the end of a diagram
-pub no_document_ends : (bytes : List ℕ) (notes : List Note) (fault : GmlFault) (o : Outcome) → ParsesAs bytes (Err fault) → o ≡ unsearched Diagram (gml_fault_line fault) → TakesDiagram never_two bytes notes notes o
+pub no_document_ends : (bytes : List ℕ) (notes : List Note) (fault : GmlFault) (o : Outcome) → ParsesAs bytes (Err fault) → o ≡ hinted (unsearched Diagram (gml_fault_line fault)) (gml_hint bytes fault) → TakesDiagram never_two bytes notes notes o
 no_document_ends bytes notes fault o reads is = (Err fault, reads, (refl, is))
 
 scene_as : (r : Result Scene DiagramFault) (tree : Pairs) (old new : List Note) (o : Outcome) → TakesScene never r old new o → TakesScene (never_two tree) r old new o
@@ -69,14 +70,14 @@ module _ (next other : Pairs → Scene → Course) (on : (tree : Pairs) (s : Sce
   takes_as (Ok s) tree old new o is = on tree s old new o is
   takes_as (Err fault) tree old new o is = is
 
-  tree_as : (r : Result Pairs GmlFault) (old new : List Note) (o : Outcome) → TakesTree next r old new o → TakesTree other r old new o
-  tree_as (Ok tree) old new o is = takes_as (scene_of tree) tree old new o is
-  tree_as (Err fault) old new o is = is
+  tree_as : (bytes : List ℕ) (r : Result Pairs GmlFault) (old new : List Note) (o : Outcome) → TakesTree next bytes r old new o → TakesTree other bytes r old new o
+  tree_as bytes (Ok tree) old new o is = takes_as (scene_of tree) tree old new o is
+  tree_as bytes (Err fault) old new o is = is
 
   -- and so does one that reads a diagram
   pub diagram_as : (files : Option ExposedFiles) (name : List ℕ) (old new : List Note) (o : Outcome) → ReadsDiagram files name next old new o → ReadsDiagram files name other old new o
   diagram_as files name =
-      file_as (TakesDiagram next) (TakesDiagram other) (λ bytes old new o is. (is.0, is.1, tree_as is.0 old new o is.2)) files name most_bytes
+      file_as (TakesDiagram next) (TakesDiagram other) (λ bytes old new o is. (is.0, is.1, tree_as bytes is.0 old new o is.2)) files name most_bytes
 
 -- a file that is not read is the end, whatever would go on
 pub file_ends : (files : Option ExposedFiles) (name : List ℕ) (limit : ℕ) (next : List ℕ → Course) (old new : List Note) (o : Outcome) → ReadsFile files name limit never old new o → ReadsFile files name limit next old new o

@@ -9,7 +9,8 @@ use Rattle.diagram_read.specs.declared.fault.DiagramFault.{DiagramFault}
 use Rattle.diagram_read.specs.Scene.{scene_of}
 use Rattle.report_text.specs.Faults.{fault_line, gml_fault_line}
 use Rattle.reroute_app.specs.declared.status.Status.TheVariants.{Diagram}
-use Rattle.reroute_app.specs.Outcome.{Course, EndsWith, unsearched}
+use Rattle.reroute_app.specs.Hint.{gml_hint}
+use Rattle.reroute_app.specs.Outcome.{Course, EndsWith, hinted, unsearched}
 use Rattle.host_edge.specs.Note.{Note}
 use Rattle.reroute_app.specs.Reads.{HasRead, ReadsFile}
 
@@ -33,14 +34,14 @@ abbrev pub TakesScene : (Scene → Course) → Result Scene DiagramFault → Cou
 TakesScene next (Ok scene) = next scene
 TakesScene next (Err fault) = EndsWith (unsearched Diagram (fault_line fault))
 
--- bytes are read as a tree, or with a fault
-abbrev pub TakesTree : (Pairs → Scene → Course) → Result Pairs GmlFault → Course
-TakesTree next (Ok tree) = TakesScene (next tree) (scene_of tree)
-TakesTree next (Err fault) = EndsWith (unsearched Diagram (gml_fault_line fault))
+-- these bytes are read as a tree, or with a fault, of which people are told the place
+abbrev pub TakesTree : (Pairs → Scene → Course) → List ℕ → Result Pairs GmlFault → Course
+TakesTree next bytes (Ok tree) = TakesScene (next tree) (scene_of tree)
+TakesTree next bytes (Err fault) = EndsWith (hinted (unsearched Diagram (gml_fault_line fault)) (gml_hint bytes fault))
 
 -- what the bytes are read as decides how the course continues
 abbrev pub TakesDiagram : (Pairs → Scene → Course) → List ℕ → Course
-TakesDiagram next bytes old new o = (read : Result Pairs GmlFault) × ParsesAs bytes read × TakesTree next read old new o
+TakesDiagram next bytes old new o = (read : Result Pairs GmlFault) × ParsesAs bytes read × TakesTree next bytes read old new o
 
 -- the file with the name is read as a diagram, and the course continues with its tree and its scene
 abbrev pub ReadsDiagram : Option ExposedFiles → List ℕ → (Pairs → Scene → Course) → Course

@@ -1,5 +1,6 @@
 -- The outcome of the arguments and the files, subcommand by subcommand.
 pub mod Status
+pub mod Hint
 pub mod Outcome
 pub mod Reads
 pub mod Diagram

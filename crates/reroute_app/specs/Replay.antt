@@ -5,7 +5,9 @@ use Rattle.gml_text.specs.Tree.{Pairs}
 use Rattle.scene_model.specs.declared.edit.Command.{Command}
 use Rattle.scene_model.specs.Scene.{Scene}
 use Rattle.edit_script.specs.Script.{commands as commands_of}
+use Rattle.form_route.specs.declared.report.Unrouted.{Unrouted}
 use Rattle.form_route.specs.Routes.{Routes}
+use Rattle.reroute_app.specs.Hint.{unrouted_hint}
 use Rattle.reroute_app.specs.declared.status.Status.{Status}
 use Rattle.reroute_app.specs.declared.status.Status.TheVariants.{Done, Refused}
 use Rattle.reroute_app.specs.Outcome.{Outcome, Course}
@@ -31,5 +33,6 @@ pub record Replays (tree : Pairs) (s : Scene) (commands : List (ℕ × Command))
   pub text : List ℕ
   pub refused : Bool
   pub searched : ℕ
-  pub routes : Routes tree s commands count text refused searched
-  pub outcome : o ≡ record { status = replay_status refused; text = text; searched = Some searched }
+  pub unrouted : Unrouted
+  pub routes : Routes tree s commands count text refused searched unrouted
+  pub outcome : o ≡ record { status = replay_status refused; text = text; searched = Some searched; hint = unrouted_hint unrouted }

@@ -17,7 +17,7 @@ use Rattle.reroute_app.specs.Replay.{most_script_bytes}
 
 -- an outcome of the code as an outcome of the definitions
 abbrev pub view : Made → Outcome
-view made = record { status = made.status; text = made.text.items; searched = made.tally }
+view made = record { status = made.status; text = made.text.items; searched = made.tally; hint = made.hint }
 
 -- a run that stops early ends with this, unless out of memory
 abbrev pub StopsAt : (Outcome → Type 0) → Stop → Type 0

@@ -14,6 +14,7 @@ mod certificate;
 mod check;
 mod exit;
 mod form;
+mod hint;
 mod make;
 mod outcome;
 mod proposals;
@@ -24,13 +25,15 @@ mod status;
 
 use crate::form::outcome_of;
 use crate::outcome::Outcome;
-pub use exit::exit_code_of;
+pub use exit::{Exit, exit_of};
 use form_certificate::certificates_come_to_one;
 use form_check::checks_come_to_one;
 use form_make::seeds_come_to_one;
 use form_preview::proposals_come_to_one;
+pub use form_route::Unrouted;
 use form_route::replays_come_to_one;
 use form_shared::shares_come_to_one;
+pub use hint::{Hint, Place};
 use host_edge::{Folder, Sink, WriteFailed, write_all_to};
 use par_route::{Gate, OpenGate};
 pub use read::{MOST_BYTES, MOST_CERTIFICATE_BYTES, MOST_SCRIPT_BYTES};
@@ -122,6 +125,7 @@ pub fn run_gated<R: Threads + Sync, F: Folder, O: Sink, G: Gate>(
         status,
         text,
         tally: part,
+        ..
     } = outcome;
     if let Some(part) = part {
         tally.join(part);

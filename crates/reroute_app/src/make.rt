@@ -3,6 +3,7 @@ ghost use Rattle.std.specs.Prelude.{IfOk};
 ghost use Rattle.reroute_app.specs.Make.{Summarizes};
 ghost use Rattle.reroute_app.specs.View.{view};
 
+use crate::hint::Hint;
 use crate::outcome::Outcome;
 use crate::status::Status;
 use form_make::{Made, make};
@@ -24,5 +25,6 @@ pub(crate) fn summary_of<R: Threads + Sync, G: Gate>(
         status: Status::Done,
         text: text.into_bytes(),
         tally: Some(tally),
+        hint: Hint::Nothing,
     })
 }

@@ -2,9 +2,11 @@
 ghost use Rattle.std.specs.Prelude.{◌≡◌, IfOk};
 ghost use Rattle.report_text.specs.Faults.{fault_line, gml_fault_line};
 ghost use Rattle.report_text.specs.Files.{read_fault_line, too_long_line, words_line};
-ghost use Rattle.reroute_app.specs.Outcome.{uncounted, unsearched};
+ghost use Rattle.reroute_app.specs.Hint.{gml_hint};
+ghost use Rattle.reroute_app.specs.Outcome.{hinted, uncounted, unsearched};
 ghost use Rattle.reroute_app.specs.View.{view};
 
+use crate::hint::{Hint, gml_hint};
 use crate::status::Status;
 use diagram_read::DiagramFault;
 use gml_text::GmlFault;
@@ -14,13 +16,14 @@ use report_text::{
 use route_search::Tally;
 use std::alloc::{AllocError, AllocFailed, Global};
 
-/// What is answered: how the run ends, the whole output, and the searches that were made for it, where they are
-/// counted.
+/// What is answered: how the run ends, the whole output, the searches that were made for it, where they are counted,
+/// and what people are told.
 #[derive(Drop)]
 pub(crate) struct Outcome {
     pub(crate) status: Status,
     pub(crate) text: Vec<u8>,
     pub(crate) tally: Option<Tally>,
+    pub(crate) hint: Hint,
 }
 
 /// Why a run stops early.
@@ -60,6 +63,7 @@ pub(crate) fn unsearched(status: Status, text: Vec<u8>) -> Outcome
         status,
         text,
         tally: Some(Tally::new()),
+        hint: Hint::Nothing,
     }
 }
 
@@ -71,6 +75,25 @@ pub(crate) fn uncounted(status: Status, text: Vec<u8>) -> Outcome
         status,
         text,
         tally: None,
+        hint: Hint::Nothing,
+    }
+}
+
+/// The outcome with this hint.
+fn hinted(outcome: Outcome, hint: Hint) -> Outcome
+    ensures { view result ≡ hinted (view outcome) hint }
+{
+    let Outcome {
+        status,
+        text,
+        tally,
+        ..
+    } = outcome;
+    Outcome {
+        status,
+        text,
+        tally,
+        hint,
     }
 }
 
@@ -102,12 +125,17 @@ pub(crate) fn too_long(alloc: Global, name: &str, limit: u64) -> Result<Outcome,
 }
 
 /// The bytes are not valid GML.
-pub(crate) fn no_document(alloc: Global, fault: &GmlFault) -> Result<Outcome, AllocError>
-    ensures { IfOk result (λ o. view o ≡ unsearched Status.Diagram (gml_fault_line fault.now)) }
+pub(crate) fn no_document(
+    alloc: Global,
+    bytes: &[u8],
+    fault: &GmlFault,
+) -> Result<Outcome, AllocError>
+    ensures { IfOk result (λ o. view o
+        ≡ hinted (unsearched Status.Diagram (gml_fault_line fault.now)) (gml_hint bytes.now fault.now)) }
 {
     let mut text = Vec::new(alloc);
     push_gml_fault_line(&mut text, fault)?;
-    Ok(unsearched(Status::Diagram, text))
+    Ok(hinted(unsearched(Status::Diagram, text), gml_hint(bytes, fault)))
 }
 
 /// The document is not a valid diagram, or a line of it cannot be read.

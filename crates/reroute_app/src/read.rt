@@ -63,7 +63,7 @@ fn document_of(alloc: Global, bytes: &[u8]) -> Result<Doc, Stop>
     match parse(alloc, bytes) {
         Ok(doc) => Ok(doc),
         Err(GmlFault::Memory) => Err(Stop::Memory),
-        Err(fault) => Err(Stop::Ended(no_document(alloc, &fault)?)),
+        Err(fault) => Err(Stop::Ended(no_document(alloc, bytes, &fault)?)),
     }
 }
 

@@ -10,6 +10,7 @@ ghost use Rattle.reroute_app.specs.Replay.{ReadsScript, Replays, most_script_byt
 ghost use Rattle.reroute_app.specs.Run.{IsFormOutcome};
 ghost use Rattle.reroute_app.specs.View.{AnyScene, Comes, HasBoth, HasCommands, NotesOne, NotesTwo, StopsAt, never, never_three};
 
+use crate::hint::unrouted_hint;
 use crate::outcome::{Outcome, Stop};
 use crate::read::{Diagram, read_diagram, read_script};
 use crate::status::Status;
@@ -101,11 +102,13 @@ fn replay_diagram<R: Threads + Sync, G: Gate>(
         text,
         is_refused,
         tally,
+        unrouted,
     } = routed;
     Ok(Outcome {
         status: status_of(is_refused),
         text,
         tally: Some(tally),
+        hint: unrouted_hint(unrouted),
     })
 }
 

@@ -35,4 +35,28 @@ impl Status {
     {
         *self as u8
     }
+
+    /// What to do after a run with this status, in words for people, where there is something to do and memory for it.
+    /// No clause says which words.
+    pub fn advice(&self) -> Option<&'static str> {
+        match *self {
+            Status::Done | Status::NoMemory => None,
+            Status::Refused => {
+                Some("a line of the script was refused; the lines # and preview say which and why")
+            }
+            Status::Words => Some(
+                "check FILE, route FILE FILE [--workers N] [--count], make SEED, preview FILE FILE [--workers N], shared FILE, prove FILE, audit FILE FILE",
+            ),
+            Status::Diagram => Some("the file is no diagram; reroute-explain says what to change"),
+            Status::ReadFault => {
+                Some("the file cannot be read: is it there, is it a file, may you read it?")
+            }
+            Status::WriteFault => {
+                Some("the output could not be written; a first part of it may be there")
+            }
+            Status::TooLong => Some("the file is too long: take out what is no box and no edge"),
+            Status::BadLine => Some("a line breaks a rule; reroute route writes legal lines"),
+            Status::AuditNo => Some("the certificate does not prove the costs of this diagram"),
+        }
+    }
 }

@@ -1,10 +1,11 @@
 //! The arguments of the program.
 ghost use Rattle.std.specs.Prelude.{◌≤◌, IfOk};
 
-use clap::error::Error;
+use clap::error::{Error, ErrorKind};
 use clap::{Arg, ArgAction, ArgMatches, Command, value_parser};
+use reroute_app::Status;
 use std::alloc::{AllocError, Global};
-use std::env;
+use std::{env, io};
 
 /// What the arguments ask for.
 #[derive(Drop)]
@@ -18,10 +19,6 @@ pub(crate) struct Asked {
 const FILE: &str = "FILE";
 
 const WORKERS: &str = "workers";
-
-const NOT_UNDERSTOOD: u8 = 2;
-
-const NO_MEMORY: u8 = 6;
 
 /// The command line, with help and version.
 fn command<'a>(alloc: Global) -> Result<Command<'a>, AllocError> {
@@ -59,29 +56,44 @@ fn read(alloc: Global, matches: &ArgMatches) -> Result<Asked, AllocError>
     Ok(Asked { file, workers })
 }
 
-/// Prints why the arguments are not understood, or the help or the version, and answers the exit status.
-fn reported(rt: &HostRuntime, error: &Error) -> u8 {
-    match error.print(rt) {
-        Ok(()) => error.exit_code() as u8,
-        Err(_) => NOT_UNDERSTOOD,
+/// Prints why the arguments are not understood, or the help or the version, and answers the status.
+fn reported(rt: &HostRuntime, error: &Error) -> Status {
+    if error.kind() == ErrorKind::OutOfMemory {
+        return Status::NoMemory;
+    }
+    let printed = error.print(rt);
+    if error.use_stderr() {
+        return Status::Words;
+    }
+    match printed {
+        Ok(()) => Status::Done,
+        Err(_) => Status::WriteFault,
     }
 }
 
-/// What the arguments ask for, or the exit status.
-pub(crate) fn asked_for(rt: &HostRuntime, alloc: Global) -> Result<Asked, u8>
+/// Prints why the arguments cannot be read, and answers the status.
+fn unread(rt: &HostRuntime, error: &io::Error) -> Status {
+    if error.kind() == io::ErrorKind::OutOfMemory {
+        return Status::NoMemory;
+    }
+    // Where standard error is closed, the status alone reports the fault.
+    let _printed = eprintln!(rt; "reroute_live: an argument is not UTF-8");
+    Status::Words
+}
+
+/// What the arguments ask for, or the status where they ask for no session.
+pub(crate) fn asked_for(rt: &HostRuntime, alloc: Global) -> Result<Asked, Status>
     ensures { IfOk result (λ a. (1 ≤ a.workers) × (a.workers ≤ 4)) }
 {
-    let Ok(arguments) = env::args(rt) else {
-        return Err(NOT_UNDERSTOOD);
-    };
+    let arguments = env::args(rt).map_err(|error| unread(rt, &error))?;
     let Ok(words) = arguments.collect::<Vec<String>>(alloc) else {
-        return Err(NO_MEMORY);
+        return Err(Status::NoMemory);
     };
     let Ok(command) = command(alloc) else {
-        return Err(NO_MEMORY);
+        return Err(Status::NoMemory);
     };
     match command.try_get_matches_from(words.as_slice()) {
-        Ok(matches) => read(alloc, &matches).map_err(|_| NO_MEMORY),
+        Ok(matches) => read(alloc, &matches).map_err(|_| Status::NoMemory),
         Err(error) => Err(reported(rt, &error)),
     }
 }

@@ -11,56 +11,63 @@ use diagram::live_on;
 use host_edge::{ReaderLines, StdSink};
 use live_replies::{Live, ServeFault, serve};
 use par_route::OpenGate;
+use reroute_app::Status;
 use std::io::BufReader;
 use std::process::ExitCode;
 use std::thread::Threads;
 
-/// The exit statuses besides 0. They are those of `reroute`.
-const READ_FAULT: u8 = 4;
-
-const WRITE_FAULT: u8 = 5;
-
-const NO_MEMORY: u8 = 6;
-
 /// The status of a fault that ends a session.
-fn status_of(fault: ServeFault) -> u8 {
+fn status_of(fault: ServeFault) -> Status {
     match fault {
-        ServeFault::Read => READ_FAULT,
-        ServeFault::Write => WRITE_FAULT,
-        ServeFault::Memory => NO_MEMORY,
+        ServeFault::Read | ServeFault::Exhausted => Status::ReadFault,
+        ServeFault::Write => Status::WriteFault,
+        ServeFault::Memory => Status::NoMemory,
     }
 }
 
-/// Serves a session over standard input and output, and answers the exit status.
+/// Serves a session over standard input and output, and answers how it ends.
 fn serve_standard<R: Threads + Sync>(
     rt: &R,
     edge: &HostRuntime,
     live: &mut Live,
     workers: u32,
-) -> u8
+) -> Status
     requires some { 1 ≤ workers }
     requires few_workers { workers ≤ 4 }
 {
     let alloc = edge.alloc();
     let Ok(reader) = BufReader::new(alloc, edge.reader()) else {
-        return NO_MEMORY;
+        return Status::NoMemory;
     };
-    let mut lines = ReaderLines { reader };
+    let mut lines = ReaderLines::new(reader);
     let mut out = StdSink::new(edge);
     match serve(rt, alloc, live, &mut lines, &mut out, workers, &OpenGate) {
-        Ok(_) => 0,
+        Ok(_) => Status::Done,
         Err(fault) => status_of(fault),
     }
 }
 
-fn main(rt: HostRuntime) -> ExitCode {
-    let alloc = rt.alloc();
-    let status = match asked_for(&rt, alloc) {
-        Ok(Asked { file, workers }) => match live_on(&rt, &rt, file, workers) {
-            Ok(mut live) => serve_standard(&rt, &rt, &mut live, workers),
-            Err(status) => status,
-        },
+/// Serves what is asked for, and answers how that ends. A line on standard error says what to do then.
+fn serve_asked(rt: &HostRuntime, asked: Asked) -> Status
+    requires some { 1 ≤ asked.workers }
+    requires few_workers { asked.workers ≤ 4 }
+{
+    let Asked { file, workers } = asked;
+    let status = match live_on(rt, rt, file, workers) {
+        Ok(mut live) => serve_standard(rt, rt, &mut live, workers),
         Err(status) => status,
     };
-    ExitCode::from(status)
+    if let Some(advice) = status.advice() {
+        // Where standard error is closed, the status alone reports the fault.
+        let _printed = eprintln!(rt; "reroute_live: {advice}");
+    }
+    status
+}
+
+fn main(rt: HostRuntime) -> ExitCode {
+    let status = match asked_for(&rt, rt.alloc()) {
+        Ok(asked) => serve_asked(&rt, asked),
+        Err(status) => status,
+    };
+    ExitCode::from(status.code())
 }

@@ -2,6 +2,7 @@
 
 mod faults;
 mod gates;
+mod hints;
 mod rows;
 mod runs;
 mod sizes;

@@ -1,7 +1,7 @@
 //! Faults of the outside, files that are too long, and the exit codes of all statuses.
 
 use crate::app::rows::{EMPTY, PARALLEL, ROUND, STRAIGHT, STRAIGHT_OUT};
-use crate::app::runs::{Row, ends, exit_code, faultless};
+use crate::app::runs::{Row, ends, exit_on, faultless};
 use reroute_app::Status;
 use std::alloc::{AllocError, Global};
 use std::process::ExitCode;
@@ -273,8 +273,8 @@ fn ends_with_the_code_of_its_status(rt: HostRuntime) -> Result<(), Fail> {
             failing_write,
             ..faultless(words, diagram, second, Status::Done, None)
         };
-        let ended = exit_code(&rt, rt.alloc(), &row)?;
-        assert!(rt; ended == ExitCode::from(code), "{words}");
+        let ended = exit_on(&rt, rt.alloc(), &row)?;
+        assert!(rt; ended.code() == ExitCode::from(code), "{words}");
     }
     Ok(())
 }

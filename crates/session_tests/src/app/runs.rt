@@ -2,10 +2,9 @@
 
 use host_edge::{MemFolder, MemSink, NamedFile};
 use par_route::{Gate, OpenGate};
-use reroute_app::{Status, exit_code_of, run, run_gated};
+use reroute_app::{Exit, Status, exit_of, run, run_gated};
 use route_search::Tally;
 use std::alloc::{AllocError, Global};
-use std::process::ExitCode;
 use std::thread::Threads;
 
 /// The input of a run, and its expected result.
@@ -159,24 +158,24 @@ pub(crate) fn written(
     written_in_folder(rt, alloc, row, &words, &mut folder)
 }
 
-fn code_in_folder(
+fn exit_in_folder(
     rt: &(impl Threads + Sync),
     alloc: Global,
     row: &Row,
     arguments: Vec<String>,
     folder: &mut MemFolder,
-) -> Result<ExitCode, AllocError> {
+) -> Result<Exit, AllocError> {
     let mut sink = sink(alloc, row)?;
-    Ok(exit_code_of(rt, alloc, Ok(arguments), folder, &mut sink))
+    Ok(exit_of(rt, alloc, &Ok(arguments), folder, &mut sink))
 }
 
-/// The exit code of the program on the row.
-pub(crate) fn exit_code(
+/// How the program ends on the row.
+pub(crate) fn exit_on(
     rt: &(impl Threads + Sync),
     alloc: Global,
     row: &Row,
-) -> Result<ExitCode, AllocError> {
+) -> Result<Exit, AllocError> {
     let mut folder = folder(alloc, row)?;
     let arguments = owned(alloc, row.words)?;
-    code_in_folder(rt, alloc, row, arguments, &mut folder)
+    exit_in_folder(rt, alloc, row, arguments, &mut folder)
 }

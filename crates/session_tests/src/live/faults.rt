@@ -6,9 +6,10 @@ use std::alloc::{AllocError, Global};
 use std::test::Fail;
 
 /// Two boxes and a connector between them.
-const DRAWN: &str = "begin\nnode 1 0 0 20 20\nnode 2 100 0 20 20\nedge 1 2 0 0\ncommit\n";
+pub(crate) const DRAWN: &str =
+    "begin\nnode 1 0 0 20 20\nnode 2 100 0 20 20\nedge 1 2 0 0\ncommit\n";
 
-const DRAWN_REPLIES: &str = "ok\nok\nok\nok\nline 1 0.000 0.000 100.000 0.000\nok\n";
+pub(crate) const DRAWN_REPLIES: &str = "ok\nok\nok\nok\nline 1 0.000 0.000 100.000 0.000\nok\n";
 
 /// Inputs that end, and faults, each with how the session ends.
 fn rows() -> [(Row<'static>, Result<End, ServeFault>); 7] {
@@ -85,7 +86,7 @@ fn is_as_after_the_line_whose_reply_was_not_written(rt: HostRuntime) {
 }
 
 /// Appends a comment of this many bytes in all, at least 1, and a line feed.
-fn push_comment(out: &mut Vec<u8>, length: usize) -> Result<(), AllocError> {
+pub(crate) fn push_comment(out: &mut Vec<u8>, length: usize) -> Result<(), AllocError> {
     out.push(b'#')?;
     for _ in 1..length {
         out.push(b'x')?;

@@ -2,7 +2,7 @@
 
 use diagram_read::scene_of;
 use gml_text::parse;
-use host_edge::{MemLines, MemSink};
+use host_edge::{LineSource, MemLines, MemSink};
 use live_replies::{End, Live, ServeFault, serve};
 use par_route::OpenGate;
 use std::alloc::{AllocError, Global};
@@ -62,6 +62,23 @@ fn opened<R: Threads + Sync>(rt: &R, alloc: Global, diagram: &str) -> Option<Liv
     Live::open(rt, alloc, doc, scene, 1, &OpenGate).ok()
 }
 
+/// Serves these lines, with the output of the row.
+fn serve_lines<R: Threads + Sync, L: LineSource>(
+    rt: &R,
+    alloc: Global,
+    live: &mut Live,
+    lines: &mut L,
+    row: &Row,
+) -> Result<Verdict, AllocError> {
+    let writes = Vec::from_slice(alloc, &[row.failing_write])?;
+    let mut out = MemSink::new(alloc, row.most.max(1), writes);
+    let end = serve(rt, alloc, live, lines, &mut out, 2, &OpenGate);
+    Ok(Verdict {
+        end,
+        is_written: out.held() == row.written.as_bytes(),
+    })
+}
+
 /// Serves the input of the row.
 fn serve_row<R: Threads + Sync>(
     rt: &R,
@@ -70,14 +87,19 @@ fn serve_row<R: Threads + Sync>(
     row: &Row,
 ) -> Result<Verdict, AllocError> {
     let reads = Vec::from_slice(alloc, &[row.failing_read])?;
-    let writes = Vec::from_slice(alloc, &[row.failing_write])?;
     let mut lines = MemLines::new(alloc, row.input, reads)?;
-    let mut out = MemSink::new(alloc, row.most.max(1), writes);
-    let end = serve(rt, alloc, live, &mut lines, &mut out, 2, &OpenGate);
-    Ok(Verdict {
-        end,
-        is_written: out.held() == row.written.as_bytes(),
-    })
+    serve_lines(rt, alloc, live, &mut lines, row)
+}
+
+/// The result of a session with these lines in place of the row's, if it can be opened.
+pub(crate) fn reported_lines<R: Threads + Sync, L: LineSource>(
+    rt: &R,
+    alloc: Global,
+    lines: &mut L,
+    row: &Row,
+) -> Option<Verdict> {
+    let mut live = opened(rt, alloc, row.diagram)?;
+    serve_lines(rt, alloc, &mut live, lines, row).ok()
 }
 
 /// Serves the inputs of two rows, one after the other.

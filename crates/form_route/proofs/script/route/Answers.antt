@@ -33,7 +33,7 @@ returns g c =
     let replies = c.in_ok-replayed.replayed.replies.items in
     let w = c.in_ok-replayed.replayed.session.world in
     let answers = c.in_ok-replayed.replayed.session.book in
-    made t c.args.scene c.args.commands.now count replies w answers opening c.into_tally-tally.result c.in_ok-text.text.items c.has_refusal-is_refused.result
+    made t c.args.scene c.args.commands.now count replies w answers opening c.into_tally-tally.result c.in_ok-text.text.items c.has_refusal-is_refused.result c.unrouted_of-unrouted.result
     c.in_ok-replayed.ensures.world
     c.in_ok-replayed.ensures.replies
     c.in_ok-replayed.ensures.opening
@@ -42,3 +42,4 @@ returns g c =
     (of_ok (λ text. IfOk (scene_of t) (λ was. IsOutput t was count opening c.deref.result.now w answers text.items)) c.output-written.result c.in_ok-text.text c.in_ok-text.was c.output-written.ensures)))
     (c.has_refusal-is_refused.ensures ∙ ap (λ rs. has_refusal rs w) c.deref-2.ensures.value)
     (c.into_tally-tally.ensures ∙ c.in_ok-replayed.ensures.searched)
+    c.unrouted_of-unrouted.ensures
