@@ -1,12 +1,18 @@
 -- Where a checkpoint is no crossing there is no walk. The lists are those of the arena, and there are rows for their lines in all stages.
-use Rattle.std.proofs.Common.{◌≡◌, ℕ, All, ◌+◌, ◌*◌, ◌<◌, ◌≤◌, length, sym, ap, subst, ◌∙◌, arith}
+-- Where no exit is kept, no row lacks its mark.
+use Rattle.std.proofs.Common.{◌≡◌, ℕ, [], inl, All, Global, Vec, ◌+◌, ◌*◌, ◌<◌, ◌≤◌, length, sym, ap, subst, ◌∙◌, arith}
 use Rattle.std.proofs.Math.Nat.{mul-le-mul_right}
 use Rattle.std.proofs.lemmas.Bool.{false≢true}
+use Rattle.std.proofs.lemmas.List.Elements.{All-nil}
 use Rattle.std.proofs.lemmas.Option.{slice_get_within}
 use Rattle.plane_geom.specs.declared.point.Point.{Point}
 use Rattle.plane_geom.specs.Along.{way_of}
 use Rattle.walk_model.specs.declared.task.Task.{Task}
 use Rattle.line_arena.specs.Arena.{Arena, IsArena, StandsAt}
+use Rattle.walk_laws.proofs.OnKeptLines.Lines.{chosen}
+use Rattle.exit_rows.specs.Rows.{IsClear, IsMarked}
+use Rattle.exit_rows.specs.declared.exit.Kept.{Kept}
+use Rattle.exit_rows.specs.declared.rows.Rows.{Rows}
 use Rattle.line_lists.specs.Lists.{AreListsOf, number_of}
 use Rattle.route_search.proofs.Checkpoints.{no_walk_past}
 use Rattle.route_search.proofs.Matching.{lists_are}
@@ -17,6 +23,22 @@ row_within : (k m l n rows : ℕ) → k ≤ m → l < n → (m + 1) * n * 2 ≤ 
 row_within k m l n rows stage line all =
     let more : (k + 1) * n ≤ (m + 1) * n = mul-le-mul_right n (omega (arith, stage)) in
     omega (arith, more, line, all)
+
+-- where no exit is kept and no row is marked, each row with an exit is marked
+marked_where_clear : (t : Rows) → IsClear t → IsMarked t
+marked_where_clear t clear = record {
+  rows = λ k row at. inl (chosen (λ (r : Vec Kept Global). r.items ≡ []) t.rows.items k row at clear.rows);
+  marks = subst (All (λ k. k < length t.rows.items)) (sym clear.marks) (All-nil (λ k. k < length t.rows.items));
+}
+
+pub returns-then-not-are_crossings-clause-marked : goal.returns-then-not-are_crossings-clause-marked
+returns-then-not-are_crossings-clause-marked c = marked_where_clear c.args.spread.now.rows c.requires.none.rows
+
+pub returns-in_err-fit-clause-marked : goal.returns-in_err-fit-clause-marked
+returns-in_err-fit-clause-marked c = marked_where_clear c.fit.new.self c.fit.ensures.clear
+
+pub returns-in_err-problem-clause-marked : goal.returns-in_err-problem-clause-marked
+returns-in_err-problem-clause-marked c = marked_where_clear c.fit.new.self c.fit.ensures.clear
 
 pub returns-then-not-are_crossings-clause-answer : goal.returns-then-not-are_crossings-clause-answer
 returns-then-not-are_crossings-clause-answer c =
