@@ -5,7 +5,7 @@ All costs are in units of the diagram. The scene, its edges, ends and boxes are 
 import itertools
 
 # What a picture costs, besides the lengths of its lines.
-BEND, CROSSING, TOUCH, OVERLAP, CLOSE, SHORT, UNROUTED = 50, 60, 30, 300, 37, 25, 10000
+BEND, CROSSING, TOUCH, OVERLAP, CLOSE, SHORT, UNROUTED = 80, 54, 30, 300, 37, 25, 10000
 # Runs nearer than NEAR are close, end runs under HEAD are short for an arrow head, and pins keep PAD from corners.
 NEAR, HEAD, PAD = 3, 9, 4
 OPPOSITE = dict(zip('NESW', 'SWNE'))
@@ -45,6 +45,16 @@ class Drawn:
         xs, ys = zip(*seen)
         self.frame = min(xs), min(ys), max(xs), max(ys)
         self.known = {}                             # what it costs together with some other lines
+
+    def side_and_order(self, end):
+        """The side by which the line leaves one of its ends, and its order among those that leave there: by its turn, then how far
+        that is."""
+        corners = self.corners[::-1] if end.k else self.corners
+        (x, y), (u, v) = corners[:2]
+        side = ('E' if u > x else 'W') if abs(u - x) > abs(v - y) else ('S' if v > y else 'N')
+        way, far = 0 if side in 'NS' else 1, abs(u - x) + abs(v - y)
+        turn = corners[2][way] - corners[1][way] if len(corners) > 2 else 0
+        return side, ((turn > 0) - (turn < 0), far if turn < 0 else -far if turn > 0 else 0, corners[-1][way], end.tie())
 
     def cost_with(self, other, unit):
         cost = self.known.get(other, other.known.get(self))
@@ -126,22 +136,51 @@ def untidy(row, box):
     return total
 
 
+def fitted(wants, low, high, gap):
+    """Places as near to the wanted ones (place, weight) as their order, the gap and the limits allow, by least squares."""
+    blocks = []
+    for i, (want, weight) in enumerate(wants):
+        blocks.append([(want - i * gap) * weight, weight, 1])
+        while len(blocks) > 1 and blocks[-2][0] * blocks[-1][1] >= blocks[-1][0] * blocks[-2][1]:
+            part, weight, count = blocks.pop()
+            blocks[-1] = [blocks[-1][0] + part, blocks[-1][1] + weight, blocks[-1][2] + count]
+    flat = [part / weight for part, weight, count in blocks for _ in range(count)]
+    return [round(min(max(value, low), high - (len(wants) - 1) * gap)) + i * gap for i, value in enumerate(flat)]
+
+
 # ---- what a line costs at least ----
 
 class Estimates:
     """What the line of an edge costs at least with some sides, if only other boxes are in its way."""
 
     def __init__(self, scene, buffer):
-        self.scene, self.buffer, self.known = scene, buffer, {}
-        self.walls = [(box, box.x - box.w // 2 - buffer, box.x + box.w // 2 + buffer, box.y - box.h // 2 - buffer,
-                       box.y + box.h // 2 + buffer) for box in scene.solids]
+        self.scene, self.buffer, self.known, self.near = scene, buffer, {}, {}
+        self.walls = [(box, *self.wall(box)) for box in scene.solids]
+
+    def wall(self, box):
+        """The left, right, top and bottom of a box with the buffer round it."""
+        w, h = box.w // 2 + self.buffer, box.h // 2 + self.buffer
+        return box.x - w, box.x + w, box.y - h, box.y + h
+
+    def between(self, boxes):
+        """The walls of other boxes that meet the rectangle round two boxes, in which simple lines run."""
+        if boxes not in self.near:
+            lefts, rights, tops, bottoms = zip(*map(self.wall, boxes))
+            x, u, y, v = min(lefts), max(rights), min(tops), max(bottoms)
+            self.near[boxes] = [(left, right, top, bottom) for box, left, right, top, bottom in self.walls
+                                if left < u and x < right and top < v and y < bottom and box not in boxes]
+        return self.near[boxes]
 
     def is_clear(self, line, boxes):
+        walls = self.between(boxes)
         for (x, y), (u, v) in zip(line, line[1:]):
-            x, u, y, v = min(x, u), max(x, u), min(y, v), max(y, v)
-            if any(left < u and x < right and top < v and y < bottom and box not in boxes
-                   for box, left, right, top, bottom in self.walls):
-                return False
+            if x > u:
+                x, u = u, x
+            if y > v:
+                y, v = v, y
+            for left, right, top, bottom in walls:
+                if left < u and x < right and top < v and y < bottom:
+                    return False
         return True
 
     def port(self, box, side, t):

@@ -7,20 +7,20 @@
 Lengths are whole thousandths. `choose` keeps a buffer, nudge and penalty that the diagram sets, unless it is given others.
 Both raise `gml.Fault` for a diagram that is none, or a program that does not run. The same input gives the same choice.
 
-`choose` asks a running reroute_live for the lines and judges the whole picture (`Picture`). It begins with the better of two
-ways to give sides, takes the best buffer, and then tries other places and sides edge by edge, each by a preview.
+`choose` asks a running reroute_live for the lines and judges the whole picture (`Picture`). It begins with the best of some
+ways to give sides, and then tries other places and sides by previews: of many edges at once, and edge by edge.
 """
 import collections
 import itertools
 
 import gml
 import session as sessions
-from costs import BEND, NEAR, OPPOSITE, PAD, Estimates, Picture, untidy
+from costs import NEAR, OPPOSITE, PAD, Estimates, Picture, fitted, untidy
 
-TRIES, EFFORT, SIDES_TRIED = 1000, 12_000_000, 5    # (the effort is tries by the square of the number of edges)
+TRIES, EFFORT, SIDES_TRIED = 1000, 13_000_000, 5    # (the effort is tries by the square of the number of edges)
 MOST_PINS, SIDES = 255, 'NESW'      # (one pin less than a diagram has, since an end that moves has two for a moment)
 # Lengths in units; a pin is at most REACH from the place that is nearest to its other end.
-BUFFERS, NUDGE = (12, 10, 8, 6, 4, 2, 1), 8
+BUFFERS, NUDGE, PENALTY = (12, 10, 8, 6, 4, 2, 1), 8, 50
 GAP, REACH, USUAL_SIDE = 8, 30, 36
 
 
@@ -169,6 +169,10 @@ class Scene:
             found[end.box, end.side].append(end)
         return found
 
+    def face(self):
+        for end in self.ends:
+            end.side = facing_side(end.box, end.far)
+
     def choose_bare(self):
         """Where there are more ends than pins: those alone on their side have none, then those of the emptiest sides."""
         over, self.bare = len(self.ends) + self.kept - MOST_PINS, set()
@@ -178,18 +182,6 @@ class Scene:
 
 
 # ---- places on a side ----
-
-def fitted(wants, low, high, gap):
-    """Places as near to the wanted ones (place, weight) as their order, the gap and the limits allow, by least squares."""
-    blocks = []
-    for i, (want, weight) in enumerate(wants):
-        blocks.append([(want - i * gap) * weight, weight, 1])
-        while len(blocks) > 1 and blocks[-2][0] * blocks[-1][1] >= blocks[-1][0] * blocks[-2][1]:
-            part, weight, count = blocks.pop()
-            blocks[-1] = [blocks[-1][0] + part, blocks[-1][1] + weight, blocks[-1][2] + count]
-    flat = [part / weight for part, weight, count in blocks for _ in range(count)]
-    return [round(min(max(value, low), high - (len(wants) - 1) * gap)) + i * gap for i, value in enumerate(flat)]
-
 
 class Places:
     """Gives ends their places on the sides that they have."""
@@ -274,15 +266,6 @@ def order_by_angle(end):
     return 1 if along > 0 else -1, -along, 0, end.tie()
 
 
-def side_and_order(corners, end):
-    """The side by which a line leaves, and its order among those that leave there: by its turn, then how far that is."""
-    (x, y), (u, v) = corners[:2]
-    side = ('E' if u > x else 'W') if abs(u - x) > abs(v - y) else ('S' if v > y else 'N')
-    way, far = 0 if side in 'NS' else 1, abs(u - x) + abs(v - y)
-    turn = corners[2][way] - corners[1][way] if len(corners) > 2 else 0
-    return side, ((turn > 0) - (turn < 0), far if turn < 0 else -far if turn > 0 else 0, corners[-1][way], end.tie())
-
-
 # ---- the search ----
 
 class Search:
@@ -348,7 +331,7 @@ class Search:
         for end in self.scene.ends:
             drawn = self.picture.drawn[end.edge.place]
             if drawn and len(drawn.corners) > 1:
-                side, order = side_and_order(drawn.corners[::-1] if end.k else drawn.corners, end)
+                side, order = drawn.side_and_order(end)
                 if gives_sides or side == end.side:
                     end.side, end.order = side, order
 
@@ -359,20 +342,25 @@ class Search:
             sides = min(choices, key=lambda sides: (self.estimates.of(edge, *sides), OPPOSITE[sides[0]] != sides[1]))
             for end in filter(None, edge.ends):
                 end.side = sides[end.k] if end.other else facing_side(end.box, end.far)
-        for end in self.scene.ends:
-            end.order = order_by_angle(end)
+
+    def by_better(self, starts):
+        """Gives the ends of each edge the sides that they have where it costs least."""
+        found = {place: min(starts, key=lambda start: start[2][place])[1] for place in self.picture.edges}
+        for i, end in enumerate(self.scene.ends):
+            end.side, _ = found[end.edge.place][i]
 
     def start(self):
-        """Commits the better of two ways to give sides: by the lines without pins, or where they cost least."""
-        self.by_lines()
-        self.places.place_all(self.estimates)
-        self.give_pins()
-        total, state = self.reordered(), self.state()
-        self.by_least()
-        self.places.place_all(self.estimates)
-        self.commit()
-        if self.reordered() > total:
-            self.restore(state)
+        """Commits the best of some ways to give sides: by the lines without pins, by the boxes, by the best for each edge."""
+        starts = []                                 # (what the picture costs, the state, what each edge costs)
+        for give_sides in (self.by_lines, self.scene.face, self.by_least, lambda: self.by_better(starts)):
+            give_sides()
+            for end in self.scene.ends if starts else ():
+                end.order = order_by_angle(end)
+            self.places.place_all(self.estimates)
+            self.commit() if starts else self.give_pins()
+            total = self.reordered()
+            starts.insert(0, (total, self.state(), {place: self.picture.of_edge(place) for place in self.picture.edges}))
+        self.restore(min(starts[1:] + starts[:1], key=lambda start: start[0])[1])
         self.commit()
 
     def reordered(self):
@@ -385,6 +373,7 @@ class Search:
             self.commit()
             if self.picture.total() >= total:
                 self.restore(now)
+                self.commit()
                 break
             total = self.picture.total()
         return total
@@ -399,28 +388,60 @@ class Search:
 
     # (moves; each puts ends elsewhere and yields, and finds them where they were when it goes on)
 
-    def best_of(self, moves):
-        """Asks what each of the moves would change, and commits the best one; what the picture gains by it."""
-        if self.used >= self.tries:
-            return 0.0
-        now, best, best_state, seen = self.state(), -1.0, None, set()
-        for _ in moves:
-            rows, kinds = self.edits()
-            state, looks = self.state(), self.looks(kinds)
+    def plans(self, edge, moves):
+        """The sides and places that each of the moves gives the ends at the boxes of an edge."""
+        now, found = self.state(), []
+        for _ in itertools.chain([None], moves):
+            plan = {end: (end.side, end.t) for box in edge.boxes for end in box.ends}
+            if plan not in found:
+                found.append(plan)
             self.restore(now)
-            if rows and tuple(rows) not in seen:
-                seen.add(tuple(rows))
-                found, _ = self.session.ask(['begin', *rows, 'preview', 'abort'])
-                self.used += 1
-                if self.say and self.used % 100 == 0:
-                    self.say(f'tried {self.used} places of pins, of at most {self.tries}')
-                more = self.picture.more_with(found) + looks - self.looks(kinds)
-                if more < best:
-                    best, best_state = more, state
-        if best_state:
-            self.restore(best_state)
+        return found[1:]                            # (the first is the present one)
+
+    def previewed(self, plans):
+        """Puts ends where some plans have them; the lines that would change."""
+        for end, place in itertools.chain.from_iterable(plan.items() for plan in plans):
+            end.side, end.t = place
+        self.used += 1
+        if self.say and self.used % 100 == 0:
+            self.say(f'tried {self.used} places of pins, of at most {self.tries}')
+        return self.session.ask(['begin', *self.edits()[0], 'preview', 'abort'])[0]
+
+    def best_of(self, edges, moves):
+        """Tries moves of edges that share no box, one of each edge at a time, and commits the best of each if the picture gains by
+        them; how much that is. An edge alone is judged by the whole picture, else each by what it costs itself."""
+        now, trials, best = self.state(), [self.plans(edge, moves(edge)) for edge in edges], [(0.0, {}) for _ in edges]
+        looks = [self.looks(edge.boxes) for edge in edges]
+        for plans in itertools.zip_longest(*trials, fillvalue={}):
+            if self.used < self.tries:
+                lines = self.previewed(plans)
+                drawn = {**self.picture.drawn, **self.picture.drawn_from(lines)}
+                for i, (edge, plan) in enumerate(zip(edges, plans)):
+                    more = self.looks(edge.boxes) - looks[i]
+                    more += self.picture.cost([edge.place], drawn) - self.picture.of_edge(edge.place) if edges[1:] else \
+                        self.picture.more_with(lines)
+                    best[i] = (more, plan) if plan and more < best[i][0] else best[i]
+                self.restore(now)
+        more = 0.0
+        if any(plan for _, plan in best):
+            more = self.picture.more_with(self.previewed(plan for _, plan in best))
+            more += sum(self.looks(edge.boxes) for edge in edges) - sum(looks)
+        if more < -1:
             self.commit()
-        return -best if best_state else 0.0
+            return -more
+        self.restore(now)
+        return 0.0
+
+    def groups(self):
+        """The edges that may gain something in groups of which no two share a box."""
+        groups = []
+        for edge in self.by_gain():
+            boxes, group = next((pair for pair in groups if pair[0].isdisjoint(edge.boxes)), (set(), []))
+            if not group:
+                groups.append((boxes, group))
+            boxes.update(edge.boxes)
+            group.append(edge)
+        return [group for _, group in groups]
 
     def looks(self, boxes):
         return sum(untidy(box.row(side), box) for box in boxes for side in SIDES)
@@ -451,8 +472,8 @@ class Search:
                 self.places.refit(end.box, end.side, end)
             yield
 
-    def places_tried(self, edge):
-        """Other places of the ends on their sides."""
+    def moves(self, edge):
+        """Other places of the ends on their sides, and other sides."""
         if all(edge.ends) and edge.ends[0].faces() and not edge.ends[0].is_straight():
             yield from self.aligned(edge, 4)
         for end in filter(None, edge.ends):
@@ -462,20 +483,7 @@ class Search:
                 if all(abs(spot - at) >= NEAR * self.scene.unit for at in taken):
                     end.t = spot - middle
                     yield
-
-    def orders_tried(self, edge):
-        """The ends moved in their rows: behind the next one, or to the place of one whose line theirs crosses or touches."""
-        drawn = self.picture.drawn
-        for end in filter(None, edge.ends):
-            row = end.box.row(end.side)
-            i, spots, mine = row.index(end), [other.t for other in row], drawn[edge.place]
-            for j, theirs in enumerate(drawn[other.edge.place] for other in row):
-                if j == i + 1 or j != i and mine and theirs and mine.cost_with(theirs, self.scene.unit):
-                    order = row[:i] + row[i + 1:]
-                    order.insert(j, end)
-                    for moved, t in zip(order, spots):
-                        moved.t = t
-                    yield
+        yield from self.sides_tried(edge)
 
     def put_on(self, end, side, by_angle):
         """Puts an end on another side, by its angle among those that are there, or as near to the other box as can be."""
@@ -491,10 +499,11 @@ class Search:
         present, cost = tuple(end.side if end else ' ' for end in edge.ends), self.picture.of_edge(edge.place)
         choices = itertools.product(*(SIDES if end else ' ' for end in edge.ends))
         choices = sorted((self.estimates.of(edge, *sides), sides) for sides in choices if sides != present)
-        for sides in [sides for least, sides in choices if least < cost - 10][:SIDES_TRIED]:
+        choices = [sides for least, sides in choices if least < cost - 10][:SIDES_TRIED]
+        for sides in choices:
             moved = [(end, side) for end, side in zip(edge.ends, sides) if end and end.side != side]
             left = [(end.box, end.side) for end, _ in moved]
-            for evenly in (True, False):
+            for evenly in (False, True) if sides == choices[0] else (True,):
                 for end, side in moved:
                     self.put_on(end, side, by_angle=evenly)
                 for box, side in [*left, *((end.box, side) for end, side in moved)]:
@@ -503,18 +512,6 @@ class Search:
                     yield from self.aligned(edge, 3)
                     break
                 yield
-
-    def replaced(self):
-        """All places anew, in their order and by the lines."""
-        self.places.place_all(self.estimates, keeps_order=True)
-        yield
-        self.by_lines(gives_sides=False)
-        self.places.place_all(self.estimates)
-        yield
-
-    def surroundings(self, edge):
-        """What the trials of an edge depend on most: its cost, and the ends at its boxes."""
-        return round(self.picture.of_edge(edge.place), 1), [(end.side, end.t) for box in edge.boxes for end in box.ends]
 
     def by_gain(self):
         """The edges that may gain something, those first that may gain most."""
@@ -526,12 +523,12 @@ class Search:
         return [self.picture.edges[place] for more, place in sorted(found) if more < -10]
 
     def improve(self):
-        """One round over the edges; what the picture gains."""
+        """One round over the edges whose cost or boxes are not as when their moves failed; what the picture gains."""
         gained = 0.0
         for edge in self.by_gain():
-            surroundings = self.surroundings(edge)
+            surroundings = round(self.picture.of_edge(edge.place), 1), [(end.side, end.t) for box in edge.boxes for end in box.ends]
             if self.failed.get(edge) != surroundings and self.used < 7 * self.tries // 8:
-                more = sum(self.best_of(moves(edge)) for moves in (self.places_tried, self.orders_tried, self.sides_tried))
+                more = self.best_of([edge], self.moves)
                 gained += more
                 self.failed[edge] = None if more else surroundings
         return gained
@@ -539,22 +536,24 @@ class Search:
     def tidy(self):
         """Evens sides, and moves straight lines off corners, where the picture does not suffer."""
         for box, side in self.scene.rows():
-            if untidy(box.row(side), box) > 4:
-                self.best_of(self.places.refit(box, side) for _ in range(1))
+            row = box.row(side)
+            if untidy(row, box) > 4:
+                self.best_of([row[0].edge], lambda edge: (self.places.refit(box, side) for _ in range(1)))
         for edge in self.scene.edges:
             if all(edge.ends) and edge.ends[0].is_straight() and any(untidy([end], end.box) > 2 for end in edge.ends):
-                self.best_of(self.aligned(edge, 3))
+                self.best_of([edge], lambda edge: self.aligned(edge, 3))
 
     def go(self, buffers):
         self.set_buffer(buffers[len(buffers) // 2])
         self.start()
         for number in range(6):
-            if number < 2:
+            for group in self.groups() if number < 2 else ():
+                self.best_of(group, self.moves)
+            gained = self.improve()
+            if number == 0:
                 self.settle(buffers)
-            gained = self.best_of(self.replaced()) + self.improve()
-            if gained < 0.001 * self.picture.total():
+            elif gained < 0.001 * self.picture.total():
                 break
-        self.best_of(self.replaced())
         self.tidy()
 
 
@@ -568,7 +567,7 @@ def choose(data, live='reroute_live', buffer=None, nudge=None, tries=None, say=N
     if nudge is not None or not gml.first(router, 'nudge'):
         settings['nudge'] = NUDGE * scene.unit if nudge is None else nudge
     if scene.unit < 1000 and not gml.first(router, 'penalty'):
-        settings['penalty'] = BEND * scene.unit
+        settings['penalty'] = PENALTY * scene.unit
     with sessions.Session(live, data) as session:
         search = Search(scene, session, tries, say)
         search.commit(*(f'set {name} {gml.units(value)}' for name, value in settings.items()))
@@ -582,8 +581,7 @@ def plain(data, buffer=None, nudge=None):
     """Pins on the sides that face the other boxes, evenly spread, in the order of the directions."""
     diagram = gml.read(data)
     scene = Scene(diagram)
-    for end in scene.ends:
-        end.side = facing_side(end.box, end.far)
+    scene.face()
     for (box, side), row in scene.rows().items():
         for i, end in enumerate(sorted(row, key=order_by_angle), 1):
             end.t = box.room(side) * i // (len(row) + 1) - box.room(side) // 2

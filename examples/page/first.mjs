@@ -1,4 +1,4 @@
-// The diagram that the page begins with; its pins are those that tools/reroute-pins gives it.
+// The diagram that the page begins with; each end of its connectors has a pin of its own.
 export const HINT = 13; // the box that it asks to drag
 export const FIRST = `graph [
   router [ buffer 12 nudge 8 ]
