@@ -15,7 +15,7 @@ LITTLE = 12_000_000
 EMPTY = 'graph [ ]'
 BREACH = """graph [ node [ id 1 graphics [ x 0 y 0 w 20 h 20 ] ] node [ id 2 graphics [ x 100 y 0 w 20 h 20 ] ]
   edge [ source 1 target 2 graphics [ Line [ point [ x 0 y 1 ] point [ x 100 y 1 ] ] ] ] ]"""
-# A box in a larger one, two others, a loop, and edges of which two begin in the larger one.
+# A box in a larger one, two others, and edges of which two end in the larger one.
 COVERED = """begin
 node 1 0 0 20 20
 node 2 200 0 20 20
@@ -24,7 +24,6 @@ node 4 200 100 20 20
 edge 1 2 0 0
 edge 2 4 0 0
 edge 4 1 0 0
-edge 2 2 0 0
 commit
 """
 ONE_COVERED = COVERED.replace('edge 4 1 0 0\n', '')

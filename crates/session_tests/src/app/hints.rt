@@ -5,10 +5,10 @@ use crate::app::runs::{Row, exit_on, faultless};
 use reroute_app::{Exit, Hint, Place, Status, Unrouted};
 use std::test::Fail;
 
-/// A box in a larger one, two others, a loop, and edges of which two begin in the larger one.
+/// A box in a larger one, two others, and edges of which two end in the larger one.
 const COVERED: &[u8] =
     b"begin\nnode 1 0 0 20 20\nnode 2 200 0 20 20\nnode 3 0 0 60 60\nnode 4 200 100 20 20\n\
-    edge 1 2 0 0\nedge 2 4 0 0\nedge 4 1 0 0\nedge 2 2 0 0\ncommit\n";
+    edge 1 2 0 0\nedge 2 4 0 0\nedge 4 1 0 0\ncommit\n";
 
 /// The place of this line and column.
 fn at(line: usize, column: usize) -> Hint {

@@ -1,5 +1,8 @@
 -- An outcome has a status of its own, and not that of a failed write or of want of memory.
+use Rattle.std.proofs.Common.{refl, ap, subst, ◌∙◌}
+use Rattle.std.specs.Io.KnownBytes.{append_known}
 use Rattle.std.specs.Prelude.{map, string_bytes}
+use Rattle.host_edge.specs.Sink.{AppendsPart}
 use Rattle.script_replay.proofs.Replying.{one_list_of_replies}
 use Rattle.reroute_app.specs.View.{view}
 use Rattle.reroute_app.proofs.Causes.{outcome_written}
@@ -13,3 +16,21 @@ returns-in-Ok-write_all_to-clause-nothing g c = λ is. absurd ((outcome_written 
 
 pub returns-in-Ok-write_all_to-clause-silent : goal.returns-in-Ok-write_all_to-clause-silent
 returns-in-Ok-write_all_to-clause-silent g c = λ failed. absurd (failed (outcome_written (map string_bytes c.args.words.now) _ _ _ one_list_of_replies c.proposals_come_to_one.ensures c.certificates_come_to_one.ensures.audit (view c.in-Ok.outcome) c.in-Ok.ensures.outcome))
+
+pub returns-in-Ok-write_all_to-clause-whole : goal.returns-in-Ok-write_all_to-clause-whole
+returns-in-Ok-write_all_to-clause-whole g c = λ written. record {
+  writes = record {
+    outcome = view c.in-Ok.outcome;
+    is_outcome = c.in-Ok.ensures.outcome;
+    status = refl;
+    written = c.in-Ok-write_all_to.ensures.put ∙ ap (append_known (g.O.Sink.held c.args.out.now)) c.deref.ensures.value;
+  };
+  tells = c.told.ensures;
+}
+
+pub returns-clause-part : goal.returns-clause-part
+returns-clause-part g c = λ failed. record {
+  outcome = view c.in-Ok.outcome;
+  is_outcome = c.in-Ok.ensures.outcome;
+  part = subst (AppendsPart (g.O.Sink.held c.args.out.now) (g.O.Sink.held c.write_all_to.new.out)) c.deref.ensures.value c.in-Err.ensures.part;
+}
