@@ -1,51 +1,49 @@
--- Tasks cut into pieces, one piece after the other.
+-- A list cut into pieces, one piece after the other.
 use Rattle.std.proofs.Common.{ℕ, ◌≡◌, ◌+◌, ◌-◌, ◌*◌, ◌/◌, ◌%◌, ◌<◌, ◌≤◌, List, [], ◌∷◌, ◌++◌, refl, sym, ◌∙◌, length, get_or, arith, ◌⊎◌, inl, inr}
 use Rattle.std.specs.List.{All}
 use Rattle.std.proofs.lemmas.Bool.{cases_lt}
 use Rattle.std.proofs.lemmas.List.{length-append, append_assoc, append-nil, get_or_append_left, get_or-append_right, flat_map_more}
 use Rattle.std.proofs.lemmas.List.Elements.{All-cons, All-nil}
-use Rattle.walk_model.specs.declared.task.Task.{Task}
 use Rattle.par_route.specs.declared.pieces.Piece.{Piece}
-use Rattle.par_route.specs.Pieces.{AreCut, all_tasks, piece_length}
+use Rattle.par_route.specs.Pieces.{AreCut, all_items, piece_length}
 use Rattle.par_route.proofs.Lengths.{empty, left_first, left_more, longer_even, longer_falls, mod_small, none_left}
 use Rattle.par_route.proofs.Zips.{All-back, All-front}
 
--- the piece with this place has its number, its length and a tally of its own
-pub record IsPieceAt (tasks count place : ℕ) (p : Piece) : Type 0 where
+-- the piece with this place has its number and its length
+pub record IsPieceAt {T : Type 0} (items count place : ℕ) (p : Piece T) : Type 0 where
   pub number : p.number ≡ place + 1
-  pub len : length p.tasks.now ≡ piece_length tasks count place
-  pub idle : p.tally ≡ 0
+  pub len : length p.items.now ≡ piece_length items count place
 
 -- the first pieces are cut, and the rest is to be cut into the remaining number of pieces
-pub record AreCutSoFar (all rest : List Task) (count done : ℕ) (pieces : List Piece) : Type 0 where
+pub record AreCutSoFar {T : Type 0} (all rest : List T) (count done : ℕ) (pieces : List (Piece T)) : Type 0 where
   pub small : length all % count ≤ count
   pub within : done ≤ count
   pub len : length pieces ≡ done
-  pub tasks : all_tasks pieces ++ rest ≡ all
+  pub items : all_items pieces ++ rest ≡ all
   pub left : length rest ≡ (count - done) * (length all / count) + (length all % count - done)
-  pub each : (i : ℕ) (d : Piece) → i < done → IsPieceAt (length all) count i (get_or pieces i d)
+  pub each : (i : ℕ) (d : Piece T) → i < done → IsPieceAt (length all) count i (get_or pieces i d)
 
 -- no piece is cut yet
-pub start : (all : List Task) (count : ℕ) → (count ≡ 0 → length all ≡ 0) → AreCutSoFar all all count 0 []
+pub start : {T : Type 0} (all : List T) (count : ℕ) → (count ≡ 0 → length all ≡ 0) → AreCutSoFar all all count 0 []
 start all count none = record {
   small = mod_small (length all) count none;
   within = omega arith;
   len = refl;
-  tasks = refl;
+  items = refl;
   left = left_first (length all) count;
   each = λ i d lt. absurd (omega (arith, lt));
 }
 
 -- the next piece is within what is left
-pub fits : (all rest : List Task) (count done : ℕ) (pieces : List Piece) → AreCutSoFar all rest count done pieces → done < count → piece_length (length all) count done ≤ length rest
+pub fits : {T : Type 0} (all rest : List T) (count done : ℕ) (pieces : List (Piece T)) → AreCutSoFar all rest count done pieces → done < count → piece_length (length all) count done ≤ length rest
 fits all rest count done pieces so_far lt = omega (arith, so_far.left, left_more (length all) count done lt)
 
 -- the pieces so far and one more
-each_more : (tasks count done : ℕ) (pieces : List Piece) (p : Piece) → length pieces ≡ done → ((i : ℕ) (d : Piece) → i < done → IsPieceAt tasks count i (get_or pieces i d)) → IsPieceAt tasks count done p →
-    (i : ℕ) (d : Piece) → i < done + 1 → IsPieceAt tasks count i (get_or (pieces ++ p ∷ []) i d)
-each_more tasks count done pieces p len each last i d lt = by_place (cases_lt i done)
+each_more : {T : Type 0} (items count done : ℕ) (pieces : List (Piece T)) (p : Piece T) → length pieces ≡ done → ((i : ℕ) (d : Piece T) → i < done → IsPieceAt items count i (get_or pieces i d)) → IsPieceAt items count done p →
+    (i : ℕ) (d : Piece T) → i < done + 1 → IsPieceAt items count i (get_or (pieces ++ p ∷ []) i d)
+each_more {T = T} items count done pieces p len each last i d lt = by_place (cases_lt i done)
   where
-    by_place : (i < done) ⊎ (done ≤ i) → IsPieceAt tasks count i (get_or (pieces ++ p ∷ []) i d)
+    by_place : (i < done) ⊎ (done ≤ i) → IsPieceAt items count i (get_or (pieces ++ p ∷ []) i d)
     by_place (inl before) = rw (get_or_append_left pieces (p ∷ []) d i (omega (arith, len, before))) (each i d before)
     by_place (inr behind) =
         let same : i ≡ done = omega (arith, lt, behind) in
@@ -53,31 +51,31 @@ each_more tasks count done pieces p len each last i d lt = by_place (cases_lt i 
         rw (get_or-append_right pieces (p ∷ []) done i d len behind, none, same) last
 
 -- one more piece is cut
-pub step : (all rest mine others : List Task) (count done : ℕ) (pieces : List Piece) (p : Piece) → AreCutSoFar all rest count done pieces → done < count →
-    rest ≡ mine ++ others → length mine ≡ piece_length (length all) count done → p.tasks.now ≡ mine → p.number ≡ done + 1 → p.tally ≡ 0 →
+pub step : {T : Type 0} (all rest mine others : List T) (count done : ℕ) (pieces : List (Piece T)) (p : Piece T) → AreCutSoFar all rest count done pieces → done < count →
+    rest ≡ mine ++ others → length mine ≡ piece_length (length all) count done → p.items.now ≡ mine → p.number ≡ done + 1 →
     AreCutSoFar all others count (done + 1) (pieces ++ p ∷ [])
-step all rest mine others count done pieces p so_far lt split len at number idle =
+step {T = T} all rest mine others count done pieces p so_far lt split len at number =
     let lens : length rest ≡ length mine + length others = rw split (length-append mine others) in
-    let last : IsPieceAt (length all) count done p = record { number = number; len = rw at len; idle = idle } in
+    let last : IsPieceAt (length all) count done p = record { number = number; len = rw at len } in
     record {
       small = so_far.small;
       within = omega (arith, lt);
       len = rw (length-append pieces (p ∷ [])) (omega (arith, so_far.len));
-      tasks = rw (← flat_map_more (λ (q : Piece). q.tasks.now) [] pieces p, append_assoc (all_tasks pieces) p.tasks.now others, at, ← split) so_far.tasks;
+      items = rw (← flat_map_more (λ (q : Piece T). q.items.now) [] pieces p, append_assoc (all_items pieces) p.items.now others, at, ← split) so_far.items;
       left = omega (arith, lens, len, so_far.left, left_more (length all) count done lt);
       each = each_more (length all) count done pieces p so_far.len so_far.each last;
     }
 
 -- all pieces are cut
-pub finish : (all rest : List Task) (count done : ℕ) (pieces : List Piece) → AreCutSoFar all rest count done pieces → count ≤ done → AreCut all count pieces
-finish all rest count done pieces so_far le =
+pub finish : {T : Type 0} (all rest : List T) (count done : ℕ) (pieces : List (Piece T)) → AreCutSoFar all rest count done pieces → count ≤ done → AreCut all count pieces
+finish {T = T} all rest count done pieces so_far le =
     let same : done ≡ count = omega (arith, so_far.within, le) in
     let small = so_far.small in
     let nothing : length rest ≡ 0 = so_far.left ∙ (rw same (none_left count (length all / count) (length all % count) small)) in
-    let at : (i : ℕ) (d : Piece) → i < length pieces → IsPieceAt (length all) count i (get_or pieces i d) = (λ i d lt. so_far.each i d (omega (arith, so_far.len, lt))) in
+    let at : (i : ℕ) (d : Piece T) → i < length pieces → IsPieceAt (length all) count i (get_or pieces i d) = (λ i d lt. so_far.each i d (omega (arith, so_far.len, lt))) in
     record {
       count = so_far.len ∙ same;
-      tasks = sym (append-nil (all_tasks pieces)) ∙ (rw (← empty rest nothing) so_far.tasks);
+      items = sym (append-nil (all_items pieces)) ∙ (rw (← empty rest nothing) so_far.items);
       numbers = λ i d lt. (at i d lt).number;
       longer_first = λ i j d lt within. (
           let a = (at i d (omega (arith, lt, within))).len in let b = (at j d within).len in
@@ -85,11 +83,10 @@ finish all rest count done pieces so_far le =
       even = λ i j d lt within. (
           let a = (at i d (omega (arith, lt, within))).len in let b = (at j d within).len in
           omega (arith, a, b, longer_even i j (length all % count)));
-      idle = λ i d lt. (at i d lt).idle;
     }
 
--- what holds of all tasks holds of those of each piece
-pub All-pieces : (P : Task → Type 0) (pieces : List Piece) → All P (all_tasks pieces) → All (λ p. All P p.tasks.now) pieces
-All-pieces P [] each = All-nil (λ (p : Piece). All P p.tasks.now)
-All-pieces P (p ∷ pieces) each =
-    All-cons (λ (q : Piece). All P q.tasks.now) p pieces (All-front P p.tasks.now (all_tasks pieces) each) (All-pieces P pieces (All-back P p.tasks.now (all_tasks pieces) each))
+-- what holds of all items holds of those of each piece
+pub All-pieces : {T : Type 0} (P : T → Type 0) (pieces : List (Piece T)) → All P (all_items pieces) → All (λ p. All P p.items.now) pieces
+All-pieces {T = T} P [] each = All-nil (λ (p : Piece T). All P p.items.now)
+All-pieces {T = T} P (p ∷ pieces) each =
+    All-cons (λ (q : Piece T). All P q.items.now) p pieces (All-front P p.items.now (all_items pieces) each) (All-pieces P pieces (All-back P p.items.now (all_items pieces) each))

@@ -7,16 +7,17 @@ use Rattle.std.proofs.lemmas.List.Elements.{All-head, All-tail}
 use Rattle.std.proofs.lemmas.List.Sums.{sum_by-cons}
 use Rattle.std.specs.declared.alloc.AllocError.{AllocError}
 use Rattle.plane_geom.specs.declared.rect.Solid.{Solid}
+use Rattle.walk_model.specs.declared.task.Task.{Task}
 use Rattle.walk_model.specs.Answers.{IsAnswer}
 use Rattle.line_arena.specs.Count.{counted_by}
 use Rattle.par_route.specs.declared.pieces.Piece.{Piece}
 use Rattle.par_route.specs.declared.pieces.Searched.{Searched}
-use Rattle.par_route.specs.Pieces.{IsSearched, all_tasks, answers_in, searches_in}
+use Rattle.par_route.specs.Pieces.{IsSearched, all_items, answers_in, searches_in}
 use Rattle.par_route.specs.Routes.{AreAnswers}
 use Rattle.par_route.proofs.Zips.{zip_append}
 
 -- what a piece gave, where memory sufficed, is right
-abbrev pub Fits : List Solid → Piece → Result Searched AllocError → Type 0
+abbrev pub Fits : List Solid → Piece Task → Result Searched AllocError → Type 0
 Fits solids piece r = IfOk r (IsSearched solids piece)
 
 -- a part that was counted up to the last value adds as much
@@ -24,28 +25,27 @@ pub counted_part : (a n : ℕ) → counted_by (counted_by a 0) n ≡ counted_by 
 counted_part a n = omega arith
 
 -- the answers of all pieces are those of all tasks
-pub joined_answers : (solids : List Solid) (pieces : List Piece) (results : List (Result Searched AllocError)) → AllZip (Fits solids) pieces results → All (λ r. IsOk r) results →
-    AreAnswers solids (all_tasks pieces) (flat_map answers_in results)
+pub joined_answers : (solids : List Solid) (pieces : List (Piece Task)) (results : List (Result Searched AllocError)) → AllZip (Fits solids) pieces results → All (λ r. IsOk r) results →
+    AreAnswers solids (all_items pieces) (flat_map answers_in results)
 joined_answers solids [] [] fit ok = tt
 joined_answers solids [] (r ∷ results) fit ok = absurd fit
 joined_answers solids (p ∷ pieces) [] fit ok = absurd fit
 joined_answers solids (p ∷ pieces) (Err e ∷ results) fit ok = absurd (false≢true (All-head (λ r. IsOk r) (Err e) results ok))
 joined_answers solids (p ∷ pieces) (Ok s ∷ results) fit ok =
-    zip_append (IsAnswer solids) p.tasks.now s.answers.items (all_tasks pieces) (flat_map answers_in results) fit.0.answers
+    zip_append (IsAnswer solids) p.items.now s.answers.items (all_items pieces) (flat_map answers_in results) fit.0.answers
     (joined_answers solids pieces results fit.1 (All-tail (λ r. IsOk r) (Ok s) results ok))
 
 -- all searches, joined, are as many as all tasks
-pub joined_searches : (solids : List Solid) (pieces : List Piece) (results : List (Result Searched AllocError)) (n : ℕ) → AllZip (Fits solids) pieces results → All (λ r. IsOk r) results → All (λ p. p.tally ≡ 0) pieces →
-    counted_by (sum_by searches_in results) n ≡ counted_by (length (all_tasks pieces)) n
-joined_searches solids [] [] n fit ok idle = refl
-joined_searches solids [] (r ∷ results) n fit ok idle = absurd fit
-joined_searches solids (p ∷ pieces) [] n fit ok idle = absurd fit
-joined_searches solids (p ∷ pieces) (Err e ∷ results) n fit ok idle = absurd (false≢true (All-head (λ r. IsOk r) (Err e) results ok))
-joined_searches solids (p ∷ pieces) (Ok s ∷ results) n fit ok idle =
-    let rest = joined_searches solids pieces results n fit.1 (All-tail (λ r. IsOk r) (Ok s) results ok) (All-tail (λ q. q.tally ≡ 0) p pieces idle) in
+pub joined_searches : (solids : List Solid) (pieces : List (Piece Task)) (results : List (Result Searched AllocError)) (n : ℕ) → AllZip (Fits solids) pieces results → All (λ r. IsOk r) results →
+    counted_by (sum_by searches_in results) n ≡ counted_by (length (all_items pieces)) n
+joined_searches solids [] [] n fit ok = refl
+joined_searches solids [] (r ∷ results) n fit ok = absurd fit
+joined_searches solids (p ∷ pieces) [] n fit ok = absurd fit
+joined_searches solids (p ∷ pieces) (Err e ∷ results) n fit ok = absurd (false≢true (All-head (λ r. IsOk r) (Err e) results ok))
+joined_searches solids (p ∷ pieces) (Ok s ∷ results) n fit ok =
+    let rest = joined_searches solids pieces results n fit.1 (All-tail (λ r. IsOk r) (Ok s) results ok) in
     let here = fit.0.tally in
-    let none = All-head (λ q. q.tally ≡ 0) p pieces idle in
-    rw (sum_by-cons searches_in (Ok s) results, length-append p.tasks.now (all_tasks pieces)) (omega (arith, rest, here, none))
+    rw (sum_by-cons searches_in (Ok s) results, length-append p.items.now (all_items pieces)) (omega (arith, rest, here))
 
 pub Ok-is : (r : Result Searched AllocError) (s : Searched) → r ≡ Ok s → IsOk r
 Ok-is r s at = rw at refl

@@ -8,5 +8,6 @@ mod routes;
 mod watch;
 
 pub use gate::{Gate, OpenGate};
+pub use pieces::{Piece, cut};
 pub use routes::{one_list, route_all, route_each};
 pub use watch::{CountGate, HoldGate};

@@ -1,4 +1,4 @@
-//! Pieces of the list of tasks, each searched by one thread.
+//! Lists cut into pieces, one for each thread, and the search of a piece of tasks.
 ghost use Rattle.std.specs.Prelude.{◌≡◌, ◌<◌, ◌≤◌, All, IfOk, OnErr, OnOk, IsOk, length, min};
 ghost use Rattle.std.specs.List.{flat_map, sum_by};
 ghost use Rattle.line_arena.specs.Count.{counted_by};
@@ -14,12 +14,11 @@ use route_search::{Finder, Lines, Tally};
 use std::alloc::{AllocError, Global};
 use walk_model::{Route, Task};
 
-/// Consecutive tasks, with the number of their piece, from 1, and a tally of its own.
+/// Consecutive items of a list, with the number of their piece, from 1.
 #[derive(Drop)]
-pub(crate) struct Piece<'a> {
+pub struct Piece<'a, T> {
     pub number: u32,
-    pub tasks: &'a [Task],
-    pub tally: Tally,
+    pub items: &'a [T],
 }
 
 /// The answers of a piece, and the number of its searches.
@@ -29,85 +28,78 @@ pub(crate) struct Searched {
     pub tally: Tally,
 }
 
-/// The number of tasks in the piece after the first `before` of `count` pieces, where there are
-/// `tasks` tasks in all.
-fn piece_len(tasks: usize, count: usize, before: usize) -> usize
+/// The number of items in the piece after the first `before` of `count` pieces, where there are
+/// `items` items in all.
+fn piece_len(items: usize, count: usize, before: usize) -> usize
     requires { before < count }
-    ensures { result ≡ piece_length tasks count before }
+    ensures { result ≡ piece_length items count before }
 {
-    let longer = before < tasks % count;
-    tasks / count + usize::from(longer)
+    let longer = before < items % count;
+    items / count + usize::from(longer)
 }
 
-/// The tasks, cut into `workers` pieces, or one piece for each task if there are fewer tasks.
-pub(crate) fn cut<'a>(
+/// The items, cut in order into `workers` pieces, or one piece for each item if there are fewer
+/// items. Longer pieces come first, by at most one item. The only error is out of memory.
+pub fn cut<'a, T>(
     alloc: Global,
-    tasks: &'a [Task],
+    items: &'a [T],
     workers: u32,
-    tally: &mut Tally,
-) -> Result<Vec<Piece<'a>>, AllocError>
+) -> Result<Vec<Piece<'a, T>>, AllocError>
     requires { 1 ≤ workers }
-    ensures cut { IfOk result (λ pieces. AreCut tasks.entry.now (min workers (length tasks.entry.now)) pieces.items) }
-    ensures tally { tally.new ≡ tally.old }
+    ensures { IfOk result (λ pieces. AreCut items.entry.now (min workers (length items.entry.now)) pieces.items) }
 {
-    let count = tasks.len().min(workers as usize);
+    let count = items.len().min(workers as usize);
     let mut pieces = Vec::new(alloc);
-    let mut rest = tasks;
+    let mut rest = items;
     for before in 0..count {
-        let (mine, others) = rest.split_at(piece_len(tasks.len(), count, before));
+        let (mine, others) = rest.split_at(piece_len(items.len(), count, before));
         pieces.push(Piece {
             number: before as u32 + 1,
-            tasks: mine,
-            tally: tally.split(),
+            items: mine,
         })?;
         rest = others;
     }
     Ok(pieces)
 }
 
-impl<'a> Piece<'a> {
-    /// Searches for each task of the piece, after the gate has let it pass.
-    pub(crate) fn search<G: Gate>(
-        self,
-        alloc: Global,
-        arena: &LineArena,
-        solids: &[Solid],
-        lines: &Lines,
-        gate: &G,
-    ) -> Result<Searched, AllocError>
-        requires tasks { All (MayBeSearched arena.now solids.now) self.tasks.now }
-        requires lines { AreLinesOf arena.now solids.now lines.now }
-        ensures { IfOk result (IsSearched solids.now self.entry) }
-    {
-        let passed = Passed::through(gate, self.number);
-        self.searched(passed, alloc, arena, solids, lines)
-    }
+/// Searches for each task of the piece, after the gate has let it pass.
+pub(crate) fn search<G: Gate>(
+    piece: Piece<'_, Task>,
+    alloc: Global,
+    arena: &LineArena,
+    solids: &[Solid],
+    lines: &Lines,
+    gate: &G,
+) -> Result<Searched, AllocError>
+    requires tasks { All (MayBeSearched arena.now solids.now) piece.items.now }
+    requires lines { AreLinesOf arena.now solids.now lines.now }
+    ensures { IfOk result (IsSearched solids.now piece.entry) }
+{
+    let passed = Passed::through(gate, piece.number);
+    search_passed(piece, passed, alloc, arena, solids, lines)
+}
 
-    /// Searches for each task of the piece, which has passed the gate.
-    fn searched(
-        self,
-        _passed: Passed,
-        alloc: Global,
-        arena: &LineArena,
-        solids: &[Solid],
-        lines: &Lines,
-    ) -> Result<Searched, AllocError>
-        requires tasks { All (MayBeSearched arena.now solids.now) self.tasks.now }
-        requires lines { AreLinesOf arena.now solids.now lines.now }
-        ensures { IfOk result (IsSearched solids.now self.entry) }
-    {
-        let Piece {
-            number: _,
-            tasks,
-            mut tally,
-        } = self;
-        let mut finder = Finder::with_lines(alloc, arena, solids, lines);
-        let mut answers = Vec::new(alloc);
-        for task in tasks {
-            answers.push(finder.find(task, &mut tally)?)?;
-        }
-        Ok(Searched { answers, tally })
+/// Searches for each task of the piece, which has passed the gate.
+fn search_passed(
+    piece: Piece<'_, Task>,
+    _passed: Passed,
+    alloc: Global,
+    arena: &LineArena,
+    solids: &[Solid],
+    lines: &Lines,
+) -> Result<Searched, AllocError>
+    requires tasks { All (MayBeSearched arena.now solids.now) piece.items.now }
+    requires lines { AreLinesOf arena.now solids.now lines.now }
+    ensures { IfOk result (IsSearched solids.now piece.entry) }
+{
+    let tasks = piece.items;
+    let mut tally = Tally::new();
+    let mut finder = Finder::with_lines(alloc, arena, solids, lines);
+    let mut answers = Vec::new(alloc);
+    for task in tasks {
+        answers.push(finder.find(task, &mut tally)?)?;
     }
+    Ok(Searched { answers, tally })
 }
 
 /// The answers of all pieces, in order; all their tallies are joined to this one.

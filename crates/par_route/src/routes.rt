@@ -6,7 +6,7 @@ ghost use Rattle.par_route.specs.Routes.{AreAnswers, HaveOneList, MayBeSearched}
 ghost use Rattle.route_search.specs.Matching.{AreLinesOf};
 
 use crate::gate::{Gate, OpenGate};
-use crate::pieces::{Piece, Searched, cut, join};
+use crate::pieces::{Piece, Searched, cut, join, search};
 use line_arena::LineArena;
 use plane_geom::Solid;
 use route_search::{Lines, Tally};
@@ -36,15 +36,15 @@ fn route_pieces<R: Threads + Sync, G: Gate>(
     ensures tally { OnOk result (tally.new ≡ counted_by (length tasks.now) tally.old) }
     ensures err_tally { OnErr result (tally.new ≡ tally.old) }
 {
-    let pieces = cut(alloc, tasks, workers, tally)?;
+    let pieces = cut(alloc, tasks, workers)?;
     let searched = thread::map_vec(
         rt,
         pieces,
-        &|piece: Piece| -> Result<Searched, AllocError>
-            requires tasks { All (MayBeSearched arena.now solids.now) piece.tasks.now }
+        &|piece: Piece<Task>| -> Result<Searched, AllocError>
+            requires tasks { All (MayBeSearched arena.now solids.now) piece.items.now }
             requires lines { AreLinesOf arena.now solids.now lines.now }
             ensures { IfOk result (IsSearched solids.entry.now piece.entry) }
-        { piece.search(alloc, arena, solids, lines, gate) },
+        { search(piece, alloc, arena, solids, lines, gate) },
     )?;
     join(alloc, searched, tally)
 }
@@ -105,13 +105,12 @@ pub fn route_each(
     let lines = Lines::new(alloc, arena, solids)?;
     let piece = Piece {
         number: 1,
-        tasks,
-        tally: tally.split(),
+        items: tasks,
     };
     let Searched {
         answers,
         tally: searches,
-    } = piece.search(alloc, arena, solids, &lines, &OpenGate)?;
+    } = search(piece, alloc, arena, solids, &lines, &OpenGate)?;
     tally.join(searches);
     Ok(answers)
 }

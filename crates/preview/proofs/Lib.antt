@@ -4,5 +4,4 @@ pub mod NoMemory
 pub mod Calls
 pub mod Counts
 pub mod Edits
-pub mod Cutting
 pub mod Joining

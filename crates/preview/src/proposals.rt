@@ -5,8 +5,8 @@ ghost use Rattle.preview.specs.Pieces.{IsAnswered};
 ghost use Rattle.preview.specs.Previews.{ArePreviews, IsProposable};
 
 use crate::answer::Previewed;
-use crate::pieces::{Answered, Piece, cut, join};
-use par_route::{Gate, OpenGate};
+use crate::pieces::{Answered, answers, join};
+use par_route::{Gate, OpenGate, Piece, cut};
 use route_book::Book;
 use scene_model::Edits;
 use scene_store::Scene;
@@ -48,11 +48,11 @@ pub fn preview<R: Threads + Sync, G: Gate>(
     let answered = thread::map_vec(
         rt,
         pieces,
-        &|piece: Piece| -> Result<Answered, AllocError>
+        &|piece: Piece<Proposal>| -> Result<Answered, AllocError>
             requires right { AreAnswers scene.now book.now }
-            requires edits { All IsProposable piece.proposals.now }
+            requires edits { All IsProposable piece.items.now }
             ensures { IfOk result (IsAnswered scene.entry.now book.entry.now piece.entry) }
-        { piece.answers(alloc, scene, book, gate) },
+        { answers(piece, alloc, scene, book, gate) },
     )?;
     join(alloc, answered)
 }
@@ -74,8 +74,8 @@ pub fn preview_alone(
 {
     let piece = Piece {
         number: 1,
-        proposals,
+        items: proposals,
     };
-    let Answered { answers } = piece.answers(alloc, scene, book, &OpenGate)?;
-    Ok(answers)
+    let answered = answers(piece, alloc, scene, book, &OpenGate)?;
+    Ok(answered.answers)
 }

@@ -1,7 +1,6 @@
 -- The pieces so far are cut, and the rest is still to be cut.
-use Rattle.std.proofs.Common.{◌≡◌}
 use Rattle.par_route.proofs.Cutting.{AreCutSoFar}
 use Rattle.par_route.proofs.pieces.cut.Given as goal
 
 abbrev pub invariant-loop-before : goal.invariant-loop-before
-invariant-loop-before l = AreCutSoFar l.tasks l.rest l.count l.before l.pieces.items × (l.tally ≡ l.fn.tally)
+invariant-loop-before g l = AreCutSoFar l.items l.rest l.count l.before l.pieces.items
