@@ -1,3 +1,4 @@
 -- The lemmas of sessions.
 pub mod Steps
+pub mod Turning
 pub mod Upholding
