@@ -1,4 +1,4 @@
 -- The lemmas of sessions.
 pub mod Steps
-pub mod Turning
+pub mod Turns
 pub mod Upholding

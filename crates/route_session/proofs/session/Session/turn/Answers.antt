@@ -8,13 +8,13 @@ use Rattle.scene_model.specs.World.{step}
 use Rattle.session_laws.specs.History.{world_of}
 use Rattle.route_session.specs.Turning.{scene_toward, steps_toward, turn_command}
 use Rattle.route_session.specs.Upheld.{IsUpheld}
-use Rattle.route_session.proofs.Turning.{here_toward, may_go, may_turn, nothing_there, open_refuses, turned}
+use Rattle.route_session.proofs.Turns.{here_toward, may_go, may_turn, nothing_there, open_refuses, turned}
 use Rattle.route_session.proofs.Upholding.{none_by, working_of}
 use Rattle.route_session.proofs.session.Session.turn.Goals as goal
 use Rattle.route_session.proofs.session.Session.turn.Goals.{After-drop-repair-inside-5, In-Some}
 
-pub returns-then-clause-fault : goal.returns-then-clause-fault
-returns-then-clause-fault c =
+pub returns-then-is_some-clause-fault : goal.returns-then-is_some-clause-fault
+returns-then-is_some-clause-fault c =
     let opened : is_some c.self.inside.txn ≡ true = cc in
     rw (← c.self.view_is) (open_refuses c.args.toward c.self.inside.log c.self.inside.present.scene c.self.inside.txn opened)
 
