@@ -1,3 +1,4 @@
 -- The lemmas of sessions.
 pub mod Steps
+pub mod Turns
 pub mod Upholding

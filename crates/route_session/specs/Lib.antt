@@ -1,2 +1,3 @@
 -- The definitions of sessions.
+pub mod Turning
 pub mod Upheld

@@ -7,6 +7,7 @@ mod present;
 mod scenes;
 mod session;
 mod start;
+mod turning;
 
 pub use preview::{MOST_PROPOSALS, Previewed, Proposal};
 pub use scene_model::SessionFault;

@@ -14,7 +14,8 @@ ghost use Rattle.route_book.specs.Exchange.{CountsStale};
 ghost use Rattle.line_arena.specs.Count.{counted_by};
 ghost use Rattle.session_laws.specs.Calls.{IsFaultOf};
 ghost use Rattle.session_laws.specs.History.{IsHistory, world_of};
-ghost use Rattle.route_session.specs.Upheld.{IsUpheld, turned_step};
+ghost use Rattle.route_session.specs.Turning.{turn_command};
+ghost use Rattle.route_session.specs.Upheld.{IsUpheld};
 ghost use Rattle.scene_model.specs.Answers.{AreAnswers};
 ghost use Rattle.scene_model.specs.Edits.{IsDirected};
 ghost use Rattle.scene_model.specs.Routing.{floor_of};
@@ -24,11 +25,10 @@ ghost use Rattle.scene_model.specs.World.{opened, refused, rolled_back, step};
 ghost use Rattle.scene_model.specs.declared.edit.Command.TheVariants as commands;
 ghost use Rattle.scene_model.specs.declared.fault.SceneFault.TheVariants as scene_faults;
 ghost use Rattle.scene_model.specs.declared.fault.SessionFault.TheVariants as faults;
-ghost use Rattle.undo_log.specs.Lending.{gone_back, gone_forth};
 
 use crate::present::Present;
-use crate::scenes::{edits, inverses, scene_after, scene_before};
 use crate::start::Start;
+use crate::turning::{Toward, exchange_toward, nearest_step, no_step, scene_toward};
 use edit_txn::{Txn, TxnParts};
 use nudge_phases::{Nudged, nudge};
 use par_route::Gate;
@@ -291,20 +291,7 @@ impl Session {
         ensures written { OnOk result (CountsWrites (floor_of self.old.world.present) (floor_of self.new.world.present) self.old.written self.new.written) }
         ensures err_written { OnErr result (self.new.written ≡ self.old.written) }
     {
-        if self.txn.take().is_some() {
-            return Err(SessionFault::AlreadyOpen);
-        }
-        let Some(step) = self.log.past_step() else {
-            return Err(SessionFault::NothingToUndo);
-        };
-        let Ok(scene) = scene_before(&self.present.scene, inverses(&step.back)) else {
-            return Err(SessionFault::Memory);
-        };
-        let Ok(_repair) = self.present.repair(&scene) else {
-            return Err(SessionFault::Memory);
-        };
-        exchange_back(&mut self.log, &mut self.present, scene);
-        Ok(())
+        self.turn(Toward::Past)
     }
 
     /// Goes one scene forward, with its routes, without a search.
@@ -322,19 +309,33 @@ impl Session {
         ensures written { OnOk result (CountsWrites (floor_of self.old.world.present) (floor_of self.new.world.present) self.old.written self.new.written) }
         ensures err_written { OnErr result (self.new.written ≡ self.old.written) }
     {
+        self.turn(Toward::Future)
+    }
+
+    /// Goes one scene toward the past or the future, with its routes, without a search.
+    fn turn(&mut self, toward: Toward) -> Result<(), SessionFault>
+        ensures ok { OnOk result (step (turn_command toward) self.old.world ≡ Ok self.new.world) }
+        ensures fault { IfErr result (IsFaultOf (turn_command toward) self.old.world) }
+        ensures err { OnErr result (self.new.world ≡ rolled_back self.old.world) }
+        ensures right { AreAnswers self.new.world.present self.new.book }
+        ensures book { OnErr result (self.new.book ≡ self.old.book) }
+        ensures searched { self.new.searched ≡ self.old.searched }
+        ensures written { OnOk result (CountsWrites (floor_of self.old.world.present) (floor_of self.new.world.present) self.old.written self.new.written) }
+        ensures err_written { OnErr result (self.new.written ≡ self.old.written) }
+    {
         if self.txn.take().is_some() {
             return Err(SessionFault::AlreadyOpen);
         }
-        let Some(step) = self.log.future_step() else {
-            return Err(SessionFault::NothingToRedo);
+        let Some(step) = nearest_step(&self.log, toward) else {
+            return Err(no_step(toward));
         };
-        let Ok(scene) = scene_after(&self.present.scene, edits(&step.forth)) else {
+        let Ok(scene) = scene_toward(&self.present.scene, step, toward) else {
             return Err(SessionFault::Memory);
         };
         let Ok(_repair) = self.present.repair(&scene) else {
             return Err(SessionFault::Memory);
         };
-        exchange_forth(&mut self.log, &mut self.present, scene);
+        exchange_toward(&mut self.log, &mut self.present, scene, toward);
         Ok(())
     }
 
@@ -498,40 +499,6 @@ fn exchange_on(log: &mut UndoLog<Changes>, present: &mut Present, txn: Txn, mut 
         forth,
         changes,
     });
-}
-
-/// Moves the latest past step into the future; its answers go into the book, and the scene before
-/// it becomes the present one.
-fn exchange_back(log: &mut UndoLog<Changes>, present: &mut Present, scene: Scene)
-    requires some { IsSome (slice_get log.old.past 0) }
-    requires here { IfSome (slice_get log.old.past 0) (λ t. t.changes.here ≡ present.old.book) }
-    ensures log { IfSome (slice_get log.old.past 0) (λ t. log.new ≡ gone_back log.old (turned_step t)) }
-    ensures book { IfSome (slice_get log.old.past 0) (λ t. present.new.book ≡ t.changes.there) }
-    ensures scene { present.new.scene ≡ scene }
-    ensures graph { present.new.graph ≡ present.old.graph }
-    ensures tally { present.new.tally ≡ present.old.tally }
-{
-    present.replace_scene(scene);
-    if let Some(step) = log.go_back() {
-        present.exchange(&mut step.changes);
-    }
-}
-
-/// Moves the next future step into the past; its answers go into the book, and the scene after it
-/// becomes the present one.
-fn exchange_forth(log: &mut UndoLog<Changes>, present: &mut Present, scene: Scene)
-    requires some { IsSome (slice_get log.old.future 0) }
-    requires here { IfSome (slice_get log.old.future 0) (λ t. t.changes.here ≡ present.old.book) }
-    ensures log { IfSome (slice_get log.old.future 0) (λ t. log.new ≡ gone_forth log.old (turned_step t)) }
-    ensures book { IfSome (slice_get log.old.future 0) (λ t. present.new.book ≡ t.changes.there) }
-    ensures scene { present.new.scene ≡ scene }
-    ensures graph { present.new.graph ≡ present.old.graph }
-    ensures tally { present.new.tally ≡ present.old.tally }
-{
-    present.replace_scene(scene);
-    if let Some(step) = log.go_forth() {
-        present.exchange(&mut step.changes);
-    }
 }
 
 /// The fault of an edit as a fault of the session; out of memory is a fault of its own.
