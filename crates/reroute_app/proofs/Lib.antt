@@ -7,3 +7,4 @@ pub mod ReadScenes
 pub mod OneOutcome
 pub mod Causes
 pub mod Claims
+pub mod Completeness

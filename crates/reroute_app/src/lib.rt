@@ -12,6 +12,7 @@ ghost use Rattle.reroute_app.specs.Status.{IsOutputWritten};
 
 mod certificate;
 mod check;
+mod complete;
 mod exit;
 mod form;
 mod make;
@@ -24,6 +25,7 @@ mod status;
 
 use crate::form::outcome_of;
 use crate::outcome::Outcome;
+pub use complete::run_to_completion;
 pub use exit::exit_code_of;
 use form_certificate::certificates_come_to_one;
 use form_check::checks_come_to_one;
