@@ -2,3 +2,4 @@
 pub mod Answered
 pub mod Stale
 pub mod Verdicts
+pub mod Previewed

@@ -3,3 +3,4 @@ pub mod Answers
 pub mod Readings
 pub mod Audits
 pub mod Solutions
+pub mod Previews

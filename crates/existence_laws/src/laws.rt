@@ -1,8 +1,11 @@
 //! The laws, each the contract of a function with an empty body.
 ghost use Rattle.existence_laws.specs.Answers.{HaveAnswers, HaveStaleLists, HaveVerdicts, TasksHaveAnswers};
 ghost use Rattle.existence_laws.specs.Audits.{HaveLeastProofs, ScenesAreAudited};
+ghost use Rattle.existence_laws.specs.Previews.{HavePreviews};
 ghost use Rattle.existence_laws.specs.Readings.{HaveProofReadings, HaveReadings};
 ghost use Rattle.existence_laws.specs.Solutions.{HaveSolutions};
+
+use scene_model::edits_keep_valid;
 
 /// Each task on a floor within the limits has an answer: the route of a first walk, or that no walk
 /// is legal.
@@ -19,6 +22,14 @@ pub fn some_answers()
 pub fn some_stale_list()
     ensures { HaveStaleLists }
 {}
+
+/// Edits of a valid scene have an answer as a proposal: what a commit of them gives, or their first
+/// refusal.
+pub fn some_preview()
+    ensures { HavePreviews }
+{
+    edits_keep_valid();
+}
 
 /// Each line has a verdict: it is legal and has a cost, or it breaks a rule first.
 pub fn some_verdict()

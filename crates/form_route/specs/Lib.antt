@@ -2,3 +2,4 @@
 pub mod Report
 pub mod Routes
 pub mod Diagram
+pub mod Written

@@ -1,7 +1,8 @@
-//! The law of the output, as the contract of a function that does nothing.
+//! The laws of the output, each as the contract of a function that does nothing.
 ghost use Rattle.form_route.specs.Routes.{ComesToOne};
+ghost use Rattle.form_route.specs.Written.{WrittenLinesAreLegal, WrittenLinesKeepApart};
 
-use nudge_phases::one_nudged_scene;
+use nudge_phases::{nudged_scenes_are_legal_and_apart, one_nudged_scene};
 use scene_model::{one_list_of_answers, scenes_stay_valid};
 use script_replay::one_list_of_replies;
 
@@ -14,4 +15,14 @@ pub fn replays_come_to_one()
     one_list_of_answers();
     scenes_stay_valid();
     one_nudged_scene();
+}
+
+/// The lines that a script writes are legal walks of their connectors, and keep every separation of
+/// both phases.
+pub fn written_lines_are_legal_and_apart()
+    ensures legal { WrittenLinesAreLegal }
+    ensures apart { WrittenLinesKeepApart }
+{
+    scenes_stay_valid();
+    nudged_scenes_are_legal_and_apart();
 }

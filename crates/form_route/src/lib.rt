@@ -5,6 +5,6 @@ mod laws;
 mod report;
 mod script;
 
-pub use laws::replays_come_to_one;
+pub use laws::{replays_come_to_one, written_lines_are_legal_and_apart};
 pub use report::{Unrouted, edges_routed};
 pub use script::{Options, Routing, printed_diagram, route};

@@ -8,3 +8,4 @@ pub mod OneOutcome
 pub mod Causes
 pub mod Claims
 pub mod Places
+pub mod Completeness

@@ -13,4 +13,5 @@ pub mod Certificate
 pub mod Run
 pub mod Causes
 pub mod Exit
+pub mod Complete
 pub mod View

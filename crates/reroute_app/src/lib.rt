@@ -12,6 +12,7 @@ ghost use Rattle.reroute_app.specs.Status.{IsOutputWritten};
 
 mod certificate;
 mod check;
+mod complete;
 mod exit;
 mod form;
 mod hint;
@@ -25,6 +26,7 @@ mod status;
 
 use crate::form::outcome_of;
 use crate::outcome::Outcome;
+pub use complete::run_to_completion;
 pub use exit::{Exit, exit_of};
 use form_certificate::certificates_come_to_one;
 use form_check::checks_come_to_one;
