@@ -77,14 +77,14 @@ module _ (files : Option ExposedFiles) (new : List Note) (o : Outcome) (long : o
     scene_beyond tree middle (Ok scene) later = on tree scene middle later
     scene_beyond tree middle (Err fault) later = not_with _ later.1 (λ e. absurd cc)
 
-    tree_beyond : (middle : List Note) (r : Result Pairs GmlFault) → TakesTree next r middle new o → Q
-    tree_beyond middle (Ok tree) later = scene_beyond tree middle (scene_of tree) later
-    tree_beyond middle (Err fault) later = not_with _ later.1 (λ e. absurd cc)
+    tree_beyond : (bytes : List ℕ) (middle : List Note) (r : Result Pairs GmlFault) → TakesTree next bytes r middle new o → Q
+    tree_beyond bytes middle (Ok tree) later = scene_beyond tree middle (scene_of tree) later
+    tree_beyond bytes middle (Err fault) later = not_with _ later.1 (λ e. absurd cc)
 
     diagram_beyond : ReadsDiagram files name next old new o → Q
     diagram_beyond (fails failed is) = not_with _ is (λ e. absurd cc)
     diagram_beyond (is_too_long more is) = here more.exposed
-    diagram_beyond (goes_on bytes middle read later) = tree_beyond middle later.0 later.2
+    diagram_beyond (goes_on bytes middle read later) = tree_beyond bytes middle later.0 later.2
 
   checks_beyond : (tree : Pairs) (scene : Scene) (r : Option DiagramFault) → ChecksUnless tree scene r o → Q
   checks_beyond tree scene None said = not_with _ said.outcome (never_checks said.breach)
