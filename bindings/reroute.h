@@ -9,6 +9,12 @@
  * reroute_close. Your memory is written only where a parameter says so, and no pointer to it is kept, but for the room.
  * The room may not be moved or copied.
  *
+ * Pointers. None may be NULL, but the text of reroute_start_gml. A copy of a handle is the same session.
+ *
+ * Closed. On a closed session, calls that return a fault return REROUTE_NO_SESSION, but for those that open, and write nothing;
+ * the others return 0, false or no line. After reroute_end a handle may only be started or ended again, and a copy of it not be
+ * used.
+ *
  * Threads. Sessions share nothing. Calls of one session must not overlap; they may come from different threads, one after
  * another. No call starts a thread, takes a lock, reads or writes a file, prints, or ends the process.
  *
