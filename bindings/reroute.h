@@ -9,6 +9,12 @@
  * reroute_close. Your memory is written only where a parameter says so, and no pointer to it is kept, but for the room.
  * The room may not be moved or copied.
  *
+ * Pointers. None may be NULL, but the text of reroute_start_gml. A copy of a handle is the same session.
+ *
+ * Closed. On a closed session, calls that return a fault return REROUTE_NO_SESSION, but for those that open, and write nothing;
+ * the others return 0, false or no line. After reroute_end a handle may only be started or ended again, and a copy of it not be
+ * used.
+ *
  * Threads. Sessions share nothing. Calls of one session must not overlap; they may come from different threads, one after
  * another. No call starts a thread, takes a lock, reads or writes a file, prints, or ends the process.
  *
@@ -174,6 +180,26 @@ uint64_t reroute_searched(reroute_session *session);
 /* How many boxes and how many connectors the present scene has; 0 if the session is closed. */
 size_t reroute_box_count(reroute_session *session);
 size_t reroute_connector_count(reroute_session *session);
+
+/* --- The scene, by places: that of the open transaction if one is open, otherwise the present one ------------------- */
+/* Each call writes what has the place, from 0, and returns true; it returns false and writes nothing if nothing has the place,
+ * or the session is closed. What is written to is not NULL. Places stay until the next edit, commit, undo or redo. */
+/* A box: its id, its centre, its whole width and height, how many pins it has, and whether it is a group, which lines may
+ * cross. A width or a height that was not even is told rounded up to an even number. */
+typedef struct reroute_box_info { int64_t id, x, y, w, h; size_t pins; bool group; } reroute_box_info;
+bool reroute_box(reroute_session *session, size_t place, reroute_box_info *box);
+/* A pin of the box at a place: its class, its offset from the box's centre, and the directions in which lines may leave it. */
+typedef struct reroute_pin_info { uint32_t pin_class; int64_t dx, dy; reroute_directions directions; } reroute_pin_info;
+bool reroute_pin(reroute_session *session, size_t box_place, size_t place, reroute_pin_info *pin);
+/* A connector, in the order of their numbers: its number, its ends with the classes of their pins, and how many checkpoints it
+ * has. reroute_cost says what its route costs, if it has one in the present scene. */
+typedef struct reroute_connector_info { uint32_t number; int64_t from; uint32_t from_class; int64_t to; uint32_t to_class; size_t checkpoints; } reroute_connector_info;
+bool reroute_connector(reroute_session *session, size_t place, reroute_connector_info *connector);
+/* A checkpoint of the connector at a place, in the order in which the line passes them. */
+bool reroute_checkpoint(reroute_session *session, size_t connector_place, size_t place, reroute_point *point);
+/* What a bend costs, how far lines keep from boxes, and how far lines side by side are kept apart. */
+typedef struct reroute_settings_info { int64_t penalty, buffer, nudge; } reroute_settings_info;
+bool reroute_settings(reroute_session *session, reroute_settings_info *settings);
 
 /* --- Texts ----------------------------------------------------------------------------------------------------------- */
 /* Writes the diagram that was opened, with the present scene and its lines put in, as the program writes it; reroute_open

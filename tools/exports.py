@@ -31,6 +31,8 @@ def exports():
 VALUES = {'Global': 'alloc', '&mut Handle': 'handle', 'i64': '0', 'u32': '0', 'usize': '0', '&mut u32': '&mut number',
           '&mut u64': '&mut cost', '&mut usize': '&mut count', '&mut Corner': '&mut corner', '*mut u8': 'at',
           '&[u8]': 'b"graph [ ]"', '&mut [u8]': '&mut bytes[..]',
+          '&mut BoxInfo': '&mut a_box', '&mut PinInfo': '&mut pin', '&mut ConnectorInfo': '&mut connector',
+          '&mut SettingsInfo': '&mut settings',
           'Directions': 'crate::edits::Directions { east: true, south: true, west: true, north: true }'}
 MAIN = '''
 fn main(rt: HostRuntime) -> std::io::Result<()> {
@@ -41,6 +43,11 @@ fn main(rt: HostRuntime) -> std::io::Result<()> {
     let (mut number, mut cost, mut count) = (0u32, 0u64, 0usize);
     let mut corner = crate::lines::Corner { x: 0, y: 0 };
     let mut bytes = [0u8; 8];
+    let mut a_box = crate::scene::BoxInfo { id: 0, x: 0, y: 0, w: 0, h: 0, pins: 0, group: false };
+    let directions = crate::edits::Directions { east: true, south: true, west: true, north: true };
+    let mut pin = crate::scene::PinInfo { class: 0, dx: 0, dy: 0, directions };
+    let mut connector = crate::scene::ConnectorInfo { number: 0, from: 0, from_class: 0, to: 0, to_class: 0, checkpoints: 0 };
+    let mut settings = crate::scene::SettingsInfo { penalty: 0, buffer: 0, nudge: 0 };
 %s    Ok(())
 }
 '''

@@ -24,6 +24,10 @@ static void closed(reroute_session *s) {
     uint64_t cost = 7;
     reroute_point corner = { 7, 7 };
     reroute_line_info line = reroute_line(s, 0);
+    reroute_box_info box;
+    reroute_pin_info pin;
+    reroute_connector_info connector;
+    reroute_settings_info settings;
     REFUSES(reroute_begin(s), REROUTE_NO_SESSION, 0);
     REFUSES(reroute_commit(s), REROUTE_NO_SESSION, 0);
     REFUSES(reroute_abort(s), REROUTE_NO_SESSION, 0);
@@ -38,6 +42,8 @@ static void closed(reroute_session *s) {
     WANT(!reroute_corner(s, 0, 0, &corner) && !reroute_cost(s, 1, &cost));
     WANT(reroute_searched(s) == 0 && reroute_next(s) == 0);
     WANT(reroute_gone_count(s) == 0 && reroute_gone(s, 0) == 0);
+    WANT(!reroute_box(s, 0, &box) && !reroute_pin(s, 0, 0, &pin) && !reroute_connector(s, 0, &connector));
+    WANT(!reroute_checkpoint(s, 0, 0, &corner) && !reroute_settings(s, &settings));
     WANT(count == 7 && number == 7 && cost == 7 && corner.x == 7 && corner.y == 7);
 }
 
@@ -183,6 +189,32 @@ static void pins_and_checkpoints(reroute_session *s) {
     costs(s, 1, 270000);
 }
 
+/* The scene by places; that of an open transaction while one is open. */
+static void read_scene(reroute_session *s) {
+    reroute_directions sides = { true, false, false, true };
+    reroute_box_info box;
+    reroute_pin_info pin;
+    reroute_connector_info connector;
+    reroute_settings_info settings;
+    reroute_point point = { 7, 7 };
+    WANT(reroute_settings(s, &settings) && settings.penalty == 60000 && settings.buffer == 5000 && settings.nudge == 5000);
+    WANT(reroute_box(s, 2, &box) && box.id == 3 && box.x == 50000 && box.y == 0 && box.w == 20000 && box.h == 40000);
+    WANT(box.pins == 0 && !box.group && !reroute_box(s, 3, &box));
+    WANT(reroute_connector(s, 0, &connector) && connector.number == 1 && connector.from == 1 && connector.to == 2);
+    WANT(connector.from_class == 0 && connector.to_class == 0 && connector.checkpoints == 0 && !reroute_connector(s, 1, &connector));
+    DONE(reroute_begin(s));
+    DONE(reroute_add_pin(s, 3, 5, 1000, -2000, sides));
+    DONE(reroute_add_checkpoint(s, 1, 1, 50000, 70000));
+    DONE(reroute_move_box(s, 3, 50000, 1000));
+    WANT(reroute_box(s, 2, &box) && box.y == 1000 && box.pins == 1 && !reroute_pin(s, 2, 1, &pin));
+    WANT(reroute_pin(s, 2, 0, &pin) && pin.pin_class == 5 && pin.dx == 1000 && pin.dy == -2000);
+    WANT(pin.directions.east && !pin.directions.south && !pin.directions.west && pin.directions.north);
+    WANT(!reroute_checkpoint(s, 0, 1, &point) && !reroute_checkpoint(s, 1, 0, &point) && point.x == 7 && point.y == 7);
+    WANT(reroute_checkpoint(s, 0, 0, &point) && point.x == 50000 && point.y == 70000);
+    DONE(reroute_abort(s));
+    WANT(reroute_box(s, 2, &box) && box.y == 0 && box.pins == 0);
+}
+
 static void cut(reroute_session *s) {
     uint64_t cost = 7;
     size_t count = 7;
@@ -288,6 +320,7 @@ int main(void) {
     preview(&session);
     move_and_undo(&session);
     pins_and_checkpoints(&session);
+    read_scene(&session);
     cut(&session);
     reroute_close(&session);
     closed(&session);

@@ -27,6 +27,24 @@ class Directions(c.Structure):
     _fields_ = [('east', c.c_bool), ('south', c.c_bool), ('west', c.c_bool), ('north', c.c_bool)]
 
 
+class BoxInfo(c.Structure):
+    _fields_ = [('id', c.c_int64), ('x', c.c_int64), ('y', c.c_int64), ('w', c.c_int64), ('h', c.c_int64),
+                ('pins', c.c_size_t), ('group', c.c_bool)]
+
+
+class PinInfo(c.Structure):
+    _fields_ = [('pin_class', c.c_uint32), ('dx', c.c_int64), ('dy', c.c_int64), ('directions', Directions)]
+
+
+class ConnectorInfo(c.Structure):
+    _fields_ = [('number', c.c_uint32), ('start', c.c_int64), ('start_class', c.c_uint32), ('end', c.c_int64),
+                ('end_class', c.c_uint32), ('checkpoints', c.c_size_t)]
+
+
+class SettingsInfo(c.Structure):
+    _fields_ = [('penalty', c.c_int64), ('buffer', c.c_int64), ('nudge', c.c_int64)]
+
+
 class Handle(c.Structure):
     _fields_ = [('held', c.c_void_p)]
 
@@ -42,7 +60,9 @@ CALLS = {
     'set_buffer': (Fault, I), 'set_nudge': (Fault, I), 'lines': (Fault, c.POINTER(Z)), 'line': (Line, Z),
     'corner': (c.c_bool, Z, Z, c.POINTER(Point)), 'cost': (c.c_bool, U, c.POINTER(c.c_uint64)),
     'searched': (c.c_uint64,), 'box_count': (Z,), 'connector_count': (Z,), 'preview': (Fault, c.POINTER(Z)),
-    'gone_count': (Z,), 'gone': (U, Z),
+    'gone_count': (Z,), 'gone': (U, Z), 'box': (c.c_bool, Z, c.POINTER(BoxInfo)), 'pin': (c.c_bool, Z, Z, c.POINTER(PinInfo)),
+    'connector': (c.c_bool, Z, c.POINTER(ConnectorInfo)), 'checkpoint': (c.c_bool, Z, Z, c.POINTER(Point)),
+    'settings': (c.c_bool, c.POINTER(SettingsInfo)),
     'open_gml': (Fault, c.c_char_p, Z), 'write_gml': (Fault, c.c_char_p, Z, c.POINTER(Z)),
     'play': (Fault, c.c_char_p, Z, c.POINTER(Z))}
 

@@ -5,3 +5,4 @@ pub mod Files
 pub mod Lines
 pub mod Open
 pub mod Owned
+pub mod Scenes

@@ -10,3 +10,4 @@ mod fault;
 mod files;
 mod handle;
 mod lines;
+mod scene;

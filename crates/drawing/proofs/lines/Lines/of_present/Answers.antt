@@ -1,5 +1,4 @@
 -- The lines are those that the session returned, in the order of its answers.
-use Rattle.std.proofs.Common.{subst}
 use Rattle.form_route.proofs.Lines.{lines_are_routes}
 use Rattle.gml_scene.specs.Origins.{AreRoutesOf}
 use Rattle.drawing.specs.Lines.{AreDrawn}
