@@ -1,5 +1,6 @@
 -- Why an abort is refused.
 use Rattle.std.proofs.Common.{◌≡◌, ◌⊎◌, inl, inr, Option, None, Some, Result, Ok, Err, ap, ◌∙◌}
+use Rattle.std.proofs.lemmas.Bool.{false≢true}
 use Rattle.std.specs.Prelude.{IfErr, IsSome}
 use Rattle.scene_model.specs.declared.edit.Command.TheVariants.{Abort}
 use Rattle.scene_model.specs.declared.fault.SessionFault.{SessionFault}
@@ -16,6 +17,6 @@ of_answer (Ok done) fault is why = inl is
 of_answer (Err f) fault is why = inr (is ∙ ap call_fault why)
 
 pub aborted : (old new : Option DrawingState) (fault : Fault) → IsSome old → IsSome new → IfOpen old new (IsAnswered Abort fault) → IsAbortFault fault
-aborted None new fault open there call = absurd open
-aborted (Some s) None fault open there call = absurd there
-aborted (Some s) (Some n) fault open there call = of_answer call.0 fault call.1 call.2.refusable
+aborted None new fault was_open there call = absurd (false≢true was_open)
+aborted (Some s) None fault was_open there call = absurd (false≢true there)
+aborted (Some s) (Some n) fault was_open there call = of_answer call.0 fault call.1 call.2.refusable
