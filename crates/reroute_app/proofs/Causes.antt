@@ -46,7 +46,7 @@ use Rattle.reroute_app.specs.Preview.{Previews}
 use Rattle.reroute_app.specs.Shared.{ListsPaths}
 use Rattle.reroute_app.specs.Certificate.{most_certificate_bytes, AuditsCertificate, UnlessLarge, WritesCertificate, audit_status}
 use Rattle.reroute_app.specs.Run.{IsFormOutcome}
-use Rattle.reroute_app.specs.Causes.{GainsLast, LastFailed, LastTookMore, HasReadDiagram, IsNoDiagram, HasNoLine, IsTooLarge, IsRefusedBy, FindsNoDiagram, FindsLines, HasBadLine, HasNoBadLine, FindsBadLine, FindsLegalLines, HasReadBoth, FindsReplay, FindsPreviews, FindsShared, FindsSmall, FindsAudit, FindsNoProof, FindsTrueClaims, ClaimsAreTrue, FindsRefusal, FindsNothing}
+use Rattle.reroute_app.specs.Causes.{GainsLast, LastFailed, LastTookMore, HasReadDiagram, IsNoDiagram, HasNoLine, IsTooLarge, IsRefusedBy, FindsNoDiagram, FindsLines, HasBadLine, HasNoBadLine, FindsBadLine, FindsLegalLines, HasReadBoth, FindsReplay, FindsPreviews, FindsShared, FindsSmall, FindsAudit, FindsNoProof, FindsRefusal, FindsNothing}
 use Rattle.reroute_app.specs.Causes.FindsNothing.{lines_are_legal, nothing_is_refused, is_made, no_proposal_is_refused, is_shared, has_certificate, is_proved}
 use Rattle.reroute_app.proofs.Courses.{note, exposed_once}
 

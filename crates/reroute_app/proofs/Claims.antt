@@ -1,5 +1,5 @@
 -- Where an audit ends as done, the certificate claims what is true.
-use Rattle.std.proofs.Common.{◌≡◌, ℕ, Bool, true, false, List, Option, Some, None, Result, Ok, Err, refl, sym, ap, subst, ◌∙◌}
+use Rattle.std.proofs.Common.{◌≡◌, ℕ, Bool, true, false, List, Option, Some, None, Result, Ok, Err, refl, sym, ap, subst}
 use Rattle.host_edge.specs.Folder.{ExposedFiles}
 use Rattle.host_edge.specs.Note.{Note}
 use Rattle.gml_text.specs.Tree.{Pairs}
@@ -9,7 +9,7 @@ use Rattle.scene_model.specs.Scene.{Scene}
 use Rattle.diagram_read.specs.declared.fault.DiagramFault.{DiagramFault}
 use Rattle.diagram_read.specs.declared.fault.Part.{Part}
 use Rattle.diagram_read.specs.Scene.{scene_of}
-use Rattle.command_words.specs.Words.{Form, audit, form_of}
+use Rattle.command_words.specs.Words.{Form, audit}
 use Rattle.form_certificate.specs.Sizes.{too_large}
 use Rattle.form_certificate.specs.Auditing.{HasTrueClaims}
 use Rattle.reroute_app.specs.declared.status.Status.TheVariants as status

@@ -48,25 +48,25 @@ fn serve_standard<R: Threads + Sync>(
 }
 
 /// Serves what is asked for, and answers how that ends. A line on standard error says what to do then.
-fn serve_asked(rt: &HostRuntime, asked: Asked) -> Status
+fn serve_asked<R: Threads + Sync>(rt: &R, edge: &HostRuntime, asked: Asked) -> Status
     requires some { 1 ≤ asked.workers }
     requires few_workers { asked.workers ≤ 4 }
 {
     let Asked { file, workers } = asked;
-    let status = match live_on(rt, rt, file, workers) {
-        Ok(mut live) => serve_standard(rt, rt, &mut live, workers),
+    let status = match live_on(rt, edge, file, workers) {
+        Ok(mut live) => serve_standard(rt, edge, &mut live, workers),
         Err(status) => status,
     };
     if let Some(advice) = status.advice() {
         // Where standard error is closed, the status alone reports the fault.
-        let _printed = eprintln!(rt; "reroute_live: {advice}");
+        let _printed = eprintln!(edge; "reroute_live: {advice}");
     }
     status
 }
 
 fn main(rt: HostRuntime) -> ExitCode {
     let status = match asked_for(&rt, rt.alloc()) {
-        Ok(asked) => serve_asked(&rt, asked),
+        Ok(asked) => serve_asked(&rt, &rt, asked),
         Err(status) => status,
     };
     ExitCode::from(status.code())

@@ -1,5 +1,5 @@
 -- A diagram or a certificate that is not read is the end, and what is read is audited.
-use Rattle.std.proofs.Common.{ℕ, List, sym, subst}
+use Rattle.std.proofs.Common.{ℕ, List, subst}
 use Rattle.std.specs.Prelude.{Option}
 use Rattle.host_edge.specs.Folder.{ExposedFiles}
 use Rattle.gml_text.specs.View.{tree}
