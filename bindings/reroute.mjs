@@ -257,7 +257,6 @@ export class Session {
   #held;
   #handle;
   #out; // 16 bytes for a fault, 16 for a number, 32 for a corner or for what is said of a line
-  #read = new Map(); // the lines that were read last, of which the engine says which differ from the next ones
   #reported = new Map(); // those that `lines` or `changes` answered last
   #reader;
 
@@ -432,10 +431,11 @@ export class Session {
     for (let place = 0; place < all; place++) {
       this.#call('line', said, this.#handle, place);
       const { view } = this.#engine, edge = view.getUint32(said, true), size = view.getUint32(said + 8, true);
-      const same = view.getUint8(said + 16) ? undefined : this.#read.get(edge);
-      lines.set(edge, same ?? this.#asReported(edge, this.#corners(place, size)));
+      // The engine says of each line whether it is another than the reported one.
+      const same = view.getUint8(said + 16) ? undefined : this.#reported.get(edge);
+      lines.set(edge, same ?? this.#corners(place, size));
     }
-    return this.#read = lines;
+    return lines;
   }
 
   #corners(place, size) {
@@ -445,13 +445,6 @@ export class Session {
       corners.push([this.#units(said), this.#units(said + 8)]);
     }
     return corners;
-  }
-
-  /** The corners, as the array that was reported if they are the same. */
-  #asReported(edge, corners) {
-    const known = this.#reported.get(edge);
-    const isSame = known?.length === corners.length && known.every(([x, y], at) => x === corners[at][0] && y === corners[at][1]);
-    return isSame ? known : corners;
   }
 
   /** What the connector's route costs, or null if it has none. */
