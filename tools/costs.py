@@ -5,7 +5,7 @@ All costs are in units of the diagram. The scene, its edges, ends and boxes are 
 import itertools
 
 # What a picture costs, besides the lengths of its lines.
-BEND, CROSSING, TOUCH, OVERLAP, CLOSE, SHORT, UNROUTED = 80, 54, 30, 300, 37, 25, 10000
+BEND, CROSSING, TOUCH, OVERLAP, CLOSE, SHORT, UNROUTED = 84, 47, 30, 300, 37, 25, 10000
 # Runs nearer than NEAR are close, end runs under HEAD are short for an arrow head, and pins keep PAD from corners.
 NEAR, HEAD, PAD = 3, 9, 4
 OPPOSITE = dict(zip('NESW', 'SWNE'))
