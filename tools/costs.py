@@ -5,7 +5,7 @@ All costs are in units of the diagram. The scene, its edges, ends and boxes are 
 import itertools
 
 # What a picture costs, besides the lengths of its lines.
-BEND, CROSSING, TOUCH, OVERLAP, CLOSE, SHORT, UNROUTED = 80, 54, 30, 300, 37, 25, 10000
+BEND, CROSSING, TOUCH, OVERLAP, CLOSE, SHORT, UNROUTED = 84, 47, 30, 300, 37, 25, 10000
 # Runs nearer than NEAR are close, end runs under HEAD are short for an arrow head, and pins keep PAD from corners.
 NEAR, HEAD, PAD = 3, 9, 4
 OPPOSITE = dict(zip('NESW', 'SWNE'))
@@ -114,6 +114,9 @@ class Picture:
     def of_edge(self, place):
         return self.cost([place], self.drawn)
 
+    def of_edges(self):
+        return {place: self.of_edge(place) for place in self.edges}
+
     def more_with(self, lines):
         """What the picture costs more with these lines."""
         return self.cost(lines, {**self.drawn, **self.drawn_from(lines)}) - self.cost(lines, self.drawn)
@@ -134,6 +137,11 @@ def untidy(row, box):
             total += max(0.0, 8 - (end.t - last) / unit) * 3
         last = end.t
     return total
+
+
+def looks(edge):
+    """What all places on the two boxes of an edge cost by their looks."""
+    return sum(untidy(box.row(side), box) for box in edge.boxes for side in OPPOSITE)
 
 
 def fitted(wants, low, high, gap):

@@ -7,17 +7,17 @@
 Lengths are whole thousandths. `choose` keeps a buffer, nudge and penalty that the diagram sets, unless it is given others.
 Both raise `gml.Fault` for a diagram that is none, or a program that does not run. The same input gives the same choice.
 
-`choose` asks a running reroute_live for the lines and judges the whole picture (`Picture`). It begins with the best of some
-ways to give sides, and then tries other places and sides by previews: of many edges at once, and edge by edge.
+`choose` asks a running reroute_live for the lines and judges the whole picture (`Picture`). It tries places and sides by
+previews: of many edges at once for each of some ways to give sides, and then edge by edge for the best of these.
 """
 import collections
 import itertools
 
 import gml
 import session as sessions
-from costs import NEAR, OPPOSITE, PAD, Estimates, Picture, fitted, untidy
+from costs import NEAR, OPPOSITE, PAD, Estimates, Picture, fitted, looks, untidy
 
-TRIES, EFFORT, SIDES_TRIED = 1000, 13_000_000, 5    # (the effort is tries by the square of the number of edges)
+TRIES, EFFORT, SIDES_TRIED = 1200, 15_000_000, 5    # (the effort is tries by the square of the number of edges)
 MOST_PINS, SIDES = 255, 'NESW'      # (one pin less than a diagram has, since an end that moves has two for a moment)
 # Lengths in units; a pin is at most REACH from the place that is nearest to its other end.
 BUFFERS, NUDGE, PENALTY = (12, 10, 8, 6, 4, 2, 1), 8, 50
@@ -209,11 +209,11 @@ class Places:
                     found.append((abs(wanted[0] - wanted[1]), edge.place, spot, edge))
         return [(spot, edge) for _, _, spot, edge in sorted(found, key=lambda pair: pair[:2])]
 
-    def place_all(self, estimates, keeps_order=False):
+    def place_all(self, estimates):
         """Gives each end its place: opposite its other end where order, gap and boxes allow, else evenly."""
         rows, wants, held = self.scene.rows(), {}, set()
         for row in rows.values():
-            row.sort(key=(lambda end: (end.t, end.edge.place)) if keeps_order else (lambda end: end.order))
+            row.sort(key=lambda end: end.order)
             wants.update(zip(row, (row[0].box.middle(row[0].side) + place for place in self.evenly(row))))
         for row in rows.values():
             self.fit(row, wants, held)
@@ -277,12 +277,12 @@ class Search:
         self.picture, self.places = Picture(scene, session.ask(['lines'])[0]), Places(scene)
         self.used, self.failed = 0, {}
 
-    def state(self):
-        return [(end.side, end.t) for end in self.scene.ends]
+    def state(self, ends):
+        return {end: (end.side, end.t) for end in ends}
 
     def restore(self, state):
-        for end, (side, t) in zip(self.scene.ends, state):
-            end.side, end.t = side, t
+        for end, place in state.items():
+            end.side, end.t = place
 
     def edits(self):
         """The edits that bring the pins of the program to their present places, and the pins of boxes after them."""
@@ -346,11 +346,11 @@ class Search:
     def by_better(self, starts):
         """Gives the ends of each edge the sides that they have where it costs least."""
         found = {place: min(starts, key=lambda start: start[2][place])[1] for place in self.picture.edges}
-        for i, end in enumerate(self.scene.ends):
-            end.side, _ = found[end.edge.place][i]
+        for end in self.scene.ends:
+            end.side, _ = found[end.edge.place][end]
 
     def start(self):
-        """Commits the best of some ways to give sides: by the lines without pins, by the boxes, by the best for each edge."""
+        """Commits the best of some starts, each bettered: sides by lines without pins, by boxes, and by the best for each edge."""
         starts = []                                 # (what the picture costs, the state, what each edge costs)
         for give_sides in (self.by_lines, self.scene.face, self.by_least, lambda: self.by_better(starts)):
             give_sides()
@@ -358,16 +358,17 @@ class Search:
                 end.order = order_by_angle(end)
             self.places.place_all(self.estimates)
             self.commit() if starts else self.give_pins()
-            total = self.reordered()
-            starts.insert(0, (total, self.state(), {place: self.picture.of_edge(place) for place in self.picture.edges}))
+            self.reorder()
+            self.improve_groups()
+            starts.insert(0, (self.picture.total(), self.state(self.scene.ends), self.picture.of_edges()))
         self.restore(min(starts[1:] + starts[:1], key=lambda start: start[0])[1])
         self.commit()
 
-    def reordered(self):
-        """Orders the ends by their lines while that is better; what the picture costs then."""
+    def reorder(self):
+        """Orders the ends by their lines while that is better."""
         total = self.picture.total()
         for _ in range(3):
-            now = self.state()
+            now = self.state(self.scene.ends)
             self.by_lines(gives_sides=False)
             self.places.place_all(self.estimates)
             self.commit()
@@ -376,7 +377,6 @@ class Search:
                 self.commit()
                 break
             total = self.picture.total()
-        return total
 
     def settle(self, buffers):
         """Takes the buffer with the best picture; a larger one is worth a little, for arrow heads need it."""
@@ -390,18 +390,19 @@ class Search:
 
     def plans(self, edge, moves):
         """The sides and places that each of the moves gives the ends at the boxes of an edge."""
-        now, found = self.state(), []
-        for _ in itertools.chain([None], moves):
-            plan = {end: (end.side, end.t) for box in edge.boxes for end in box.ends}
+        ends = [end for box in edge.boxes for end in box.ends]
+        found = [self.state(ends)]
+        for _ in moves:
+            plan = self.state(ends)
             if plan not in found:
                 found.append(plan)
-            self.restore(now)
+            self.restore(found[0])
         return found[1:]                            # (the first is the present one)
 
     def previewed(self, plans):
         """Puts ends where some plans have them; the lines that would change."""
-        for end, place in itertools.chain.from_iterable(plan.items() for plan in plans):
-            end.side, end.t = place
+        for plan in plans:
+            self.restore(plan)
         self.used += 1
         if self.say and self.used % 100 == 0:
             self.say(f'tried {self.used} places of pins, of at most {self.tries}')
@@ -410,22 +411,21 @@ class Search:
     def best_of(self, edges, moves):
         """Tries moves of edges that share no box, one of each edge at a time, and commits the best of each if the picture gains by
         them; how much that is. An edge alone is judged by the whole picture, else each by what it costs itself."""
-        now, trials, best = self.state(), [self.plans(edge, moves(edge)) for edge in edges], [(0.0, {}) for _ in edges]
-        looks = [self.looks(edge.boxes) for edge in edges]
+        now, trials = self.state(self.scene.ends), [self.plans(edge, moves(edge)) for edge in edges]
+        costs, looked = [self.picture.of_edge(edge.place) for edge in edges], [looks(edge) for edge in edges]
+        best = [(0.0, {}) for _ in edges]
         for plans in itertools.zip_longest(*trials, fillvalue={}):
             if self.used < self.tries:
                 lines = self.previewed(plans)
                 drawn = {**self.picture.drawn, **self.picture.drawn_from(lines)}
                 for i, (edge, plan) in enumerate(zip(edges, plans)):
-                    more = self.looks(edge.boxes) - looks[i]
-                    more += self.picture.cost([edge.place], drawn) - self.picture.of_edge(edge.place) if edges[1:] else \
-                        self.picture.more_with(lines)
-                    best[i] = (more, plan) if plan and more < best[i][0] else best[i]
+                    if plan:
+                        more = self.picture.cost([edge.place], drawn) - costs[i] if edges[1:] else self.picture.more_with(lines)
+                        best[i] = min(best[i], (more + looks(edge) - looked[i], plan), key=lambda pair: pair[0])
                 self.restore(now)
         more = 0.0
         if any(plan for _, plan in best):
-            more = self.picture.more_with(self.previewed(plan for _, plan in best))
-            more += sum(self.looks(edge.boxes) for edge in edges) - sum(looks)
+            more = self.picture.more_with(self.previewed(plan for _, plan in best)) + sum(map(looks, edges)) - sum(looked)
         if more < -1:
             self.commit()
             return -more
@@ -433,7 +433,7 @@ class Search:
         return 0.0
 
     def groups(self):
-        """The edges that may gain something in groups of which no two share a box."""
+        """The edges that may gain something in groups of which no two share a box, without those that are alone."""
         groups = []
         for edge in self.by_gain():
             boxes, group = next((pair for pair in groups if pair[0].isdisjoint(edge.boxes)), (set(), []))
@@ -441,10 +441,7 @@ class Search:
                 groups.append((boxes, group))
             boxes.update(edge.boxes)
             group.append(edge)
-        return [group for _, group in groups]
-
-    def looks(self, boxes):
-        return sum(untidy(box.row(side), box) for box in boxes for side in SIDES)
+        return [group for _, group in groups if group[1:]]
 
     def gaps(self, ends, low, high, most):
         """The middles of the widest gaps between low and high that other ends leave on the sides of these ends."""
@@ -458,7 +455,7 @@ class Search:
 
     def aligned(self, edge, most):
         """Two ends that face each other as they stand, and at one place: in gaps, or with the others moved aside."""
-        here, (low, high) = self.state(), edge.common_span()
+        here, (low, high) = self.state(end for box in edge.boxes for end in box.ends), edge.common_span()
         yield
         if low > high:
             return
@@ -522,6 +519,10 @@ class Search:
                 found.append((least - self.picture.of_edge(place), place))
         return [self.picture.edges[place] for more, place in sorted(found) if more < -10]
 
+    def improve_groups(self):
+        for group in self.groups():
+            self.best_of(group, self.moves)
+
     def improve(self):
         """One round over the edges whose cost or boxes are not as when their moves failed; what the picture gains."""
         gained = 0.0
@@ -546,9 +547,8 @@ class Search:
     def go(self, buffers):
         self.set_buffer(buffers[len(buffers) // 2])
         self.start()
+        self.improve_groups()
         for number in range(6):
-            for group in self.groups() if number < 2 else ():
-                self.best_of(group, self.moves)
             gained = self.improve()
             if number == 0:
                 self.settle(buffers)
