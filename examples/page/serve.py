@@ -60,7 +60,8 @@ class Live:
             try:
                 lines = asked(started, b'lines')
             except EOFError as fault:
-                why = started.stderr.read().strip() or str(fault).encode()
+                # (a line with advice may follow)
+                why = started.stderr.readline().strip() or str(fault).encode()
                 close(started)
                 return b'refused ' + why + b'\n'
             with self.lock:
