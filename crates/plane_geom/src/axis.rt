@@ -25,7 +25,14 @@ pub trait Axis {
 
     /// The way of the lines.
     fn way() -> Way
-        ensures { result ≡ way_of };
+        ensures { result ≡ way_of }
+    {
+        // Vertical lines run at one x.
+        match Self::across(Point { x: 1, y: 0 }) {
+            1 => Way::Vertical,
+            _ => Way::Horizontal,
+        }
+    }
 
     /// The coordinate `across` of the line through the point.
     fn across(p: Point) -> i64
@@ -99,10 +106,6 @@ impl Axis for XAxis {
 
     ghost swapped_lengths = { turned_length };
 
-    fn way() -> Way {
-        Way::Vertical
-    }
-
     fn across(p: Point) -> i64 {
         p.x
     }
@@ -147,10 +150,6 @@ impl Axis for YAxis {
     ghost swapped_twice = { λ p. refl };
 
     ghost swapped_lengths = { turned_length };
-
-    fn way() -> Way {
-        Way::Horizontal
-    }
 
     fn across(p: Point) -> i64 {
         p.y
