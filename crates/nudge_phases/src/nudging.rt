@@ -33,6 +33,6 @@ pub fn nudge(alloc: Global, scene: &Scene, answers: &[Answer]) -> Result<Nudged,
 {
     let nudge = scene.settings().nudge;
     let raw = raw_routes(alloc, scene, answers)?;
-    let floor = scene.floor()?;
-    nudge_routes(alloc, floor.solids.as_slice(), raw, nudge)
+    let solids = scene.solids()?;
+    nudge_routes(alloc, solids.as_slice(), raw, nudge)
 }

@@ -124,7 +124,7 @@ fn push_all_choices(
 }
 
 /// The solids, in the order of the nodes.
-fn solids(alloc: Global, parts: &Parts) -> Result<Solids, AllocError>
+pub(crate) fn solids(alloc: Global, parts: &Parts) -> Result<Solids, AllocError>
     requires { IsValid parts.now }
     ensures { IfOk result (λ s. s ≡ solids parts.now) }
 {

@@ -11,7 +11,7 @@ ghost use Rattle.scene_model.specs.Valid.{HasDirection, IsValid};
 ghost use Rattle.scene_model.specs.declared.edit.Edit.TheVariants as edits;
 
 use crate::routing;
-use plane_geom::Floor;
+use plane_geom::{Floor, Solids};
 use scene_model::{Dirs, Edge, Edit, Inverse, Node, SceneFault, Setting, Settings};
 use scene_parts::Parts;
 use std::alloc::{AllocError, Global};
@@ -143,6 +143,13 @@ impl Scene {
         ensures fits { IfOk result IsFloor }
     {
         routing::floor(self.alloc, &self.parts)
+    }
+
+    /// The solids of its nodes, in order. The only error is out of memory.
+    pub fn solids(&self) -> Result<Solids, AllocError>
+        ensures { IfOk result (λ s. s ≡ solids self.now) }
+    {
+        routing::solids(self.alloc, &self.parts)
     }
 
     /// The task of the connector with the number; the edge exists and is not a loop. The only error

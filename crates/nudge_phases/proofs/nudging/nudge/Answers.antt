@@ -2,7 +2,6 @@
 use Rattle.std.proofs.Common.{List, ap, sym, subst, ◌∙◌, rules, w64, FitsSigned}
 use Rattle.std.specs.Prelude.{All}
 use Rattle.std.proofs.lemmas.Int.{to_z-of_z}
-use Rattle.plane_geom.specs.declared.floor.Floor.{Floor}
 use Rattle.plane_geom.specs.declared.rect.Solid.{Solid}
 use Rattle.scene_model.specs.declared.settings.Settings.{Settings}
 use Rattle.nudge_laws.specs.Ready.{HasLegalWalk}
@@ -17,7 +16,7 @@ nudge_routes-requires-clause-edges c = raw_rise c.args.scene.now c.args.answers.
 
 pub nudge_routes-requires-clause-legal : goal.nudge_routes-requires-clause-legal
 nudge_routes-requires-clause-legal c =
-    subst (λ (fs : List Solid). All (HasLegalWalk fs) c.in_ok-raw.raw.items) (sym (c.as_slice.ensures ∙ ap (λ (f : Floor). f.solids) c.in_ok-floor.ensures.floor))
+    subst (λ (fs : List Solid). All (HasLegalWalk fs) c.in_ok-raw.raw.items) (sym (c.as_slice.ensures ∙ c.in_ok-solids.ensures))
     (raw_legal c.args.scene.now c.args.answers.now c.settings-nudge.ensures.valid c.requires c.in_ok-raw.raw.items c.in_ok-raw.ensures)
 
 pub nudge_routes-requires-clause-few : goal.nudge_routes-requires-clause-few
@@ -34,7 +33,7 @@ returns-clause-legal c =
     let v = c.settings-nudge.ensures.valid in
     legal s answers v c.requires c.nudge_routes.result
     (made s answers v c.requires c.nudge_routes.result c.as_slice.result.now c.in_ok-raw.raw.items c.settings-nudge.result.nudge
-    (c.as_slice.ensures ∙ ap (λ (f : Floor). f.solids) c.in_ok-floor.ensures.floor) (ap (λ (t : Settings). t.nudge) c.settings-nudge.ensures.value) c.in_ok-raw.ensures
+    (c.as_slice.ensures ∙ c.in_ok-solids.ensures) (ap (λ (t : Settings). t.nudge) c.settings-nudge.ensures.value) c.in_ok-raw.ensures
     (simp to_z-of_z at c.nudge_routes.ensures))
 
 pub returns-clause-edges : goal.returns-clause-edges
@@ -45,5 +44,5 @@ returns-clause-edges c =
     let v = c.settings-nudge.ensures.valid in
     edges s answers v c.requires c.nudge_routes.result
     (made s answers v c.requires c.nudge_routes.result c.as_slice.result.now c.in_ok-raw.raw.items c.settings-nudge.result.nudge
-    (c.as_slice.ensures ∙ ap (λ (f : Floor). f.solids) c.in_ok-floor.ensures.floor) (ap (λ (t : Settings). t.nudge) c.settings-nudge.ensures.value) c.in_ok-raw.ensures
+    (c.as_slice.ensures ∙ c.in_ok-solids.ensures) (ap (λ (t : Settings). t.nudge) c.settings-nudge.ensures.value) c.in_ok-raw.ensures
     (simp to_z-of_z at c.nudge_routes.ensures))
