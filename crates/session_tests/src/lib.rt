@@ -1,9 +1,6 @@
-//! Tests of sessions and of what stands on them, through public calls: books, calls, proposals, nudged lines, the
-//! program's runs, and sessions beside an editor.
+//! Tests of sessions and of what they stand on, through public calls: books, calls, proposals and nudged lines.
 #![tactic(auto)]
 
-#[cfg(test)]
-mod app;
 #[cfg(test)]
 mod asks;
 #[cfg(test)]
@@ -12,7 +9,5 @@ mod books;
 mod calls;
 #[cfg(test)]
 mod lines;
-#[cfg(test)]
-mod live;
 #[cfg(test)]
 mod previews;
