@@ -3,10 +3,16 @@ use Rattle.std.proofs.Common.{List, ap, sym, subst, ◌∙◌, rules, w64, FitsS
 use Rattle.std.specs.Prelude.{All}
 use Rattle.std.proofs.lemmas.Int.{to_z-of_z}
 use Rattle.plane_geom.specs.declared.rect.Solid.{Solid}
+use Rattle.plane_geom.specs.Floor.{IsSolid}
 use Rattle.scene_model.specs.declared.settings.Settings.{Settings}
+use Rattle.scene_model.proofs.ForRouting.Floors.{floors_fit}
 use Rattle.nudge_laws.specs.Ready.{HasLegalWalk}
 use Rattle.nudge_phases.proofs.SceneLines.{apart, edges, legal, made, raw_are, raw_few, raw_legal, raw_rise}
 use Rattle.nudge_phases.proofs.nudging.nudge.Goals as goal
+
+pub nudge_routes-requires-clause-solids : goal.nudge_routes-requires-clause-solids
+nudge_routes-requires-clause-solids c =
+    subst (All IsSolid) (sym (c.as_slice.ensures ∙ c.in_ok-solids.ensures)) (floors_fit c.args.scene.now c.settings-nudge.ensures.valid).solids
 
 pub nudge_routes-requires-clause-raw : goal.nudge_routes-requires-clause-raw
 nudge_routes-requires-clause-raw c = raw_are c.args.scene.now c.args.answers.now c.settings-nudge.ensures.valid c.requires c.in_ok-raw.raw.items c.in_ok-raw.ensures
