@@ -27,7 +27,7 @@ export class Reroute {
   readonly version: number;
 }
 
-export interface Pin { readonly pinClass: number; readonly dx: number; readonly dy: number; readonly sides: string; readonly cost: number }
+export interface Pin { readonly pinClass: number; readonly dx: number; readonly dy: number; readonly sides: string }
 export interface Box {
   readonly id: Id;
   readonly x: number;
@@ -35,7 +35,6 @@ export interface Box {
   readonly w: number;
   readonly h: number;
   readonly isGroup: boolean;
-  readonly label: string | null;
   readonly pins: readonly Pin[];
 }
 export interface Connector {
@@ -44,10 +43,7 @@ export interface Connector {
   readonly to: Id;
   readonly fromClass: number;
   readonly toClass: number;
-  readonly label: string | null;
   readonly checkpoints: readonly Corner[];
-  /** What its route costs, or null if it has none. */
-  readonly cost: number | null;
 }
 export interface Settings { readonly penalty: number; readonly buffer: number; readonly nudge: number }
 export interface Scene { readonly boxes: readonly Box[]; readonly connectors: readonly Connector[]; readonly settings: Settings }
@@ -82,7 +78,7 @@ export class Session {
   addPin(id: Id, pinClass: number, dx: number, dy: number, sides?: string): void;
   dropPin(id: Id, place: number): void;
   connect(start: Id, end: Id, startClass?: number, endClass?: number): number;
-  /** Moves the ends of a connector of the present scene to other boxes or classes, and answers its new number. */
+  /** Moves the ends of a connector to other boxes or classes, and answers its new number. */
   reconnect(edge: number, ends: { from?: Id; to?: Id; fromClass?: number; toClass?: number }): number;
   setClasses(edge: number, startClass: number, endClass: number): void;
   cut(edge: number): void;
@@ -92,20 +88,25 @@ export class Session {
 
   /** All lines: they are reported. */
   lines(): Lines;
-  /** The lines that differ from the reported ones, without corners for those that are gone. Then they are reported. */
+  /** The lines that differ from the reported ones, without corners for a connector that has none any more, since it was cut or has
+      no legal route. Then they are reported. */
   changes(): Lines;
   /** The lines that a commit of the open transaction would give. They are not reported by that. */
   preview(): Lines;
   /** What of them differs from the reported ones. */
   previewChanges(): Lines;
+  /** What the route of a connector of the present scene costs, or null if it has none. */
   cost(edge: number): number | null;
   readonly searched: number;
 
-  /** The present scene; an open transaction makes no difference. */
-  scene(): Scene;
+  /** The scene: that of the open transaction if one is open, otherwise the present one. */
   boxes(): readonly Box[];
+  /** The connectors in the order of their numbers. */
   connectors(): readonly Connector[];
   settings(): Settings;
+  /** All three. */
+  scene(): Scene;
+  /** Of the present scene, whether or not a transaction is open. */
   readonly boxCount: number;
   readonly connectorCount: number;
   readonly next: number;
@@ -115,14 +116,5 @@ export class Session {
   play(script: string | BufferSource): void;
 }
 
-/** A pair of a text in GML: its value is a word or a list, and `at`, `from` and `end` say where key and value stand. */
-export interface Pair { readonly key: string; readonly value: string | Pair[]; readonly at: number; readonly from: number; readonly end: number }
-export function pairsOf(text: string): Pair[];
 /** The text of a diagram's bytes: UTF-8 or, as GML has it, Latin-1. */
 export function textOf(bytes: Uint8Array): string;
-/** Reads the scene from the diagram that the engine writes; `did` is told of the commands in the words of a script. */
-export class SceneReader {
-  constructor(next: number);
-  did(command: string, number?: number | string): void;
-  scene(gml: string): { boxes: Box[]; connectors: Omit<Connector, 'cost'>[]; settings: Settings };
-}

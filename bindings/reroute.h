@@ -9,11 +9,15 @@
  * reroute_close. Your memory is written only where a parameter says so, and no pointer to it is kept, but for the room.
  * The room may not be moved or copied.
  *
- * Pointers. None may be NULL, but the text of reroute_start_gml. A copy of a handle is the same session.
+ * Pointers. None may be NULL, even beside a length or a room of 0, but the text of reroute_start_gml and the context of
+ * reroute_for_changed. What two of them point to may not overlap. Texts have any length, since the program's limits for files do
+ * not hold here, and no 0 at their end.
+ *
+ * Handles. A copy of a handle is the same session: what is closed by one is closed for both. After reroute_end, or a fault of
+ * reroute_start, a handle may only be started or ended, and a copy of it not be used; to start one that has a room loses that.
  *
  * Closed. On a closed session, calls that return a fault return REROUTE_NO_SESSION, but for those that open, and write nothing;
- * the others return 0, false or no line. After reroute_end a handle may only be started or ended again, and a copy of it not be
- * used.
+ * the others return 0, false or no line.
  *
  * Threads. Sessions share nothing. Calls of one session must not overlap; they may come from different threads, one after
  * another. No call starts a thread, takes a lock, reads or writes a file, prints, or ends the process.
@@ -96,7 +100,8 @@ void reroute_ready(void *room);
 /* Opens the empty scene: penalty 50000, buffer 4000, nudge 4000. If the session is open, it stays: REROUTE_ALREADY_OPEN. */
 reroute_fault reroute_open(reroute_session *session);
 /* Opens the scene of a diagram in GML, with its boxes, pins, connectors, checkpoints and settings, as the program reads it.
- * The text is not NULL. If the session is open, it stays: REROUTE_ALREADY_OPEN; after any other fault it is closed. */
+ * The text is not NULL. If the session is open, it stays: REROUTE_ALREADY_OPEN; after any other fault it is closed, and may be
+ * opened again. */
 reroute_fault reroute_open_gml(reroute_session *session, const uint8_t *text, size_t length);
 /* Closes the session and gives its memory back, all but the room. Does nothing if it is closed. */
 void reroute_close(reroute_session *session);
@@ -128,7 +133,8 @@ typedef struct reroute_directions { bool east, south, west, north; } reroute_dir
 reroute_fault reroute_add_pin(reroute_session *session, int64_t id, uint32_t pin_class, int64_t dx, int64_t dy, reroute_directions directions);
 /* Removes the pin at a place of the box, from 1. */
 reroute_fault reroute_drop_pin(reroute_session *session, int64_t id, uint32_t place);
-/* A connector between any pins of the two classes. *number becomes its number; if the call is refused, it stays. */
+/* A connector between any pins of the two classes. *number, which is not NULL, becomes its number; if the call is refused, it
+ * stays. */
 reroute_fault reroute_connect(reroute_session *session, int64_t from, uint32_t from_class, int64_t to, uint32_t to_class, uint32_t *number);
 /* The number that the next connector gets: in the open transaction, if one is open; 0 if the session is closed. */
 uint32_t reroute_next(reroute_session *session);
@@ -204,11 +210,12 @@ bool reroute_settings(reroute_session *session, reroute_settings_info *settings)
 /* --- Texts ----------------------------------------------------------------------------------------------------------- */
 /* Writes the diagram that was opened, with the present scene and its lines put in, as the program writes it; reroute_open
  * opens `graph [ ]`. It writes the first bytes, as many as there is room for, and sets *length to how many there are in all:
- * ask with a room of 0 first. out is not NULL. After a fault nothing is written. */
+ * ask with a room of 0 first. out and length are not NULL. After a fault nothing is written, and nothing else changes. */
 reroute_fault reroute_write_gml(reroute_session *session, uint8_t *out, size_t room, size_t *length);
 /* Plays the lines of a script, as the program does, up to the first that is refused: the fault is that of the line, and *line
- * becomes its number, from 1; 0 if none is refused, or if memory runs out before the first. The lines before it are done. The
- * script is not NULL. A transaction that is open at the end stays open. */
+ * becomes its number, from 1; 0 if none is refused, or if memory runs out before the first, and then all stays. What the lines
+ * before it committed stays; no transaction is open after it, and one that was open is dropped, also if it was open before the
+ * call. Where none is refused, a transaction that is open at the end stays open. script and line are not NULL. */
 reroute_fault reroute_play(reroute_session *session, const uint8_t *script, size_t length, size_t *line);
 
 /* --- In C, over the calls above: not part of the library ----------------------------------------------------------- */
@@ -239,7 +246,7 @@ static inline const char *reroute_fault_name(uint32_t code) {
     return "";
 }
 /* Takes a room by malloc, and opens in it the empty scene, or the scene of a diagram if the text is not NULL. After a fault
- * nothing is to be ended. */
+ * nothing is to be ended, and the handle may be started again. */
 static inline reroute_fault reroute_start_gml(reroute_session *session, const uint8_t *text, size_t length) {
     reroute_fault fault = { REROUTE_MEMORY, 0 };
     session->held = malloc(reroute_size());
@@ -256,21 +263,23 @@ static inline reroute_fault reroute_start_gml(reroute_session *session, const ui
 static inline reroute_fault reroute_start(reroute_session *session) {
     return reroute_start_gml(session, NULL, 0);
 }
-/* Closes the session and gives its room back. */
+/* Closes the session and gives its room back. Does nothing if the handle has none. */
 static inline void reroute_end(reroute_session *session) {
     if (!session->held) return;
     reroute_close(session);
     free(session->held);
     session->held = NULL;
 }
-/* Writes the first corners of the line at a place, as many as there is room for, and returns how many were written. */
+/* Writes the first corners of the line at a place, as many as there is room for, and returns how many were written. out is not
+ * NULL. */
 static inline size_t reroute_corners(reroute_session *session, size_t place, reroute_point *out, size_t room) {
     size_t at = 0;
     while (at < room && reroute_corner(session, place, at, &out[at])) at++;
     return at;
 }
 /* Reports the lines, and calls back for each that changed and for each connector that is gone, whose line has no corners, in
- * place of libavoid's callback of a connector. */
+ * place of libavoid's callback of a connector. After a fault nothing is called. changed is not NULL; it may read the lines, and
+ * not ask for others. */
 static inline reroute_fault reroute_for_changed(reroute_session *session, void (*changed)(void *context, reroute_line_info line, size_t place), void *context) {
     size_t count = 0;
     reroute_fault fault = reroute_lines(session, &count);

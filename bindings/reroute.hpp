@@ -26,6 +26,12 @@ inline bool operator!=(const Point &a, const Point &b) { return !(a == b); }
 using Corners = std::vector<Point>;
 using Lines = std::map<uint32_t, Corners>;
 
+// What is read of a scene. A box is told by its centre and its size, and lines may cross one that is a group; a pin by its
+// offset from that centre, and the sides to which lines may leave, as letters of ESWN.
+struct Pin { uint32_t pinClass; double dx, dy; std::string sides; };
+struct Box { int64_t id; double x, y, w, h; bool isGroup; std::vector<Pin> pins; };
+struct Connector { uint32_t number; int64_t start, end; uint32_t startClass, endClass; Corners checkpoints; };
+struct Settings { double penalty, buffer, nudge; };
 enum class Setting { penalty, buffer, nudge };
 
 // A call that was refused. No transaction is open after it, and nothing else changed.
@@ -59,7 +65,6 @@ private:
 // calls. A length that is not finite, or whose thousandths do not fit 64 bits, is a std::invalid_argument before any call.
 class Session {
     mutable reroute_session session_; // (the calls that read take it as the others do)
-    Lines told_;
 
     static int64_t milli(double value) {
         if (!(std::isfinite(value) && std::fabs(value) <= 9e15)) throw std::invalid_argument("reroute: no length");
@@ -77,6 +82,9 @@ class Session {
         auto has = [&](char side) { return sides.find(side) != std::string::npos; };
         return {has('E'), has('S'), has('W'), has('N')};
     }
+    static std::string letters(reroute_directions to) {
+        return std::string(to.east ? "E" : "") + (to.south ? "S" : "") + (to.west ? "W" : "") + (to.north ? "N" : "");
+    }
     reroute_session *at() const {
         if (!session_.held) throw Refused({REROUTE_NO_SESSION, 0});
         return &session_;
@@ -89,12 +97,9 @@ public:
     ~Session() { reroute_end(&session_); }
     Session(const Session &) = delete;
     Session &operator=(const Session &) = delete;
-    Session(Session &&other) noexcept : session_(other.session_), told_(std::move(other.told_)) {
-        other.session_.held = nullptr;
-    }
+    Session(Session &&other) noexcept : session_(other.session_) { other.session_.held = nullptr; }
     Session &operator=(Session &&other) noexcept {
         std::swap(session_, other.session_);
-        told_.swap(other.told_);
         return *this;
     }
 
@@ -147,18 +152,14 @@ public:
     }
 
     // The lines of all connectors that have one.
-    Lines lines() { return told_ = read(reroute_lines); }
+    Lines lines() { return read(reroute_lines, false); }
     // The lines that differ from those that lines() or changes() told last. A connector whose line is gone, since it was cut
-    // or has no legal route any more, has no corners.
-    Lines changes() {
-        Lines now = read(reroute_lines), found = differences(now);
-        told_.swap(now);
-        return found;
-    }
+    // or has no legal route any more, has no corners. After a std::bad_alloc ask for lines().
+    Lines changes() { return read(reroute_lines, true); }
     // The lines that a commit of the open transaction would give. Nothing changes.
-    Lines preview() { return read(reroute_preview); }
+    Lines preview() { return read(reroute_preview, false); }
     // What changes() would tell after that commit. What was told last stays.
-    Lines previewChanges() { return differences(preview()); }
+    Lines previewChanges() { return read(reroute_preview, true); }
     // The lines that these edits would give, which are dropped again.
     template <typename Edits> Lines previewLines(Edits edits) {
         return trial([&](Session &session) {
@@ -180,11 +181,38 @@ public:
         return cost(connector, found) ? std::optional<double>(found) : std::nullopt;
     }
 #endif
+
+    // The scene: that of the open transaction if one is open, otherwise the present one. Connectors are in the order of their
+    // numbers.
+    std::vector<Box> boxes() const {
+        std::vector<Box> found;
+        reroute_box_info box;
+        reroute_pin_info pin;
+        for (std::size_t place = 0; reroute_box(at(), place, &box); place++) {
+            found.push_back({box.id, units(box.x), units(box.y), units(box.w), units(box.h), box.group, {}});
+            for (std::size_t n = 0; reroute_pin(at(), place, n, &pin); n++)
+                found.back().pins.push_back({pin.pin_class, units(pin.dx), units(pin.dy), letters(pin.directions)});
+        }
+        return found;
+    }
+    std::vector<Connector> connectors() const {
+        std::vector<Connector> found;
+        reroute_connector_info one;
+        for (std::size_t place = 0; reroute_connector(at(), place, &one); place++)
+            found.push_back({one.number, one.from, one.to, one.from_class, one.to_class, points(reroute_checkpoint, place)});
+        return found;
+    }
+    Settings settings() const {
+        reroute_settings_info found;
+        if (!reroute_settings(at(), &found)) throw Refused({REROUTE_NO_SESSION, 0});
+        return {units(found.penalty), units(found.buffer), units(found.nudge)};
+    }
+    // Of the present scene, whether or not a transaction is open.
+    std::size_t boxCount() const { return reroute_box_count(at()); }
+    std::size_t connectorCount() const { return reroute_connector_count(at()); }
     // The number that the next connector gets.
     uint32_t next() const { return reroute_next(at()); }
     uint64_t searched() const { return reroute_searched(at()); }
-    std::size_t boxCount() const { return reroute_box_count(at()); }
-    std::size_t connectorCount() const { return reroute_connector_count(at()); }
 
     // The diagram in GML, with the present scene and its lines put in.
     std::string gml() const {
@@ -232,28 +260,23 @@ private:
         }
     };
 
-    Lines read(reroute_fault (*call)(reroute_session *, std::size_t *)) {
+    // The lines that a call gives; or those that changed, with the connectors that are gone.
+    Lines read(reroute_fault (*call)(reroute_session *, std::size_t *), bool isChanges) {
         Lines found;
         std::size_t count = 0;
         done(call(at(), &count));
         for (std::size_t place = 0; place < count; place++) {
             reroute_line_info line = reroute_line(at(), place);
-            Corners &corners = found[line.connector];
-            corners.reserve(line.corners);
-            reroute_point corner;
-            for (std::size_t n = 0; reroute_corner(at(), place, n, &corner); n++)
-                corners.push_back({units(corner.x), units(corner.y)});
+            if (line.changed || !isChanges) found[line.connector] = points(reroute_corner, place);
         }
+        for (std::size_t place = 0; isChanges && place < reroute_gone_count(at()); place++) found[reroute_gone(at(), place)];
         return found;
     }
-    Lines differences(const Lines &now) const {
-        Lines found;
-        for (const auto &line : now) {
-            auto old = told_.find(line.first);
-            if (old == told_.end() || old->second != line.second) found.insert(line);
-        }
-        for (const auto &line : told_)
-            if (!now.count(line.first)) found[line.first];
+    // All points that a call has of the line, or the connector, at a place.
+    Corners points(bool (*call)(reroute_session *, std::size_t, std::size_t, reroute_point *), std::size_t place) const {
+        Corners found;
+        reroute_point point;
+        for (std::size_t n = 0; call(at(), place, n, &point); n++) found.push_back({units(point.x), units(point.y)});
         return found;
     }
 };

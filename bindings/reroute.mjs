@@ -60,124 +60,18 @@ function whole(number) {
   return value;
 }
 
+/** A number of 64 bits: a BigInt only where it is beyond 2^53. */
+const near = value => (Number.isSafeInteger(Number(value)) ? Number(value) : value);
+
 /** A number from 0 that fits 32 bits. */
 function count(number) {
   if (number >>> 0 !== number) throw new RangeError(`${number} is no number from 0 to 4294967295`);
   return number;
 }
 
-// --- The scene, read from the diagram until the engine has calls for it
-
-const LATIN = ('nbsp iexcl cent pound curren yen brvbar sect uml copy ordf laquo not shy reg macr deg plusmn sup2 sup3 acute micro ' +
-  'para middot cedil sup1 ordm raquo frac14 frac12 frac34 iquest Agrave Aacute Acirc Atilde Auml Aring AElig Ccedil Egrave Eacute ' +
-  'Ecirc Euml Igrave Iacute Icirc Iuml ETH Ntilde Ograve Oacute Ocirc Otilde Ouml times Oslash Ugrave Uacute Ucirc Uuml Yacute ' +
-  'THORN szlig agrave aacute acirc atilde auml aring aelig ccedil egrave eacute ecirc euml igrave iacute icirc iuml eth ntilde ' +
-  'ograve oacute ocirc otilde ouml divide oslash ugrave uacute ucirc uuml yacute thorn yuml').split(' ');
-const ENTITIES = new Map([['quot', '"'], ['amp', '&'], ['lt', '<'], ['gt', '>'], ['apos', "'"],
-  ...LATIN.map((name, at) => [name, String.fromCharCode(160 + at)])]);
-
-/** The text of a string in GML, without its quotes. */
-function decoded(word) {
-  return word.replace(/^"|"$/g, '').replace(/&(?:#(\d+)|#[xX]([\da-fA-F]+)|(\w+));/g, (whole, decimal, hex, name) => {
-    const point = decimal ? Number(decimal) : parseInt(hex, 16);
-    return name ? ENTITIES.get(name) ?? whole : point <= 0x10ffff ? String.fromCodePoint(point) : whole;
-  });
-}
-
 /** The text of a diagram's bytes: UTF-8 or, as GML has it, Latin-1. */
 export function textOf(bytes) {
   try { return new TextDecoder('utf-8', { fatal: true }).decode(bytes); } catch { return new TextDecoder('iso-8859-1').decode(bytes); }
-}
-
-/** The pairs of a text in GML: a key, its value, which is a list of pairs or a word, and where key and value begin and end. */
-export function pairsOf(text) {
-  const all = [], above = [];
-  let pairs = all, key = null;
-  for (const { 0: word, index } of text.matchAll(/#[^\n]*|"[^"]*"|[[\]]|[^\s[\]"#]+/g)) {
-    if (word[0] === '#') continue;
-    if (word === ']') {
-      pairs = above.pop() ?? all;
-      if (pairs.length) pairs.at(-1).end = index + 1;
-      key = null;
-    } else if (key === null) key = { key: word, at: index };
-    else {
-      const pair = { ...key, value: word === '[' ? [] : word, from: index, end: index + word.length };
-      pairs.push(pair);
-      key = null;
-      if (word !== '[') continue;
-      above.push(pairs);
-      pairs = pair.value;
-    }
-  }
-  return all;
-}
-
-const listOf = (pairs, key) => pairs.find(pair => pair.key === key && Array.isArray(pair.value))?.value ?? [];
-const listsOf = (pairs, key) => pairs.filter(pair => pair.key === key && Array.isArray(pair.value)).map(pair => pair.value);
-const wordOf = (pairs, key) => pairs.find(pair => pair.key === key)?.value;
-const numberOf = (pairs, key, other = 0) => Number(wordOf(pairs, key) ?? other);
-const labelOf = pairs => (typeof wordOf(pairs, 'label') === 'string' ? decoded(wordOf(pairs, 'label')) : null);
-
-function idOf(pairs, key) {
-  const near = numberOf(pairs, key);
-  return Number.isSafeInteger(near) ? near : BigInt(wordOf(pairs, key));
-}
-
-function boxOf(node) {
-  const at = listOf(node, 'graphics');
-  return { id: idOf(node, 'id'), x: numberOf(at, 'x'), y: numberOf(at, 'y'), w: numberOf(at, 'w', 30), h: numberOf(at, 'h', 30),
-    isGroup: numberOf(node, 'isGroup') === 1, label: labelOf(node),
-    pins: listsOf(node, 'pin').map(pin => ({ pinClass: numberOf(pin, 'class'), dx: numberOf(pin, 'x'), dy: numberOf(pin, 'y'),
-      sides: decoded(wordOf(pin, 'dirs') ?? 'ESWN'), cost: numberOf(pin, 'cost') })) };
-}
-
-function connectorOf(edge, number) {
-  return { number, from: idOf(edge, 'source'), to: idOf(edge, 'target'), fromClass: numberOf(edge, 'sourcePin'),
-    toClass: numberOf(edge, 'targetPin'), label: labelOf(edge),
-    checkpoints: listsOf(edge, 'via').map(via => [numberOf(via, 'x'), numberOf(via, 'y')]) };
-}
-
-/** Reads the scene from the diagram that the engine writes. The number of a connector does not stand there, but follows from
-    the commands, of which `did` is told in the words of a script. */
-export class SceneReader {
-  #present; // the numbers of the connectors, as they follow each other in the diagram, and the next one
-  #open = null;
-  #past = [];
-  #future = [];
-
-  /** Of a diagram that was opened, whose next connector gets this number. */
-  constructor(next) { this.#present = { numbers: Array.from({ length: next - 1 }, (_, at) => at + 1), next }; }
-
-  did(command, number) {
-    const { numbers, next } = this.#open ?? this.#present;
-    if (command === 'begin') this.#open = this.#present;
-    else if (command === 'edge') this.#open = { numbers: [...numbers, next], next: next + 1 };
-    else if (command === 'cut') this.#open = { numbers: numbers.filter(one => one !== Number(number)), next };
-    else if (command === 'commit') this.#commit();
-    else if (command === 'undo') this.#step(this.#past, this.#future);
-    else if (command === 'redo') this.#step(this.#future, this.#past);
-    else if (command === 'abort' || command === 'refused') this.#open = null;
-  }
-
-  #commit() {
-    this.#past = [...this.#past.slice(-99), this.#present]; // (the engine keeps a hundred)
-    this.#future = [];
-    this.#present = this.#open;
-    this.#open = null;
-  }
-
-  #step(from, to) {
-    to.push(this.#present);
-    this.#present = from.pop();
-  }
-
-  /** The scene of the diagram: boxes, connectors and settings. */
-  scene(gml) {
-    const graph = listOf(pairsOf(gml), 'graph'), router = listOf(graph, 'router'), { numbers } = this.#present;
-    return { boxes: listsOf(graph, 'node').map(boxOf),
-      connectors: listsOf(graph, 'edge').map((edge, at) => connectorOf(edge, numbers[at])),
-      settings: { penalty: numberOf(router, 'penalty', 50), buffer: numberOf(router, 'buffer', 4), nudge: numberOf(router, 'nudge', 4) } };
-  }
 }
 
 // --- The engine
@@ -244,26 +138,17 @@ function release({ engine, room, handle }) {
 }
 const forgotten = new FinalizationRegistry(held => { try { release(held); } catch { /* the engine stopped */ } });
 
-/** The lines of `now` that differ from those before, by connector; without corners for a connector that has none any more. */
-function differing(before, now) {
-  const changed = new Map([...now].filter(([edge, corners]) => before.get(edge) !== corners));
-  for (const edge of before.keys()) if (!now.has(edge)) changed.set(edge, []);
-  return changed;
-}
-
 /** A scene of boxes, pins and connectors, with the lines of the connectors. */
 export class Session {
   #engine;
   #held;
   #handle;
-  #out; // 16 bytes for a fault, 16 for a number, 32 for a corner or for what is said of a line
-  #reported = new Map(); // those that `lines` or `changes` answered last
-  #reader;
+  #out; // 16 bytes for a fault, 16 for a number, 64 for what is said of a line, a corner, a box, a pin or a connector
 
   /** A session on the empty scene, or on the scene of a diagram in GML, which is a string or bytes. */
   constructor({ gml = null, engine = loaded } = {}) {
     if (!engine) throw new Error('await Reroute.load() first');
-    const size = engine.call('size') + 15 & -16, room = engine.alloc(size + 80);
+    const size = engine.call('size') + 15 & -16, room = engine.alloc(size + 112);
     this.#engine = engine;
     this.#handle = room + size;
     this.#out = this.#handle + 16;
@@ -277,7 +162,6 @@ export class Session {
       this.close();
       throw error;
     }
-    this.#reader = new SceneReader(this.next);
     forgotten.register(this, this.#held, this);
   }
 
@@ -306,25 +190,22 @@ export class Session {
     this.#call(name, this.#out, this.#handle, ...words);
     const code = this.#engine.view.getUint32(this.#out, true);
     if (!code) return;
-    const value = this.#engine.view.getBigInt64(this.#out + 8, true), near = Number(value);
-    const line = name === 'play' ? this.#number() : 0;
-    throw new Refused(code, Number.isSafeInteger(near) ? near : value, line);
-  }
-
-  /** A call of the history or of a transaction, which a script has as `command`. */
-  #step(command, name, ...words) {
-    try {
-      this.#do(name, ...words);
-    } catch (error) {
-      this.#reader.did('refused');
-      throw error;
-    }
-    this.#reader.did(command, words[0]);
+    throw new Refused(code, this.#id(this.#out + 8), name === 'play' ? this.#number() : 0);
   }
 
   /** A number that a call wrote, not below 0 and below 2^53. */
   #number() { return this.#engine.view.getUint32(this.#out + 16, true) + 2 ** 32 * this.#engine.view.getUint32(this.#out + 20, true); }
   #units(at) { return (this.#engine.view.getUint32(at, true) + 2 ** 32 * this.#engine.view.getInt32(at + 4, true)) / 1000; }
+  #word(at) { return this.#engine.view.getUint32(at, true); }
+  #id(at) { return near(this.#engine.view.getBigInt64(at, true)); }
+
+  /** What a call has at the places from 0 on, each as `made` reads it from where it is written. */
+  #all(name, made, ...of) {
+    const found = [], said = this.#out + 32;
+    for (let place = 0; this.#call(name, this.#handle, ...of, place, said); place++) found.push(made(said, place));
+    return found;
+  }
+  #points(name, of) { return this.#all(name, at => [this.#units(at), this.#units(at + 8)], of); }
 
   #withBytes(text, doing) {
     const bytes = typeof text === 'string' ? new TextEncoder().encode(text)
@@ -340,11 +221,11 @@ export class Session {
 
   // --- Transactions
 
-  begin() { this.#step('begin', 'begin'); }
-  commit() { this.#step('commit', 'commit'); }
-  abort() { this.#step('abort', 'abort'); }
-  undo() { this.#step('undo', 'undo'); }
-  redo() { this.#step('redo', 'redo'); }
+  begin() { this.#do('begin'); }
+  commit() { this.#do('commit'); }
+  abort() { this.#do('abort'); }
+  undo() { this.#do('undo'); }
+  redo() { this.#do('redo'); }
 
   /** Edits that hold together: a refusal or an error among them rolls all of them back. They may be a promise. */
   transaction(edits) { return this.#between(edits, answer => { this.commit(); return answer; }); }
@@ -371,30 +252,30 @@ export class Session {
   // --- Edits of the open transaction
 
   /** A box by its id, its centre and its size. */
-  addBox(id, x, y, w, h) { this.#step('node', 'add_box', whole(id), milli(x), milli(y), milli(w), milli(h)); }
-  move(id, x, y) { this.#step('move', 'move_box', whole(id), milli(x), milli(y)); }
-  resize(id, w, h) { this.#step('size', 'size_box', whole(id), milli(w), milli(h)); }
-  drop(id) { this.#step('drop', 'drop_box', whole(id)); }
+  addBox(id, x, y, w, h) { this.#do('add_box', whole(id), milli(x), milli(y), milli(w), milli(h)); }
+  move(id, x, y) { this.#do('move_box', whole(id), milli(x), milli(y)); }
+  resize(id, w, h) { this.#do('size_box', whole(id), milli(w), milli(h)); }
+  drop(id) { this.#do('drop_box', whole(id)); }
   /** A pin of a class from 1, at an offset from the box's centre, where lines may leave to these sides. */
   addPin(id, pinClass, dx, dy, sides = 'ESWN') {
     if (!/^[ESWN]*$/.test(sides)) throw new RangeError(`${sides} has other letters than E, S, W and N`);
     const directions = [...'ESWN'].reduce((bytes, side, at) => bytes | sides.includes(side) << 8 * at, 0);
-    this.#step('pin', 'add_pin', whole(id), count(pinClass), milli(dx), milli(dy), directions);
+    this.#do('add_pin', whole(id), count(pinClass), milli(dx), milli(dy), directions);
   }
-  dropPin(id, place) { this.#step('unpin', 'drop_pin', whole(id), count(place)); }
+  dropPin(id, place) { this.#do('drop_pin', whole(id), count(place)); }
   /** Connects two boxes, and answers the number of the connector. Class 0 is the box's centre. */
   connect(start, end, startClass = 0, endClass = 0) {
-    this.#step('edge', 'connect', whole(start), count(startClass), whole(end), count(endClass), this.#out + 16);
-    return this.#engine.view.getUint32(this.#out + 16, true);
+    this.#do('connect', whole(start), count(startClass), whole(end), count(endClass), this.#out + 16);
+    return this.#word(this.#out + 16);
   }
-  setClasses(edge, startClass, endClass) { this.#step('classes', 'set_classes', count(edge), count(startClass), count(endClass)); }
-  cut(edge) { this.#step('cut', 'cut', count(edge)); }
-  addCheckpoint(edge, place, x, y) { this.#step('via', 'add_checkpoint', count(edge), count(place), milli(x), milli(y)); }
-  dropCheckpoint(edge, place) { this.#step('unvia', 'drop_checkpoint', count(edge), count(place)); }
+  setClasses(edge, startClass, endClass) { this.#do('set_classes', count(edge), count(startClass), count(endClass)); }
+  cut(edge) { this.#do('cut', count(edge)); }
+  addCheckpoint(edge, place, x, y) { this.#do('add_checkpoint', count(edge), count(place), milli(x), milli(y)); }
+  dropCheckpoint(edge, place) { this.#do('drop_checkpoint', count(edge), count(place)); }
   /** Sets `penalty`, `buffer` or `nudge`. */
   set(setting, value) {
     if (!['penalty', 'buffer', 'nudge'].includes(setting)) throw new RangeError(`${setting} is no setting`);
-    this.#step('set', `set_${setting}`, milli(value));
+    this.#do(`set_${setting}`, milli(value));
   }
 
   /** Moves the ends of a connector to other boxes, by a cut and a new connector with the same checkpoints; answers its number. */
@@ -410,41 +291,28 @@ export class Session {
 
   // --- Lines
 
-  /** The corners of each connector that has a line, by its number: these lines are reported. Those that stay are the same
-      arrays; do not change them. */
-  lines() { return new Map(this.#reported = this.#lines('lines')); }
-  /** The lines that are others than the reported ones, without corners for a connector that has none any more. Then they are
-      reported. */
-  changes() {
-    const before = this.#reported;
-    this.#reported = this.#lines('lines');
-    return differing(before, this.#reported);
-  }
+  /** The corners of each connector that has a line, by its number: these lines are reported. */
+  lines() { return this.#lines('lines'); }
+  /** The lines that are others than the reported ones, without corners for a connector that has none any more, since it was cut or
+      has no legal route. Then they are reported. */
+  changes() { return this.#lines('lines', true); }
   /** The lines that a commit of the open transaction would give. They are not reported by that. */
   preview() { return this.#lines('preview'); }
   /** What of them differs from the reported ones. */
-  previewChanges() { return differing(this.#reported, this.#lines('preview')); }
+  previewChanges() { return this.#lines('preview', true); }
 
-  #lines(name) {
+  /** The lines that a call gives; or those that changed, with the connectors that are gone. */
+  #lines(name, isChanges = false) {
     this.#do(name, this.#out + 16);
     const lines = new Map(), said = this.#out + 32, all = this.#number();
     for (let place = 0; place < all; place++) {
       this.#call('line', said, this.#handle, place);
-      const { view } = this.#engine, edge = view.getUint32(said, true), size = view.getUint32(said + 8, true);
-      // The engine says of each line whether it is another than the reported one.
-      const same = view.getUint8(said + 16) ? undefined : this.#reported.get(edge);
-      lines.set(edge, same ?? this.#corners(place, size));
+      const edge = this.#word(said), isChanged = this.#engine.view.getUint8(said + 16);
+      if (isChanged || !isChanges) lines.set(edge, this.#points('corner', place));
     }
-    return lines;
-  }
-
-  #corners(place, size) {
-    const corners = [], said = this.#out + 32;
-    for (let at = 0; at < size; at++) {
-      this.#call('corner', this.#handle, place, at, said);
-      corners.push([this.#units(said), this.#units(said + 8)]);
-    }
-    return corners;
+    const gone = isChanges ? this.#call('gone_count', this.#handle) : 0;
+    for (let place = 0; place < gone; place++) lines.set(this.#call('gone', this.#handle, place) >>> 0, []);
+    return new Map([...lines].sort(([a], [b]) => a - b));
   }
 
   /** What the connector's route costs, or null if it has none. */
@@ -452,16 +320,30 @@ export class Session {
   /** How many searches were made. */
   get searched() { return Number(this.#call('searched', this.#handle)); }
 
-  // --- The scene; an open transaction makes no difference
+  // --- The scene: that of the open transaction if one is open, otherwise the present one
 
-  /** The boxes, the connectors and the settings together, as the next three have them. */
-  scene() {
-    const scene = this.#reader.scene(this.gml());
-    return { ...scene, connectors: scene.connectors.map(one => ({ ...one, cost: this.cost(one.number) })) };
+  /** The boxes by their centres and sizes, with their pins; lines may cross a group. */
+  boxes() {
+    return this.#all('box', (at, place) => ({ id: this.#id(at), x: this.#units(at + 8), y: this.#units(at + 16), w: this.#units(at + 24),
+      h: this.#units(at + 32), isGroup: this.#engine.view.getUint8(at + 48) === 1, pins: this.#all('pin', pin => this.#pin(pin), place) }));
   }
-  boxes() { return this.scene().boxes; }
-  connectors() { return this.scene().connectors; }
-  settings() { return this.scene().settings; }
+  #pin(at) {
+    const sides = [...'ESWN'].filter((side, nth) => this.#engine.view.getUint8(at + 24 + nth)).join('');
+    return { pinClass: this.#word(at), dx: this.#units(at + 8), dy: this.#units(at + 16), sides };
+  }
+  /** The connectors in the order of their numbers, with their checkpoints. */
+  connectors() {
+    return this.#all('connector', (at, place) => ({ number: this.#word(at), from: this.#id(at + 8), fromClass: this.#word(at + 16),
+      to: this.#id(at + 24), toClass: this.#word(at + 32), checkpoints: this.#points('checkpoint', place) }));
+  }
+  settings() {
+    const at = this.#out + 32;
+    this.#call('settings', this.#handle, at);
+    return { penalty: this.#units(at), buffer: this.#units(at + 8), nudge: this.#units(at + 16) };
+  }
+  /** All three. */
+  scene() { return { boxes: this.boxes(), connectors: this.connectors(), settings: this.settings() }; }
+  /** How many boxes and connectors the present scene has, whether or not a transaction is open. */
   get boxCount() { return this.#call('box_count', this.#handle); }
   get connectorCount() { return this.#call('connector_count', this.#handle); }
   /** The number that the next connector gets. */
@@ -487,16 +369,5 @@ export class Session {
   gml() { return textOf(this.gmlBytes()); }
 
   /** Plays the lines of a script, up to the first that is refused; `line` of the error is its number. */
-  play(script) {
-    const told = lines => lines.forEach(line => this.#reader.did(...line.trim().split(/\s+/)));
-    const lines = (typeof script === 'string' ? script : new TextDecoder().decode(script)).split('\n');
-    try {
-      this.#withBytes(script, (at, length) => this.#do('play', at, length, this.#out + 16));
-    } catch (error) {
-      told(lines.slice(0, Math.max(0, (error.line ?? 0) - 1)));
-      this.#reader.did('refused');
-      throw error;
-    }
-    told(lines);
-  }
+  play(script) { this.#withBytes(script, (at, length) => this.#do('play', at, length, this.#out + 16)); }
 }

@@ -303,7 +303,28 @@ static void texts(reroute_session *s) {
     WANT(line == 0);
     DONE(reroute_commit(s));
     costs(s, 1, 200000);
+    DONE(reroute_begin(s));
+    REFUSES(played(s, "move 9 0 0\n", &line), REROUTE_UNKNOWN_NODE, 9);
+    REFUSES(reroute_commit(s), REROUTE_NO_TRANSACTION, 0);
     reroute_close(s);
+}
+
+/* A copy of a handle is the same session, and a handle that was ended or not started is started again. */
+static void handles(void) {
+    reroute_session session, copy;
+    REFUSES(reroute_start_gml(&session, (const uint8_t *)"]", 1), REROUTE_GML_SYNTAX, 0);
+    reroute_end(&session);
+    DONE(reroute_start(&session));
+    copy = session;
+    DONE(reroute_begin(&copy));
+    REFUSES(reroute_begin(&session), REROUTE_ALREADY_OPEN, 0);
+    reroute_close(&copy);
+    closed(&session);
+    DONE(reroute_open(&session));
+    reroute_end(&session);
+    reroute_end(&session);
+    DONE(reroute_start(&session));
+    reroute_end(&session);
 }
 
 int main(void) {
@@ -328,6 +349,7 @@ int main(void) {
     closed(&session);
     reroute_close(&session);
     free(session.held);
+    handles();
     puts("ok");
     return 0;
 }

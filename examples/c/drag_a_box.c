@@ -1,12 +1,13 @@
-/* A drag, on the screen's own copy of the lines: 50 previews, cancelled; the same again, released; one released over another
- * box, which leaves connectors without a line; and both undone. Lengths are in thousandths.
+/* A drag, on the screen's own copy of the lines, which it keeps by what is told alone: 50 previews, cancelled; the same again,
+ * released; one released over another box, which leaves connectors without a line; and both undone. Lengths are in thousandths.
  *     cc drag_a_box.c $(pkg-config --cflags --libs reroute) -o drag_a_box
+ *     ./drag_a_box drag_a_box.gml
  */
 #include "reroute.h"
 #include <stdio.h>
 #include <string.h>
 
-enum { CONNECTORS = 2, CORNERS = 16, STEPS = 50 };
+enum { BOX = 25, STEPS = 50, CONNECTORS = 40, CORNERS = 32 };
 
 /* A line as it is drawn; a connector without a line has no corners. */
 typedef struct line { size_t count; reroute_point corners[CORNERS]; } line;
@@ -21,40 +22,31 @@ static void done(reroute_fault fault) {
     exit(1);
 }
 
-/* The lines that were reported, with what the call says changed, and without those that are gone: the lines of the scene, which
- * are reported then, or those of the open transaction, which are not. */
-static screen lines_by(reroute_session *session, const screen *reported, reroute_fault (*call)(reroute_session *, size_t *)) {
-    screen found = *reported;
+/* The screen with what a call says changed, and without the lines that are gone: by reroute_lines those of the scene, which are
+ * reported then, or by reroute_preview those of the open transaction, which are not. */
+static screen redrawn(const screen *shown, reroute_session *session, reroute_fault (*call)(reroute_session *, size_t *)) {
+    screen now = *shown;
     size_t count = 0;
     done(call(session, &count));
     for (size_t place = 0; place < count; place++) {
         reroute_line_info info = reroute_line(session, place);
-        line *drawn = &found.lines[info.connector];
+        line *drawn = &now.lines[info.connector];
         if (info.changed) drawn->count = reroute_corners(session, place, drawn->corners, CORNERS);
     }
-    for (size_t place = 0; place < reroute_gone_count(session); place++) found.lines[reroute_gone(session, place)].count = 0;
-    return found;
+    for (size_t place = 0; place < reroute_gone_count(session); place++) now.lines[reroute_gone(session, place)].count = 0;
+    return now;
 }
 
-static int is_same(const line *a, const line *b) {
+static bool is_same(const line *a, const line *b) {
     return a->count == b->count && memcmp(a->corners, b->corners, a->count * sizeof *a->corners) == 0;
 }
 
-/* Redraws the lines that differ, those that are gone too, and returns how many these are. */
-static int redraw(screen *shown, const screen *now) {
-    int changed = 0;
-    for (int number = 1; number <= CONNECTORS; number++) {
-        if (is_same(&shown->lines[number], &now->lines[number])) continue;
-        shown->lines[number] = now->lines[number];
-        changed++;
-    }
-    return changed;
-}
-
-static void print(const screen *shown, const char *title) {
+/* Prints the lines that are others than before. */
+static void show(const char *title, const screen *before, const screen *now) {
     printf("%s:\n", title);
     for (int number = 1; number <= CONNECTORS; number++) {
-        const line *drawn = &shown->lines[number];
+        const line *drawn = &now->lines[number];
+        if (is_same(&before->lines[number], drawn)) continue;
         printf("  connector %d:%s", number, drawn->count ? "" : " no line");
         for (size_t at = 0; at < drawn->count; at++)
             printf(" (%g, %g)", (double)drawn->corners[at].x / 1000, (double)drawn->corners[at].y / 1000);
@@ -62,64 +54,72 @@ static void print(const screen *shown, const char *title) {
     }
 }
 
-static void draw(reroute_session *session) {
-    uint32_t number;
-    done(reroute_begin(session));
-    done(reroute_add_box(session, 1, 0, 0, 20000, 20000));
-    done(reroute_add_box(session, 2, 100000, 0, 20000, 20000));
-    done(reroute_add_box(session, 3, 50000, 80000, 20000, 40000));
-    done(reroute_connect(session, 1, 0, 2, 0, &number));
-    done(reroute_connect(session, 2, 0, 3, 0, &number));
-    done(reroute_commit(session));
-}
-
-/* Shows box 3 at 50 places on its way; returns how many of them redrew something. The screen is then that of the last one. */
-static int drag(reroute_session *session, const screen *reported, screen *shown, int64_t x, int64_t y, int64_t to_x, int64_t to_y) {
-    int redrawn = 0;
+/* Previews the box at 50 places of its column, and shows what the last one changes. */
+static void drag(reroute_session *session, const screen *shown, int64_t from, int64_t to) {
+    screen now = *shown;
+    int told = 0, gone = 0;
+    char title[100];
     for (int step = 1; step <= STEPS; step++) {
         done(reroute_begin(session));
-        done(reroute_move_box(session, 3, x + (to_x - x) * step / STEPS, y + (to_y - y) * step / STEPS));
-        screen now = lines_by(session, reported, reroute_preview);
+        done(reroute_move_box(session, BOX, 300000, from + (to - from) * step / STEPS));
+        now = redrawn(shown, session, reroute_preview);
         done(reroute_abort(session));
-        redrawn += redraw(shown, &now) > 0;
+        for (int number = 1; number <= CONNECTORS; number++) {
+            told += !is_same(&shown->lines[number], &now.lines[number]);
+            gone += shown->lines[number].count && !now.lines[number].count;
+        }
     }
-    return redrawn;
+    snprintf(title, sizeof title, "Held, after %d previews that told %d changes, %d of them that a line is gone", STEPS, told, gone);
+    show(title, shown, &now);
 }
 
-static void release(reroute_session *session, screen *reported, screen *shown, int64_t x, int64_t y) {
+static void release(reroute_session *session, int64_t to) {
     done(reroute_begin(session));
-    done(reroute_move_box(session, 3, x, y));
+    done(reroute_move_box(session, BOX, 300000, to));
     done(reroute_commit(session));
-    *reported = lines_by(session, reported, reroute_lines);
-    redraw(shown, reported);
 }
 
-int main(void) {
+/* Ends the program if the screen has other lines than the session. */
+static void check(reroute_session *session, const screen *shown) {
+    size_t count = 0, there = 0;
+    done(reroute_lines(session, &count));
+    for (int number = 1; number <= CONNECTORS; number++) there += shown->lines[number].count > 0;
+    for (size_t place = 0; place < count; place++) {
+        line all = { reroute_line(session, place).corners, { { 0, 0 } } };
+        reroute_corners(session, place, all.corners, CORNERS);
+        if (!is_same(&all, &shown->lines[reroute_line(session, place).connector])) there = count + 1;
+    }
+    if (there == count) return;
+    fputs("the screen has other lines than the session\n", stderr);
+    exit(1);
+}
+
+static void redraw(reroute_session *session, screen *shown, const char *title) {
+    screen now = redrawn(shown, session, reroute_lines);
+    show(title, shown, &now);
+    *shown = now;
+    check(session, shown);
+}
+
+int main(int count, char **words) {
+    static uint8_t text[65536];
+    FILE *file = count > 1 ? fopen(words[1], "rb") : NULL;
     reroute_session session;
-    char title[64];
-    done(reroute_start(&session));
-    draw(&session);
-    screen nothing = { 0 }, reported = lines_by(&session, &nothing, reroute_lines), shown = reported;
-    print(&shown, "Before");
-
-    int redrawn = drag(&session, &reported, &shown, 50000, 80000, 50000, 0);
-    print(&shown, "Held between the others");
-    redraw(&shown, &reported);
-    snprintf(title, sizeof title, "Cancelled after %d previews, of which %d redrew lines", STEPS, redrawn);
-    print(&shown, title);
-
-    drag(&session, &reported, &shown, 50000, 80000, 50000, 0);
-    release(&session, &reported, &shown, 50000, 0);
-    print(&shown, "Released between the others");
-    drag(&session, &reported, &shown, 50000, 0, 100000, 0);
-    release(&session, &reported, &shown, 100000, 0);
-    print(&shown, "Released over box 2");
-
+    screen shown = { 0 };
+    done(reroute_start_gml(&session, text, file ? fread(text, 1, sizeof text, file) : 0));
+    redraw(&session, &shown, "Before");
+    drag(&session, &shown, 320000, 120000);
+    redraw(&session, &shown, "Cancelled");
+    drag(&session, &shown, 320000, 120000);
+    release(&session, 120000);
+    redraw(&session, &shown, "Released between others");
+    drag(&session, &shown, 120000, 80000);
+    release(&session, 80000);
+    redraw(&session, &shown, "Released over another");
     done(reroute_undo(&session));
     done(reroute_undo(&session));
-    reported = lines_by(&session, &reported, reroute_lines);
-    redraw(&shown, &reported);
-    print(&shown, "Undone twice");
+    redraw(&session, &shown, "Undone twice");
     reroute_end(&session);
+    if (file) fclose(file);
     return 0;
 }

@@ -1,80 +1,72 @@
-// A drag, on the screen's own copy of the lines: 50 previews, cancelled; the same again, released; one released over another
-// box, which leaves connectors without a line; and both undone.
+// A drag, on the screen's own copy of the lines, which it keeps by what is told alone: 50 previews, cancelled; the same again,
+// released; one released over another box, which leaves connectors without a line; and both undone.
 //     c++ -std=c++11 drag_a_box.cpp $(pkg-config --cflags --libs reroute) -o drag_a_box
+//     ./drag_a_box drag_a_box.gml
 #include "reroute.hpp"
 #include <cstdio>
+#include <fstream>
+#include <iterator>
 
-static const int steps = 50;
+static const int box = 25, steps = 50;
 
-// Draws what changed; a connector without a line has no corners.
-static void redraw(reroute::Lines &shown, const reroute::Lines &changes) {
-    for (const auto &line : changes) shown[line.first] = line.second;
-}
-
-static void print(const reroute::Lines &shown, const char *title) {
-    std::printf("%s:\n", title);
-    for (const auto &line : shown) {
+static void show(const std::string &title, const reroute::Lines &changes) {
+    std::printf("%s:\n", title.c_str());
+    for (const auto &line : changes) {
         std::printf("  connector %u:%s", static_cast<unsigned>(line.first), line.second.empty() ? " no line" : "");
         for (const auto &corner : line.second) std::printf(" (%g, %g)", corner.x, corner.y);
         std::printf("\n");
     }
 }
 
-// Shows box 3 at 50 places on its way, and answers how many of them redrew something. What is shown is what was told, with
-// the changes of a preview over it; so the screen is then that of the last place.
-static int drag(reroute::Session &session, const reroute::Lines &before, reroute::Lines &shown, reroute::Point from,
-                reroute::Point to) {
-    int redrawn = 0;
+// Previews the box at 50 places on its way, and shows what the last one changes.
+static void drag(reroute::Session &session, reroute::Point from, reroute::Point to) {
+    reroute::Lines changes;
+    std::size_t told = 0, gone = 0;
     for (int step = 1; step <= steps; step++) {
         const double part = static_cast<double>(step) / steps;
-        const reroute::Lines changes = session.trial([&](reroute::Session &s) {
-            s.move(3, from.x + (to.x - from.x) * part, from.y + (to.y - from.y) * part);
+        changes = session.trial([&](reroute::Session &s) {
+            s.move(box, from.x + (to.x - from.x) * part, from.y + (to.y - from.y) * part);
             return s.previewChanges();
         });
-        reroute::Lines now = before;
-        redraw(now, changes);
-        redrawn += now != shown;
-        shown = now;
+        told += changes.size();
+        for (const auto &line : changes) gone += line.second.empty();
     }
-    return redrawn;
+    show("Held, after " + std::to_string(steps) + " previews that told " + std::to_string(told) + " changes, " +
+         std::to_string(gone) + " of them that a line is gone", changes);
 }
 
-static void release(reroute::Session &session, reroute::Lines &shown, reroute::Point to) {
-    session.transaction([&](reroute::Session &s) { s.move(3, to.x, to.y); });
-    redraw(shown, session.changes());
+static void release(reroute::Session &session, reroute::Point to) {
+    session.transaction([&](reroute::Session &s) { s.move(box, to.x, to.y); });
 }
 
-int main() {
-    reroute::Session session;
-    session.transaction([](reroute::Session &s) {
-        s.addBox(1, 0, 0, 20, 20);
-        s.addBox(2, 100, 0, 20, 20);
-        s.addBox(3, 50, 80, 20, 40);
-        s.connect(1, 2);
-        s.connect(2, 3);
-    });
-    const reroute::Point rest = {50, 80}, between = {50, 0}, over = {100, 0};
-    reroute::Lines before = session.lines(), shown = before;
-    print(shown, "Before");
+// Draws what changed, and wipes out the lines that are gone.
+static void redraw(reroute::Session &session, reroute::Lines &screen, const char *title) {
+    const reroute::Lines changes = session.changes();
+    show(title, changes);
+    for (const auto &line : changes) {
+        if (line.second.empty()) screen.erase(line.first);
+        else screen[line.first] = line.second;
+    }
+    if (screen != session.lines()) throw std::logic_error("the screen has other lines than the session");
+}
 
-    const int redrawn = drag(session, before, shown, rest, between);
-    print(shown, "Held between the others");
-    shown = before;
-    char title[64];
-    std::snprintf(title, sizeof title, "Cancelled after %d previews, of which %d redrew lines", steps, redrawn);
-    print(shown, title);
-
-    drag(session, before, shown, rest, between);
-    release(session, shown = before, between);
-    print(shown, "Released between the others");
-    before = shown;
-    drag(session, before, shown, between, over);
-    release(session, shown = before, over);
-    print(shown, "Released over box 2");
-
+int main(int, char **words) {
+    std::ifstream file(words[1]);
+    const std::string gml{std::istreambuf_iterator<char>(file), {}};
+    reroute::Session session(gml);
+    const reroute::Point rest = {300, 320}, between = {300, 120}, over = {300, 80};
+    reroute::Lines screen;
+    redraw(session, screen, "Before");
+    drag(session, rest, between);
+    redraw(session, screen, "Cancelled");
+    drag(session, rest, between);
+    release(session, between);
+    redraw(session, screen, "Released between others");
+    drag(session, between, over);
+    release(session, over);
+    redraw(session, screen, "Released over another");
     session.undo();
     session.undo();
-    redraw(shown, session.changes());
-    print(shown, "Undone twice");
+    redraw(session, screen, "Undone twice");
     return 0;
 }

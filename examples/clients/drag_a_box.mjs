@@ -1,63 +1,55 @@
-// A drag, on the screen's own copy of the lines: 50 previews, cancelled; the same again, released; one released over another
-// box, which leaves connectors without a line; and both undone: node drag_a_box.mjs [PROGRAM]
-// It finds the package where it is installed, or else in this repository.
+// A drag, on the screen's own copy of the lines, which it keeps by what is told alone: 50 previews, cancelled; the same again,
+// released; one released over another box, which leaves connectors without a line; and both undone:
+// node drag_a_box.mjs DIAGRAM [PROGRAM]. It finds the package where it is installed, or else in this repository.
 const { Session } = await import('reroute/live').catch(() => import('../../bindings/node/live.mjs'));
 
-const STEPS = 50;
+const BOX = 25, STEPS = 50;
 
-function show(lines, title) {
+function show(title, changes) {
   console.log(`${title}:`);
-  for (const [connector, corners] of lines) {
+  for (const [connector, corners] of changes) {
     const words = corners.map(([x, y]) => `(${x}, ${y})`).join(' ');
     console.log(`  connector ${connector}: ${words || 'no line'}`);
   }
 }
 
-/** Shows box 3 at 50 places on its way: the lines at the last one, and how many places redrew something. */
-async function drag(session, screen, start, end) {
-  let shown = screen;
-  let redrawn = 0;
+/** Previews the box at 50 places on its way, and shows what the last one changes. */
+async function drag(session, start, end) {
+  let told = 0, gone = 0, changes;
   for (let step = 1; step <= STEPS; step++) {
     const [x, y] = start.map((from, at) => from + ((end[at] - from) * step) / STEPS);
-    const now = new Map([...screen, ...await session.trialChanges(() => session.move(3, x, y))]);
-    redrawn += String([...now]) !== String([...shown]);
-    shown = now;
+    changes = await session.trialChanges(() => session.move(BOX, x, y));
+    told += changes.size;
+    gone += [...changes.values()].filter(corners => !corners.length).length;
   }
-  return [shown, redrawn];
+  show(`Held, after ${STEPS} previews that told ${told} changes, ${gone} of them that a line is gone`, changes);
 }
 
-/** Draws what changed; a connector without a line has no corners. */
-function redraw(screen, changes) {
-  changes.forEach((corners, connector) => screen.set(connector, corners));
+const release = (session, end) => session.transaction(() => session.move(BOX, ...end));
+
+/** Draws what changed, and wipes out the lines that are gone. */
+function redraw(session, screen, title) {
+  const changes = session.changes();
+  show(title, changes);
+  changes.forEach((corners, connector) => (corners.length ? screen.set(connector, corners) : screen.delete(connector)));
+  const all = session.lines();
+  if (screen.size !== all.size || [...all].some(([connector, corners]) => String(screen.get(connector)) !== String(corners))) {
+    throw new Error('the screen has other lines than the session');
+  }
 }
 
-async function release(session, screen, end) {
-  await session.transaction(() => session.move(3, ...end));
-  redraw(screen, session.changes());
-}
-
-const [rest, between, over] = [[50, 80], [50, 0], [100, 0]];
-const session = await Session.open(process.argv[2]);
-await session.transaction(async () => {
-  await session.addBox(1, 0, 0, 20, 20);
-  await session.addBox(2, 100, 0, 20, 20);
-  await session.addBox(3, ...rest, 20, 40);
-  await session.connect(1, 2);
-  await session.connect(2, 3);
-});
-const screen = session.lines();
-show(screen, 'Before');
-const [held, redrawn] = await drag(session, screen, rest, between);
-show(held, 'Held between the others');
-show(screen, `Cancelled after ${STEPS} previews, of which ${redrawn} redrew lines`);
-await drag(session, screen, rest, between);
-await release(session, screen, between);
-show(screen, 'Released between the others');
-await drag(session, screen, between, over);
-await release(session, screen, over);
-show(screen, 'Released over box 2');
+const [rest, between, over, screen] = [[300, 320], [300, 120], [300, 80], new Map()];
+const session = await Session.open(process.argv[3], { diagram: process.argv[2] });
+redraw(session, screen, 'Before');
+await drag(session, rest, between);
+redraw(session, screen, 'Cancelled');
+await drag(session, rest, between);
+await release(session, between);
+redraw(session, screen, 'Released between others');
+await drag(session, between, over);
+await release(session, over);
+redraw(session, screen, 'Released over another');
 await session.undo();
 await session.undo();
-redraw(screen, session.changes());
-show(screen, 'Undone twice');
+redraw(session, screen, 'Undone twice');
 process.exitCode = await session.close();

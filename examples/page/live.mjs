@@ -1,5 +1,6 @@
 // The page's other back end: the names of reroute-worker.mjs that the page uses, over serve.py and the program reroute_live.
-import { Refused, SceneReader, textOf } from './reroute.mjs';
+import { Refused, textOf } from './reroute.mjs';
+import { decoded, idOf, listOf, listsOf, numberOf, pairsOf, wordOf } from './gml.mjs';
 
 export { Refused };
 
@@ -51,6 +52,61 @@ function replies(bytes) {
 
 export class Reroute {
   static async load() { return new Reroute(); }
+}
+
+function boxOf(node) {
+  const at = listOf(node, 'graphics');
+  return { id: idOf(node, 'id'), x: numberOf(at, 'x'), y: numberOf(at, 'y'), w: numberOf(at, 'w', 30), h: numberOf(at, 'h', 30),
+    isGroup: numberOf(node, 'isGroup') === 1, pins: listsOf(node, 'pin').map(pin => ({ pinClass: numberOf(pin, 'class'),
+      dx: numberOf(pin, 'x'), dy: numberOf(pin, 'y'), sides: decoded(wordOf(pin, 'dirs') ?? 'ESWN') })) };
+}
+
+function connectorOf(edge, number) {
+  return { number, from: idOf(edge, 'source'), to: idOf(edge, 'target'), fromClass: numberOf(edge, 'sourcePin'),
+    toClass: numberOf(edge, 'targetPin'), checkpoints: listsOf(edge, 'via').map(via => [numberOf(via, 'x'), numberOf(via, 'y')]) };
+}
+
+/** Reads the scene from the diagram that the program writes. The number of a connector does not stand there, but follows from
+    the commands, of which `did` is told in the words of a script. */
+class SceneReader {
+  #present; // the numbers of the connectors, as they follow each other in the diagram, and the next one
+  #open = null;
+  #past = [];
+  #future = [];
+
+  /** Of a diagram that was opened, whose next connector gets this number. */
+  constructor(next) { this.#present = { numbers: Array.from({ length: next - 1 }, (_, at) => at + 1), next }; }
+
+  did(command, number) {
+    const { numbers, next } = this.#open ?? this.#present;
+    if (command === 'begin') this.#open = this.#present;
+    else if (command === 'edge') this.#open = { numbers: [...numbers, next], next: next + 1 };
+    else if (command === 'cut') this.#open = { numbers: numbers.filter(one => one !== Number(number)), next };
+    else if (command === 'commit') this.#commit();
+    else if (command === 'undo') this.#step(this.#past, this.#future);
+    else if (command === 'redo') this.#step(this.#future, this.#past);
+    else if (command === 'abort' || command === 'refused') this.#open = null;
+  }
+
+  #commit() {
+    this.#past = [...this.#past.slice(-99), this.#present]; // (the engine keeps a hundred)
+    this.#future = [];
+    this.#present = this.#open;
+    this.#open = null;
+  }
+
+  #step(from, to) {
+    to.push(this.#present);
+    this.#present = from.pop();
+  }
+
+  /** The scene of the diagram: boxes, connectors and settings. */
+  scene(gml) {
+    const graph = listOf(pairsOf(gml), 'graph'), router = listOf(graph, 'router'), { numbers } = this.#present;
+    return { boxes: listsOf(graph, 'node').map(boxOf),
+      connectors: listsOf(graph, 'edge').map((edge, at) => connectorOf(edge, numbers[at])),
+      settings: { penalty: numberOf(router, 'penalty', 50), buffer: numberOf(router, 'buffer', 4), nudge: numberOf(router, 'nudge', 4) } };
+  }
 }
 
 /** A session of the program. */

@@ -1,6 +1,7 @@
 // The page's script: an editor over a session, which is the engine in this page or, where serve.py has put its key into the page,
 // the program reroute_live. Both have the names of bindings/reroute-worker.mjs.
-import { pairsOf } from './reroute.mjs';
+import { textOf } from './reroute.mjs';
+import { labelsOf, pairsOf } from './gml.mjs';
 import * as drawing from './drawing.mjs';
 import * as words from './words.mjs';
 import { FIRST, HINT } from './first.mjs';
@@ -18,6 +19,7 @@ let connectors = new Map(); // by number
 let settings = { buffer: 4 };
 const lines = new Map(); // by number: the corners that are reported
 let changed = new Set(); // the connectors whose lines the last step changed
+let labels = null; // in the diagram that was opened
 // What the page adds to it.
 let names = new Map(); // by id of a box: the name that was given here
 let past = [], future = []; // steps: the names before it (or after it), how many steps of the session it is, and what it is for
@@ -64,7 +66,7 @@ async function look() {
   const changes = await session.changes(), scene = await session.scene();
   take(changes, lines);
   changed = new Set(changes.keys());
-  boxes = new Map(scene.boxes.map(box => [box.id, { ...box, label: names.get(box.id) ?? box.label ?? `Box ${box.id}` }]));
+  boxes = new Map(scene.boxes.map(box => [box.id, { ...box, label: names.get(box.id) ?? labels.boxes.get(box.id) ?? `Box ${box.id}` }]));
   connectors = new Map(scene.connectors.map(one => [one.number, one]));
   settings = scene.settings;
   if (chosen && !(chosen.box === undefined ? connectors.has(chosen.edge) : boxes.has(chosen.box))) chosen = null;
@@ -250,6 +252,7 @@ async function openGml(bytes) {
   }
   await session?.close();
   session = opened;
+  labels = labelsOf(textOf(bytes));
   names = new Map();
   past = [];
   future = [];
@@ -446,8 +449,8 @@ function wires({ boxes, lines }) {
   }
   const crossed = drawing.crossings(drawn);
   return new Map([...drawn].map(([number, corners]) => {
-    const { from, to, label } = connectors.get(number), isNone = from !== to && !lines.has(number);
-    return [number, { isNone, name: label ?? '', path: drawing.pathOf(corners, isNone ? [] : crossed.get(number)),
+    const { from, to } = connectors.get(number), isNone = from !== to && !lines.has(number);
+    return [number, { isNone, name: labels.connectors.get(number) ?? '', path: drawing.pathOf(corners, isNone ? [] : crossed.get(number)),
       head: drawing.headOf(corners), middle: drawing.middleOf(corners),
       label: `Connector from ${nameOf(from)} to ${nameOf(to)}${isNone ? ', no legal route' : ''}` }];
   }));

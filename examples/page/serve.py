@@ -23,7 +23,7 @@ HERE = os.path.dirname(os.path.realpath(__file__))
 BINDINGS = f'{os.path.dirname(os.path.dirname(HERE))}/bindings'
 # What the page consists of, by path.
 FILES = {'/': f'{HERE}/index.html', '/reroute.mjs': f'{BINDINGS}/reroute.mjs',
-         **{f'/{name}': f'{HERE}/{name}' for name in ('page.mjs', 'live.mjs', 'drawing.mjs', 'words.mjs', 'first.mjs')}}
+         **{f'/{name}': f'{HERE}/{name}' for name in ('page.mjs', 'live.mjs', 'drawing.mjs', 'gml.mjs', 'words.mjs', 'first.mjs')}}
 MOST_BYTES, MOST_SESSIONS = 16_777_216, 8
 
 

@@ -1,5 +1,5 @@
 // What the page says of a refusal: what is wrong in the file and in which line, and which limit an edit meets.
-import { pairsOf } from './reroute.mjs';
+import { pairsOf } from './gml.mjs';
 
 const LIMITS = { 132: '256 boxes', 133: '512 connectors', 134: '256 pins', 135: '256 checkpoints, and 4 of one connector' };
 const OF_NODE = { 104: 'its id is missing, or is no whole number', 105: 'an earlier node has its id',

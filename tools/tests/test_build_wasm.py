@@ -84,7 +84,7 @@ class Scripts(unittest.TestCase):
             self.assertTrue({'reroute.mjs', 'reroute-worker.d.mts', 'LICENCES.md', 'index.html'} <= set(os.listdir(folder)))
             text = build_wasm.text_of(f'{folder}/reroute.html')
             self.assertNotIn('src="page.mjs"', text)
-            for name in ('reroute.mjs', 'reroute-worker.mjs', 'page.mjs', 'drawing.mjs', 'words.mjs', 'first.mjs', 'live.mjs'):
+            for name in ('reroute.mjs', 'reroute-worker.mjs', 'page.mjs', 'drawing.mjs', 'gml.mjs', 'words.mjs', 'first.mjs', 'live.mjs'):
                 self.assertIn(f"modules['{name}'] = ", text)
 
     def test_made_scripts_are_the_same_each_time(self):
@@ -113,8 +113,8 @@ class Page(unittest.TestCase):
     def value(self, text):
         """What an expression over the page's modules is, as text."""
         with tempfile.TemporaryDirectory() as folder:
-            for path in (f'{TOP}/bindings/reroute.mjs', f'{TOP}/examples/page/drawing.mjs', f'{TOP}/examples/page/words.mjs'):
-                shutil.copy(path, folder)
+            for path in ('bindings/reroute.mjs', *(f'examples/page/{name}.mjs' for name in ('drawing', 'gml', 'words'))):
+                shutil.copy(f'{TOP}/{path}', folder)
             with open(f'{folder}/run.mjs', 'w', encoding='utf-8') as file:
                 file.write("import * as drawing from './drawing.mjs';\nimport * as words from './words.mjs';\n"
                            f"import {{ Refused }} from './reroute.mjs';\nconsole.log({text});\n")

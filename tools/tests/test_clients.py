@@ -10,10 +10,13 @@ import time
 import unittest
 
 TOP = os.path.dirname(os.path.dirname(os.path.dirname(os.path.realpath(__file__))))
+REROUTE = os.path.abspath(os.environ.get('REROUTE') or f'{TOP}/out/reroute')
 LIVE = os.path.abspath(os.environ.get('REROUTE_LIVE') or f'{TOP}/out/reroute_live')
+DRAG = f'{TOP}/examples/c/drag_a_box'
 NODE = f'{TOP}/bindings/node/live.mjs'
 sys.dont_write_bytecode = True
-sys.path.insert(0, f'{TOP}/bindings/python')
+sys.path[:0] = [f'{TOP}/bindings/python', f'{TOP}/tools']
+import gml  # noqa: E402
 from reroute.live import Ended, Refused, Session  # noqa: E402
 
 STRAIGHT, AROUND = [(0, 0), (100, 0)], [(0, 0), (0, -24), (100, -24), (100, 0)]
@@ -275,14 +278,58 @@ await tried(() => session.undo());
                          '^RangeError', *['^Ended .*status 0'] * 2, '^0$', '^Ended the session is closed')
 
 
+class DragTest(unittest.TestCase):
+    """The drag of the examples, by `reroute route` alone, which draws each of its diagrams from nothing."""
+
+    def setUp(self):
+        if not os.path.exists(REROUTE):
+            self.skipTest(f'{REROUTE} is not there')
+        folder = tempfile.TemporaryDirectory()
+        self.addCleanup(folder.cleanup)
+        self.script = f'{folder.name}/script'
+
+    def drawn(self, *places, then=''):
+        """The lines after box 25 has stood at these places of its column, by connector; without corners where there is none."""
+        with open(self.script, 'w') as file:
+            file.writelines(f'begin\nmove 25 300 {place:.3f}\ncommit\n' for place in places)
+            file.write(then)
+        done = subprocess.run([REROUTE, 'route', f'{DRAG}.gml', self.script], capture_output=True, check=True)
+        return {edge.place: [(x / 1000, y / 1000) for x, y in edge.line or ()] for edge in gml.read(done.stdout).edges}
+
+    @staticmethod
+    def shown(title, old, new):
+        yield f'{title}:'
+        for connector, corners in new.items():
+            if corners != old.get(connector):
+                yield f'  connector {connector}: {" ".join(f"({x:g}, {y:g})" for x, y in corners) or "no line"}'
+
+    def held(self, *places, to):
+        """What 50 previews tell on the way to a place."""
+        old = self.drawn(*places)
+        start = places[-1] if places else 320
+        each = [self.drawn(*places, start + (to - start) * step / 50) for step in range(1, 51)]
+        told = [corners for new in each for connector, corners in new.items() if corners != old[connector]]
+        return self.shown(f'Held, after 50 previews that told {len(told)} changes, {told.count([])} of them that a line is gone',
+                          old, each[-1])
+
+    def test_the_examples_tell_what_the_program_draws(self):
+        first, between, over = self.drawn(), self.drawn(120), self.drawn(120, 80)
+        told = [*self.shown('Before', {}, first), *self.held(to=120), 'Cancelled:', *self.held(to=120),
+                *self.shown('Released between others', first, between), *self.held(120, to=80),
+                *self.shown('Released over another', between, over),
+                *self.shown('Undone twice', over, self.drawn(120, 80, then='undo\nundo\n'))]
+        with open(f'{DRAG}.txt') as file:
+            self.assertEqual(file.read().splitlines(), told)
+
+
 class ExamplesTest(LiveTest):
     def commands(self):
-        yield [sys.executable, f'{TOP}/examples/c/drag_a_box.py', LIVE]
+        yield [sys.executable, f'{DRAG}.py', f'{DRAG}.gml', LIVE]
         if shutil.which('node'):
-            yield ['node', f'{TOP}/examples/clients/drag_a_box.mjs', LIVE]
+            yield ['node', f'{TOP}/examples/clients/drag_a_box.mjs', f'{DRAG}.gml', LIVE]
 
     def test_drags(self):
-        with open(f'{TOP}/examples/c/drag_a_box.txt') as file:
+        with open(f'{DRAG}.txt') as file:
             wanted = file.read()
         for words in self.commands():
             with self.subTest(words[0]):

@@ -117,6 +117,26 @@ class ClassTest(CompilerTest):
     told = session.changes();
     EXPECT(told.size() == 1 && told.at(1).empty());''')
 
+    def test_the_scene_is_that_of_the_open_transaction(self):
+        self.assert_holds('''
+    Session session = drawn();
+    session.trial([](Session &s) {
+        s.addPin(3, 7, 1, -2.5, "NE");
+        s.addCheckpoint(1, 1, 50, 30);
+        s.set(reroute::Setting::buffer, 2);
+        const reroute::Box box = s.boxes().at(2);
+        EXPECT(box.id == 3 && !box.isGroup && (Corners{{box.x, box.y}, {box.w, box.h}}) == (Corners{{50, 80}, {20, 40}}));
+        EXPECT(box.pins.size() == 1 && box.pins[0].pinClass == 7 && box.pins[0].sides == "EN");
+        EXPECT((Corners{{box.pins[0].dx, box.pins[0].dy}}) == (Corners{{1, -2.5}}));
+        const reroute::Connector one = s.connectors().at(0);
+        EXPECT(one.number == 1 && one.start == 1 && one.end == 2 && one.startClass == 0 && one.endClass == 0);
+        EXPECT(one.checkpoints == (Corners{{50, 30}}) && s.settings().buffer < 3 && s.settings().penalty > 49);
+    });
+    EXPECT(session.boxes().size() == 3 && session.boxes()[2].pins.empty() && session.connectors()[0].checkpoints.empty());
+    EXPECT(session.settings().buffer > 3 && Session("graph [ node [ id -7 isGroup 1 graphics [ x 0 y 0 ] ] ]").boxes()[0].isGroup);
+    const Session moved = std::move(session);
+    THROWS(reroute::Refused, session.boxes());''')
+
     def test_lengths_that_are_none(self):
         # (a compiler that folds constants rounds what is no number to 0)
         self.assert_holds('''

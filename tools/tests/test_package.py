@@ -16,6 +16,7 @@ REROUTE = os.path.abspath(os.environ.get('REROUTE') or f'{TOP}/out/reroute')
 LIVE = os.path.abspath(os.environ.get('REROUTE_LIVE') or f'{TOP}/out/reroute_live')
 LIBRARY = os.path.abspath(os.environ.get('REROUTE_LIBRARY') or f'{TOP}/out/library/libreroute.so.0')
 PATIENCE = 900
+DIAGRAM = 'examples/c/drag_a_box.gml'
 PROJECT = '''cmake_minimum_required(VERSION 3.16)
 project(editor CXX)
 find_package(reroute 0.1 REQUIRED CONFIG)
@@ -113,8 +114,8 @@ class PackageTest(unittest.TestCase):
         python = f'{self.folder}/venv/bin/python'
         output([python, '-m', 'pip', 'install', '--no-index', '--no-cache-dir', f'{self.out}/{name}'], self.folder)
         self.assertEqual(output([python, 'examples/c/move_a_box.py'], self.folder), self.moved)
-        self.assertEqual(output([python, 'examples/c/drag_a_box.py'], self.folder), self.dragged)
-        self.assertEqual(output([python, 'examples/c/drag_a_box.py', LIVE], self.folder), self.dragged)
+        self.assertEqual(output([python, 'examples/c/drag_a_box.py', DIAGRAM], self.folder), self.dragged)
+        self.assertEqual(output([python, 'examples/c/drag_a_box.py', DIAGRAM, LIVE], self.folder), self.dragged)
         output([python, '-m', 'reroute', 'examples/move_a_box.gml', '-o', 'out.svg'], self.folder)
         with open(f'{self.folder}/out.svg') as file:
             self.assertTrue(file.read().startswith('<svg'))
@@ -131,7 +132,7 @@ class PackageTest(unittest.TestCase):
         with open(f'{self.folder}/package.json', 'w') as file:
             json.dump({'name': 'editor', 'private': True}, file)
         output(['npm', 'install', '--offline', '--no-audit', '--no-fund', '--install-links', f'{self.out}/npm'], self.folder)
-        self.assertEqual(output(['node', 'drag_a_box.mjs'], self.folder), self.dragged)
+        self.assertEqual(output(['node', 'drag_a_box.mjs', DIAGRAM], self.folder), self.dragged)
         self.assertIn('back: [[0,0],[100,0]]', output(['node', 'move_a_box.mjs'], self.folder))
         checked = output(['npx', '--offline', 'reroute', 'check', 'examples/straight.gml'], self.folder)
         self.assertEqual(checked, 'edge 1: cost 100.000\n')
@@ -148,7 +149,7 @@ class PackageTest(unittest.TestCase):
         self.assertEqual(checked, 'edge 1: cost 100.000\n')
         self.assertTrue(output([f'{usr}/bin/reroute-svg', 'examples/straight.gml'], self.folder).startswith('<svg'))
         for script, wanted in (('move_a_box', self.moved), ('drag_a_box', self.dragged)):
-            said = output([sys.executable, f'examples/c/{script}.py'], self.folder, PYTHONPATH=python, LD_LIBRARY_PATH=library)
+            said = output([sys.executable, f'examples/c/{script}.py', DIAGRAM], self.folder, PYTHONPATH=python, LD_LIBRARY_PATH=library)
             self.assertEqual(said, wanted)
         self.assertEqual(output([sys.executable, 'examples/clients/move_a_box.py', f'{usr}/bin/reroute_live'], self.folder,
                                 PYTHONPATH=python).splitlines()[-1], 'back: [(0.0, 0.0), (100.0, 0.0)]')
@@ -162,13 +163,13 @@ class PackageTest(unittest.TestCase):
                        PKG_CONFIG_SYSROOT_DIR=os.path.dirname(usr)).split()
         for name, wanted in (('move_a_box.c', self.moved), ('drag_a_box.c', self.dragged), ('drag_a_box.cpp', self.dragged)):
             output(['c++' if name.endswith('cpp') else 'cc', f'examples/c/{name}', *found, '-o', 'tried'], self.folder)
-            self.assertEqual(output([f'{self.folder}/tried'], self.folder, LD_LIBRARY_PATH=library), wanted)
+            self.assertEqual(output([f'{self.folder}/tried', DIAGRAM], self.folder, LD_LIBRARY_PATH=library), wanted)
         if shutil.which('cmake'):
             with open(f'{self.folder}/CMakeLists.txt', 'w') as file:
                 file.write(PROJECT)
             output(['cmake', '-S', '.', '-B', 'build', f'-Dreroute_DIR={library}/cmake/reroute'], self.folder)
             output(['cmake', '--build', 'build'], self.folder)
-            self.assertEqual(output([f'{self.folder}/build/tried'], self.folder), self.dragged)
+            self.assertEqual(output([f'{self.folder}/build/tried', DIAGRAM], self.folder), self.dragged)
 
     def test_lintian_finds_nothing(self):
         if not shutil.which('lintian'):

@@ -141,18 +141,18 @@ print(resource.getrusage(resource.RUSAGE_SELF).ru_maxrss - before)
         path = f'{TOP}/examples/move_a_box.gml'
         with Session.open(path) as session, open(path) as file, Session(file.read()) as same:
             self.assertEqual(session.lines(), same.lines())
-            self.assertEqual(len(session.routes()), 5)
+            self.assertEqual([len(session.connectors()), len(session.lines())], [5, 5])
 
     def test_a_closed_session_refuses(self):
         session = self.drawn()
         session.close()
         session.close()
         gc.collect()
-        for call in (session.begin, session.lines, session.gml, session.undo):
+        for call in (session.begin, session.lines, session.gml, session.undo, session.settings):
             with self.assertRaises(Refused) as caught:
                 call()
             self.assertIs(caught.exception.code, Code.NO_SESSION)
-        self.assertEqual((session.searched, session.box_count, session.next, session.cost(1)), (0, 0, 0, None))
+        self.assertEqual((session.searched, session.box_count, session.next, session.cost(1), session.boxes()), (0, 0, 0, None, []))
 
     def test_refusals(self):
         session = self.drawn()
@@ -175,12 +175,21 @@ print(resource.getrusage(resource.RUSAGE_SELF).ru_maxrss - before)
             header = {name: int(code) for name, code in re.findall(r'REROUTE_(\w+) = (\d+)', file.read())}
         self.assertEqual({**Code.__members__, 'OK': 0, 'MEMORY': 99}, header)
 
-    def test_routes(self):
+    def test_the_scene_is_that_of_the_open_transaction(self):
         session = self.drawn()
-        route, = session.routes()
-        self.assertEqual((route.connector, route.corners, route.cost), (1, tuple(STRAIGHT), 100.0))
-        with self.assertRaises(AttributeError):
-            route.cost = 0
+        with session.trial():
+            session.move(3, 50.5, -90)
+            session.add_pin(3, 7, 1, -2.5, 'NE')
+            session.add_checkpoint(1, 1, 50, 30)
+            session.cut(session.connect(3, 1, 7))
+            session.set('buffer', 2)
+            self.assertEqual(session.boxes()[2], (3, 50.5, -90, 20, 40, False, [(7, 1, -2.5, 'EN')]))
+            self.assertEqual(session.connectors(), [(1, 1, 2, 0, 0, [(50, 30)])])
+            self.assertEqual(session.settings(), (50, 2, 4))
+        self.assertEqual((session.boxes()[2].y, session.boxes()[2].pins, session.settings().buffer), (80, [], 4))
+        self.assertEqual((len(session.boxes()), session.connectors()[0].checkpoints, session.cost(1)), (3, [], 100))
+        with Session('graph [ node [ id -7 isGroup 1 graphics [ x 0 y 0 ] ] ]') as group:
+            self.assertEqual((group.boxes(), group.connectors()), ([(-7, 0, 0, 30, 30, True, [])], []))
 
     def test_hints_and_doctests(self):
         for kind in (Session, importlib.import_module('reroute.live').Session):
@@ -246,6 +255,11 @@ class LargeTest(LibraryTest):
             written = session.gml()
         with Session(written) as session:
             self.assertEqual((session.lines(), session.gml()), (self.lines, written))
+
+    def test_the_limits_of_the_program_for_files_do_not_hold(self):
+        with Session('graph [ ]'.ljust(16_777_217)) as session:
+            session.play('begin\nnode 1 0 0 20 20\ncommit\n'.ljust(4_194_305, '#'))
+            self.assertEqual(session.box_count, 1)
 
     def test_a_script_draws_and_tells_all_lines(self):
         comment = 'so that the script is long '.ljust(200, '.')

@@ -22,6 +22,11 @@ Lengths are in units of the diagram, kept to thousandths. `changes()` tells the 
     ...     session.cut(1)
     >>> session.changes()
     {1: []}
+
+`boxes()`, `connectors()` and `settings()` read the scene: that of the open transaction if one is open.
+
+    >>> session.boxes()[1]
+    Box(id=2, x=100.0, y=0.0, w=20.0, h=20.0, is_group=False, pins=[])
     >>> session.close()
 
 Where a call is refused, its transaction is dropped:
@@ -38,8 +43,7 @@ libreroute.so.0.
 """
 from ._faults import Code, Refused
 from ._graph import route_graph
-from ._screen import Corners, Lines
-from ._session import Route, Session
+from ._session import Box, Connector, Corners, Lines, Pin, Session, Settings
 
-__all__ = ['Code', 'Corners', 'Lines', 'Refused', 'Route', 'Session', 'route_graph']
+__all__ = ['Box', 'Code', 'Connector', 'Corners', 'Lines', 'Pin', 'Refused', 'Session', 'Settings', 'route_graph']
 __version__ = '0.1.0'

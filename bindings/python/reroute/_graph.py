@@ -3,8 +3,7 @@ import collections
 import math
 from typing import TYPE_CHECKING, Any, Dict, Hashable, Iterator, List, Mapping, NamedTuple, Optional, Tuple, Union
 
-from ._screen import Corners, Lines
-from ._session import Session
+from ._session import Corners, Lines, Session
 
 if TYPE_CHECKING:
     import networkx

@@ -1,28 +1,58 @@
 """A session of the engine in this process."""
 import contextlib
 import ctypes
-import dataclasses
+import itertools
 import os
 import weakref
-from typing import Any, Iterator, List, Optional, Tuple, Union
+from typing import Any, Dict, Iterator, List, NamedTuple, Optional, Tuple, Union
 
-from ._faults import Refused, milli, whole
-from ._library import CALLS, Directions, Handle, I, Point, U, Z, default_path, loaded
-from ._screen import Corners, Lines, Point as Corner, Told
+from ._faults import Code, Refused, milli, whole
+from ._library import (CALLS, BoxInfo, ConnectorInfo, Directions, Handle, I, PinInfo, Point, SettingsInfo, U, Z, default_path,
+                       loaded)
 
-__all__ = ['Route', 'Session']
+__all__ = ['Box', 'Connector', 'Corners', 'Lines', 'Pin', 'Session', 'Settings']
 
+Corners = List[Tuple[float, float]]
+Lines = Dict[int, Corners]
 SIDES = 'ESWN'
 SETTINGS = ('penalty', 'buffer', 'nudge')
 NO_MEMORY = 99
 
 
-@dataclasses.dataclass(frozen=True)
-class Route:
-    """The line of a connector, and what its route costs."""
-    connector: int
-    corners: Tuple[Corner, ...]
-    cost: float
+class Pin(NamedTuple):
+    """A pin by its class, its place from the centre of its box, and the sides to which lines may leave."""
+    pin_class: int
+    dx: float
+    dy: float
+    sides: str
+
+
+class Box(NamedTuple):
+    """A box by its centre and its size; lines may cross a group."""
+    id: int
+    x: float
+    y: float
+    w: float
+    h: float
+    is_group: bool
+    pins: List[Pin]
+
+
+class Connector(NamedTuple):
+    """A connector with the boxes and the classes of pins of its ends."""
+    number: int
+    start: int
+    end: int
+    start_class: int
+    end_class: int
+    checkpoints: Corners
+
+
+class Settings(NamedTuple):
+    """What a bend costs, how far lines keep from boxes, and how far lines side by side are kept apart."""
+    penalty: float
+    buffer: float
+    nudge: float
 
 
 def fitting(kind: Any, word: Any) -> Any:
@@ -34,6 +64,10 @@ def directions(sides: str) -> Directions:
     if not sides or set(sides) - set(SIDES):
         raise ValueError(f'sides are letters of {SIDES}, and not {sides!r}')
     return Directions(*(side in sides for side in SIDES))
+
+
+def letters(to: Directions) -> str:
+    return ''.join(side for side, has in zip(SIDES, (to.east, to.south, to.west, to.north)) if has)
 
 
 def checked(fault: Any, line: int = 0) -> None:
@@ -48,7 +82,7 @@ def closed(library: Any, handle: Handle, room: Any) -> None:
     library.reroute_close(handle)
 
 
-class Session(Told):
+class Session:
     """A scene of boxes and connectors, with the lines of the connectors: the empty scene, or that of a diagram in GML.
 
     Use it in a `with`, which closes it; one that is left open is closed when nothing refers to it any more. A session is
@@ -59,7 +93,6 @@ class Session(Told):
     """
 
     def __init__(self, gml: Union[bytes, str, None] = None, *, library: Optional[str] = None) -> None:
-        super().__init__()
         self._library = loaded(library or default_path())
         # (words of 16 bytes, since the room is aligned to 16)
         self._room = ctypes.create_string_buffer(self._library.reroute_size() + 16)
@@ -179,37 +212,50 @@ class Session(Told):
 
     # ---- lines ----
 
-    def _lines(self) -> Lines:
+    def lines(self) -> Lines:
+        """The corners of each connector that has a line, by its number."""
         return self._read('lines')
+
+    def changes(self) -> Lines:
+        """The lines that differ from those that `lines` or `changes` told last. A connector whose line is gone, since it was
+        cut or has no legal route any more, has no corners."""
+        return self._read('lines', is_changes=True)
 
     def preview(self) -> Lines:
         """The lines that a commit of the open transaction would give. Nothing changes."""
         return self._read('preview')
 
-    def _read(self, call: str) -> Lines:
-        count, found = Z(), {}
-        self._call(call, count)
-        for place in range(count.value):
-            line = self._library.reroute_line(self._handle, place)
-            found[line.connector] = self._corners(place, line.corners)
-        return found
+    def preview_changes(self) -> Lines:
+        """What `changes` would tell after that commit. What was told last stays."""
+        return self._read('preview', is_changes=True)
 
-    def _corners(self, place: int, count: int) -> Corners:
-        corner, found = Point(), []
-        for at in range(count):
-            self._library.reroute_corner(self._handle, place, at, corner)
-            found.append((corner.x / 1000, corner.y / 1000))
-        return found
+    def _read(self, call: str, is_changes: bool = False) -> Lines:
+        """The lines that a call gives; or those that changed, with the connectors that are gone."""
+        count, library = Z(), self._library
+        self._call(call, count)
+        lines = [library.reroute_line(self._handle, place) for place in range(count.value)]
+        found = {line.connector: self._points('corner', place) for place, line in enumerate(lines)
+                 if line.changed or not is_changes}
+        gone = range(library.reroute_gone_count(self._handle) if is_changes else 0)
+        found.update((library.reroute_gone(self._handle, place), []) for place in gone)
+        return dict(sorted(found.items()))
+
+    def _all(self, call: str, kind: Any, *of: int) -> Iterator[Any]:
+        """What a call has at the places from 0 on."""
+        for place in itertools.count():
+            info = kind()
+            if not getattr(self._library, f'reroute_{call}')(self._handle, *of, place, info):
+                return
+            yield info
+
+    def _points(self, call: str, of: int) -> Corners:
+        return [(point.x / 1000, point.y / 1000) for point in self._all(call, Point, of)]
 
     def cost(self, connector: int) -> Optional[float]:
         """What the connector's route costs, before nudging, or None if it has none."""
         cost = ctypes.c_uint64()
         is_routed = self._library.reroute_cost(self._handle, whole(connector, 32), cost)
         return cost.value / 1000 if is_routed else None
-
-    def routes(self) -> List[Route]:
-        """The connectors that have a line, in the order of their numbers, with what their routes cost."""
-        return [Route(connector, tuple(corners), self.cost(connector)) for connector, corners in self._lines().items()]
 
     @property
     def next(self) -> int:
@@ -221,12 +267,37 @@ class Session(Told):
         """How many searches the session has made."""
         return self._library.reroute_searched(self._handle)
 
+    # ---- the scene: that of the open transaction if one is open, otherwise the present one ----
+
+    def boxes(self) -> List[Box]:
+        """The boxes with their pins."""
+        return [Box(box.id, box.x / 1000, box.y / 1000, box.w / 1000, box.h / 1000, box.group, self._pins(place))
+                for place, box in enumerate(self._all('box', BoxInfo))]
+
+    def _pins(self, place: int) -> List[Pin]:
+        return [Pin(pin.pin_class, pin.dx / 1000, pin.dy / 1000, letters(pin.directions))
+                for pin in self._all('pin', PinInfo, place)]
+
+    def connectors(self) -> List[Connector]:
+        """The connectors with their checkpoints, in the order of their numbers."""
+        return [Connector(one.number, one.start, one.end, one.start_class, one.end_class, self._points('checkpoint', place))
+                for place, one in enumerate(self._all('connector', ConnectorInfo))]
+
+    def settings(self) -> Settings:
+        """The settings; a closed session refuses."""
+        found = SettingsInfo()
+        if not self._library.reroute_settings(self._handle, found):
+            raise Refused(Code.NO_SESSION, 0)
+        return Settings(found.penalty / 1000, found.buffer / 1000, found.nudge / 1000)
+
     @property
     def box_count(self) -> int:
+        """How many boxes the present scene has, whether or not a transaction is open."""
         return self._library.reroute_box_count(self._handle)
 
     @property
     def connector_count(self) -> int:
+        """How many connectors the present scene has, whether or not a transaction is open."""
         return self._library.reroute_connector_count(self._handle)
 
     # ---- texts ----

@@ -19,7 +19,7 @@ import threading
 from typing import Any, BinaryIO, Iterable, Iterator, List, Tuple, Union
 
 from ._faults import Refused, milli, whole
-from ._screen import Lines, Told, copied
+from ._session import Lines
 
 __all__ = ['Ended', 'Refused', 'Session']
 
@@ -56,12 +56,22 @@ def apply(reported: Iterable[Any], lines: Lines) -> None:
             lines[int(words[1])] = list(zip(numbers[::2], numbers[1::2]))
 
 
-class Session(Told):
+def copied(lines: Lines) -> Lines:
+    return {connector: list(corners) for connector, corners in lines.items()}
+
+
+def differences(old: Lines, new: Lines) -> Lines:
+    """The lines that are other ones now; a connector whose line is gone has no corners."""
+    found = {connector: corners for connector, corners in new.items() if old.get(connector) != corners}
+    found.update((connector, []) for connector in old if connector not in new)
+    return dict(sorted(found.items()))
+
+
+class Session:
     """A scene with its lines, in a program of its own; it begins with the diagram of a file, or with none."""
 
     def __init__(self, program: str = 'reroute_live', diagram: Union[str, 'os.PathLike[str]', None] = None,
                  workers: int = 1) -> None:
-        super().__init__()
         if workers not in (1, 2, 3, 4):
             raise ValueError(f'there are 1 to 4 workers, and not {workers!r}')
         words = [program, '--workers', str(workers)] + ([os.path.abspath(diagram)] if diagram is not None else [])
@@ -72,7 +82,8 @@ class Session(Told):
             self._errors.close()
             raise Ended(f'{program} cannot be started: {fault.strerror}') from None
         self._lock, self._is_open, self._is_closed = threading.RLock(), False, False
-        self._known: Lines = {}
+        self._known: Lines = {}  # as the program told them
+        self._told: Lines = {}  # as `lines` and `changes` told them
         self._next = 0
         try:
             self._refresh()
@@ -265,8 +276,16 @@ class Session(Told):
 
     # ---- lines and texts ----
 
-    def _lines(self) -> Lines:
+    def lines(self) -> Lines:
+        """The corners of each connector that has a line, by its number."""
+        self._told = copied(self._known)
         return copied(self._known)
+
+    def changes(self) -> Lines:
+        """The lines that differ from those that `lines` or `changes` told last. A connector whose line is gone, since it was
+        cut or has no legal route any more, has no corners."""
+        old = self._told
+        return differences(old, self.lines())
 
     def preview(self) -> Lines:
         """The lines that a commit of the open transaction would give. Nothing changes."""
@@ -274,6 +293,10 @@ class Session(Told):
             lines = copied(self._known)
             apply(self.say('preview'), lines)
         return lines
+
+    def preview_changes(self) -> Lines:
+        """What `changes` would tell after that commit. What was told last stays."""
+        return differences(self._told, self.preview())
 
     def gml(self) -> bytes:
         """The diagram in GML, with the present scene and its lines put in."""
