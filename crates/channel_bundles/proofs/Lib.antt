@@ -9,3 +9,4 @@ pub mod Clear
 pub mod Linking
 pub mod Placing
 pub mod Bundling
+pub mod Chained

@@ -1,11 +1,17 @@
 -- Numbers that links join, and the classes of them.
-use Rattle.std.specs.Prelude.{◌≡◌, ◌↔◌, ◌⊎◌, ℕ, ◌<◌, ◌≤◌, List, map, length, All, slice_index, Contains, EachIndex}
+use Rattle.std.specs.Prelude.{◌≡◌, ◌↔◌, ◌⊎◌, ℕ, ◌<◌, ◌≤◌, Bool, List, map, length, All, slice_index, Contains, EachIndex}
+use Rattle.separation_model.specs.declared.bundle.Rule.{Rule}
 
 -- links lead from the first number to the second, each forward or back
 pub data Connected (linked : ℕ → ℕ → Type 0) : ℕ → ℕ → Type 0 where
   same : (i : ℕ) → Connected linked i i
   onward : (i j k : ℕ) → Connected linked i j → linked j k → Connected linked i k
   back : (i j k : ℕ) → Connected linked i j → linked k j → Connected linked i k
+
+-- a rule of the list leads from the first item to the second
+pub record HasRule (rules : List Rule) (i j : ℕ) : Type 0 where
+  pub spaced : Bool
+  pub has : Contains rules (record { left = i; right = j; spaced = spaced })
 
 -- numbers that rise
 abbrev pub Rise : List ℕ → Type 0

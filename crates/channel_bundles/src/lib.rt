@@ -5,11 +5,13 @@
 
 mod channel;
 mod forest;
+mod laws;
 mod limits;
 mod links;
 mod member;
 mod route;
 
 pub use channel::{RunBundle, bundles};
+pub use laws::reduced_connects;
 pub use member::Member;
 pub use route::{PhaseRoute, RouteAnchors};

@@ -4,3 +4,5 @@ pub mod Optimum
 pub mod Gaps
 pub mod Verifying
 pub mod Rounding
+pub mod Chains
+pub mod Padded

@@ -7,4 +7,6 @@ pub mod Least
 pub mod Certified
 pub mod Rounded
 pub mod Latest
+pub mod Chains
+pub mod Padded
 pub mod Checked

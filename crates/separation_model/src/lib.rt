@@ -19,6 +19,7 @@ pub use displacement::{numerator_over, weighted_displacement};
 pub use gap::widest_gap;
 pub use latest::{latest_positions, rules_by_left};
 pub use laws::{
-    certified_is_least, least_positions_exist, met_positions_are_on_sheet, most_items_is_the_bound,
-    one_least, one_rounded, one_widest_gap, rounded_down_is_below, rounded_down_meets,
+    certified_is_least, least_positions_exist, met_positions_are_on_sheet, middles_reduce,
+    most_items_is_the_bound, one_least, one_rounded, one_widest_gap, padded_is_certified,
+    padded_pushes, reduced_meets, reduced_places, rounded_down_is_below, rounded_down_meets,
 };

@@ -1,5 +1,5 @@
 -- The code's sums are those of the conditions: what it reads of the lists fits.
-use Rattle.std.proofs.Common.{ℕ, ◌≡◌, ◌<◌, ◌^◌, length, All, pos, ◌*ℤ◌, ◌-ℤ◌, arith, rules, sym, ap, subst, ◌∙◌, FitsSigned, ℤ, to_z, of_z}
+use Rattle.std.proofs.Common.{ℕ, ◌≡◌, ◌<◌, length, All, pos, ◌*ℤ◌, ◌-ℤ◌, arith, rules, sym, ap, subst, ◌∙◌, FitsSigned, ℤ, to_z, of_z}
 use Rattle.std.specs.Int.{w64, w128}
 use Rattle.std.specs.Prelude.{slice_index}
 use Rattle.std.proofs.lemmas.Int.{ints, to_z-of_z}
