@@ -1,4 +1,4 @@
--- The lemmas on what exists, callees first.
+-- The lemmas on what exists and on what is read, callees first.
 pub mod Deciding
 pub mod Walking
 pub mod Answering
@@ -6,3 +6,6 @@ pub mod Auditing
 pub mod LeastLabels
 pub mod Readings
 pub mod Solving
+pub mod Arguing
+pub mod Proposing
+pub mod Describing

@@ -1,6 +1,9 @@
--- What exists.
+-- What exists, and what is read.
 pub mod Answers
 pub mod Readings
 pub mod Audits
 pub mod Solutions
 pub mod Previews
+pub mod Arguments
+pub mod Proposals
+pub mod Diagrams

@@ -1,9 +1,12 @@
-//! Laws that what the definitions ask for exists: answers of tasks and of scenes, stale connectors,
-//! verdicts, proposals, certificates, audits, readings of bytes, and solutions of bundles.
+//! Laws on the definitions: that what they ask for exists (answers of tasks and of scenes, stale connectors, verdicts,
+//! proposals, certificates, audits, readings of bytes, and solutions of bundles), and what arguments, proposals and
+//! diagrams are read as.
 #![tactic(auto)]
 
+mod inputs;
 mod laws;
 
+pub use inputs::{arguments_ask, scripts_have_proposals, trees_have_scenes};
 pub use laws::{
     some_answer, some_answers, some_audit, some_least_proofs, some_preview, some_proof_reading,
     some_reading, some_solution, some_stale_list, some_verdict,
