@@ -1,5 +1,5 @@
 //! The raw routes of a scene's answers.
-ghost use Rattle.std.specs.Prelude.{◌≢◌, ◌<◌, ◌≤◌, ◌^◌, IfOk, IfSome, IsSomeAnd, length};
+ghost use Rattle.std.specs.Prelude.{◌<◌, ◌≤◌, ◌^◌, IfOk, IsSomeAnd, length};
 ghost use Rattle.scene_model.specs.Answers.{AreAnswers};
 ghost use Rattle.scene_model.specs.Routing.{task_of};
 ghost use Rattle.scene_model.specs.Scene.{edge_with};
@@ -19,24 +19,23 @@ fn raw_route(
     number: u32,
     route: &Route,
 ) -> Result<PhaseRoute, AllocError>
-    requires connector { IsSomeAnd (edge_with scene.now number) (λ e. e.from ≢ e.to) }
-    requires start { IfSome (edge_with scene.now number) (λ e. route.now.start < length (task_of scene.now e).starts) }
-    requires end { IfSome (edge_with scene.now number) (λ e. route.now.end < length (task_of scene.now e).ends) }
+    requires start { IsSomeAnd (edge_with scene.now number) (λ e. route.now.start < length (task_of scene.now e).starts) }
+    requires end { IsSomeAnd (edge_with scene.now number) (λ e. route.now.end < length (task_of scene.now e).ends) }
     requires few { length route.now.points ≤ 2 ^ 32 }
     ensures { IfOk result (IsRawRoute scene.now number route.now) }
 {
-    let task = scene.task(number)?;
-    let start = task.starts.as_slice()[route.start as usize];
-    let end = task.ends.as_slice()[route.end as usize];
+    let edge = scene.edge(number).unwrap();
+    let start = scene.start_at(number, route.start as usize).unwrap();
+    let end = scene.end_at(number, route.end as usize).unwrap();
     Ok(PhaseRoute {
         edge: number,
         runs: runs_of(alloc, number, route.points.as_slice())?,
         anchors: RouteAnchors {
             source_port: start.port,
             target_port: end.port,
-            via: task.via.0,
+            via: Vec::from_slice(alloc, edge.via.as_slice())?,
         },
-        weight: scene.edge(number).unwrap().weight,
+        weight: edge.weight,
     })
 }
 

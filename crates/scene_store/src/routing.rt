@@ -1,12 +1,12 @@
 //! What routing needs of a scene: its floor, and the tasks of its connectors.
-ghost use Rattle.std.specs.Prelude.{◌≡◌, ◌++◌, [], ◌∷◌, map, if◌then◌else◌, IsSome, IfSome, IfOk, OnOk};
+ghost use Rattle.std.specs.Prelude.{◌≡◌, ◌+◌, ◌++◌, [], ◌∷◌, length, map, if◌then◌else◌, Some, IsSome, IfSome, IfOk, OnOk, MatchResult, option_and_then, slice_get};
 ghost use Rattle.std.specs.List.{flat_map};
 ghost use Rattle.scene_model.specs.Routing.{anchors, centre_pin, choice, choices_of, choices_with, directions, floor_of, pins_of_class, port, solids, task_of};
 ghost use Rattle.scene_model.specs.Scene.{connectors, edge_with, node_with};
 ghost use Rattle.scene_model.specs.Valid.{AreSettings, IsNode, IsPlaced, IsValid};
 
 use plane_geom::{Dir, Floor, Point, Points, Rect, Solids};
-use scene_model::{Node, Pin, Settings};
+use scene_model::{Dirs, Node, Pin, Settings};
 use scene_parts::Parts;
 use std::alloc::{AllocError, Global};
 use walk_model::{Choice, Choices, Task};
@@ -84,6 +84,46 @@ fn push_choices(
     push_if(choices, pin.dirs.west, west)?;
     push_if(choices, pin.dirs.north, north)?;
     Ok(())
+}
+
+/// The direction at the place among those that are set; if there are too few, how far past them the
+/// place is.
+fn dir_at(dirs: Dirs, place: usize) -> Result<Dir, usize>
+    ensures { MatchResult result (λ dir. slice_get (directions dirs) place ≡ Some dir) (λ past. place ≡ length (directions dirs) + past) }
+{
+    let east = usize::from(dirs.east);
+    let south = east + usize::from(dirs.south);
+    let west = south + usize::from(dirs.west);
+    let north = west + usize::from(dirs.north);
+    if place < east {
+        Ok(Dir::East)
+    } else if place < south {
+        Ok(Dir::South)
+    } else if place < west {
+        Ok(Dir::West)
+    } else if place < north {
+        Ok(Dir::North)
+    } else {
+        Err(place - north)
+    }
+}
+
+/// The choice at the place among those of an end with the class at the node.
+fn choice_of_class(settings: Settings, node: &Node, class: u32, place: usize) -> Option<Choice>
+    requires settings { AreSettings settings }
+    requires node { IsNode node.now }
+    ensures { result ≡ slice_get (choices_of settings.buffer node.now (pins_of_class node.now class)) place }
+{
+    let mut place = place;
+    for pin in node.pins_among(class) {
+        if pin.class == class {
+            match dir_at(pin.dirs, place) {
+                Ok(dir) => return Some(choice(settings, node, *pin, dir)),
+                Err(past) => place = past,
+            }
+        }
+    }
+    None
 }
 
 /// The choices of an end with the class at the node.
@@ -203,6 +243,32 @@ fn choices_at(alloc: Global, parts: &Parts, id: i64, class: u32) -> Result<Choic
 {
     let node = parts.node(id).unwrap();
     choices_of_class(alloc, parts.settings(), node, class)
+}
+
+/// The choice at the place among those of an end with the class at the node with the id.
+fn choice_at(parts: &Parts, id: i64, class: u32, place: usize) -> Option<Choice>
+    requires { IsValid parts.now }
+    ensures { result ≡ slice_get (choices_with parts.now.settings.buffer class (node_with parts.now id)) place }
+{
+    choice_of_class(parts.settings(), parts.node(id)?, class, place)
+}
+
+/// The choice at the place among those of the source of the edge with the number.
+pub(crate) fn start_at(parts: &Parts, number: u32, place: usize) -> Option<Choice>
+    requires { IsValid parts.now }
+    ensures { result ≡ option_and_then (λ e. slice_get (task_of parts.now e).starts place) (edge_with parts.now number) }
+{
+    let edge = parts.edge(number)?;
+    choice_at(parts, edge.from, edge.from_class, place)
+}
+
+/// The choice at the place among those of the target of the edge with the number.
+pub(crate) fn end_at(parts: &Parts, number: u32, place: usize) -> Option<Choice>
+    requires { IsValid parts.now }
+    ensures { result ≡ option_and_then (λ e. slice_get (task_of parts.now e).ends place) (edge_with parts.now number) }
+{
+    let edge = parts.edge(number)?;
+    choice_at(parts, edge.to, edge.to_class, place)
 }
 
 /// The task of the edge with the number.

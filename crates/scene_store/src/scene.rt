@@ -1,5 +1,5 @@
 //! The scene: look-ups, single edits, loading, and the inverses of edits.
-ghost use Rattle.std.specs.Prelude.{◌≡◌, ◌≢◌, None, IsSomeAnd, IfSome, IfOk, OnOk, OnErr, option_copied, slice_get};
+ghost use Rattle.std.specs.Prelude.{◌≡◌, ◌≢◌, None, IsSomeAnd, IfSome, IfOk, OnOk, OnErr, option_and_then, option_copied, slice_get};
 ghost use Rattle.scene_model.specs.Edits.{IsDirected, IsEdited, changed, refusal};
 ghost use Rattle.scene_model.specs.Inverses.{IsRestorable, inverse_of, restored};
 ghost use Rattle.scene_model.specs.Loads.{IsEdgeLoaded, IsLoadableEdge, IsLoadableNode, IsNodeLoaded};
@@ -16,7 +16,7 @@ use scene_model::{Dirs, Edge, Edit, Inverse, Node, SceneFault, Setting, Settings
 use scene_parts::Parts;
 use std::alloc::{AllocError, Global};
 use std::marker::Model;
-use walk_model::Task;
+use walk_model::{Choice, Task};
 
 /// The nodes and edges of a diagram, in order, its settings and the next edge number. It is always
 /// valid.
@@ -160,6 +160,20 @@ impl Scene {
         ensures task { IfOk result (IsTaskOn (solids self.now)) }
     {
         routing::task(self.alloc, &self.parts, number)
+    }
+
+    /// The choice at the place, from 0, among those of the source of the edge with the number.
+    pub fn start_at(&self, number: u32, place: usize) -> Option<Choice>
+        ensures { result ≡ option_and_then (λ e. slice_get (task_of self.now e).starts place) (edge_with self.now number) }
+    {
+        routing::start_at(&self.parts, number, place)
+    }
+
+    /// The choice at the place, from 0, among those of the target of the edge with the number.
+    pub fn end_at(&self, number: u32, place: usize) -> Option<Choice>
+        ensures { result ≡ option_and_then (λ e. slice_get (task_of self.now e).ends place) (edge_with self.now number) }
+    {
+        routing::end_at(&self.parts, number, place)
     }
 
     /// Why the edit would be refused: the first refusal that applies, or `None`. Takes no memory.

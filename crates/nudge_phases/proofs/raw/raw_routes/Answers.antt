@@ -1,6 +1,6 @@
 -- One more answer has its raw route, or none.
-use Rattle.std.proofs.Common.{◌≡◌, ◌≢◌, ℕ, ◌+◌, ◌++◌, ◌∷◌, [], ◌<◌, None, Some, List, length, take, get_or, arith, sym, ap, subst, ◌∙◌}
-use Rattle.std.specs.Prelude.{IfSome, IsSomeAnd}
+use Rattle.std.proofs.Common.{◌≡◌, ℕ, ◌+◌, ◌++◌, ◌∷◌, [], ◌<◌, None, Some, List, length, take, get_or, arith, sym, ap, subst, ◌∙◌}
+use Rattle.std.specs.Prelude.{IsSomeAnd}
 use Rattle.std.specs.List.{AllZip}
 use Rattle.std.proofs.lemmas.List.{append-nil}
 use Rattle.std.proofs.lemmas.Option.{slice_get_within, slice_get-get_or}
@@ -16,17 +16,14 @@ use Rattle.nudge_phases.proofs.Zips.{zip_push}
 use Rattle.nudge_phases.proofs.raw.raw_routes.Goals as goal
 use Rattle.nudge_phases.proofs.raw.raw_routes.Goals.{in-Some+in_ok-raw_route+in_ok-push, in_default}
 
-connector : (s : Scene) (number : ℕ) (r : Route) → IsAnswered s number r → IsSomeAnd (edge_with s number) (λ e. e.from ≢ e.to)
-connector s number r a = subst (λ o. IsSomeAnd o (λ e. e.from ≢ e.to)) (sym a.known) a.connector.apart
-
-starts : (s : Scene) (number : ℕ) (r : Route) → IsAnswered s number r → IfSome (edge_with s number) (λ e. r.start < length (task_of s e).starts)
+starts : (s : Scene) (number : ℕ) (r : Route) → IsAnswered s number r → IsSomeAnd (edge_with s number) (λ e. r.start < length (task_of s e).starts)
 starts s number r a =
-    subst (λ o. IfSome o (λ e. r.start < length (task_of s e).starts)) (sym a.known)
+    subst (λ o. IsSomeAnd o (λ e. r.start < length (task_of s e).starts)) (sym a.known)
     (let h = slice_get_within (task_of s a.edge).starts a.triple.start a.first.legal.start a.first.legal.is_start in let e = a.route_of.start in omega (arith, h, e))
 
-ends : (s : Scene) (number : ℕ) (r : Route) → IsAnswered s number r → IfSome (edge_with s number) (λ e. r.end < length (task_of s e).ends)
+ends : (s : Scene) (number : ℕ) (r : Route) → IsAnswered s number r → IsSomeAnd (edge_with s number) (λ e. r.end < length (task_of s e).ends)
 ends s number r a =
-    subst (λ o. IfSome o (λ e. r.end < length (task_of s e).ends)) (sym a.known)
+    subst (λ o. IsSomeAnd o (λ e. r.end < length (task_of s e).ends)) (sym a.known)
     (let h = slice_get_within (task_of s a.edge).ends a.triple.end a.first.legal.end a.first.legal.is_end in let e = a.route_of.end in omega (arith, h, e))
 
 -- one more raw route stands beside one more route
@@ -45,12 +42,6 @@ none_more s answers i a raw new h is none so e =
     let same : routed (take (i + 1) answers) ≡ routed (take i answers) =
     routed_more answers i a h is ∙ ap (λ o. routed (take i answers) ++ with_number a.edge o) none ∙ append-nil (routed (take i answers)) in
     subst (λ ps. AllZip R ps new) (sym same) (subst (AllZip R (routed (take i answers))) (sym e) so)
-
-pub raw_route-requires-clause-connector : goal.raw_route-requires-clause-connector
-raw_route-requires-clause-connector c =
-    let a = c.answer-item.result in
-    connector c.args.scene.now a.edge c.in-Some.route (answered_at c.args.scene.now c.args.answers.now c.requires.valid c.requires.answers c.loop-answer.answer-index a c.in-Some.route
-    (slice_get-get_or c.args.answers.now c.loop-answer.answer-index a c.loop-answer-test.true ∙ ap Some (sym c.answer-item.is)) c.in-Some.is)
 
 pub raw_route-requires-clause-start : goal.raw_route-requires-clause-start
 raw_route-requires-clause-start c =
