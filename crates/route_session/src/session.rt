@@ -12,7 +12,7 @@ ghost use Rattle.nudge_phases.specs.Raw.{routed};
 ghost use Rattle.preview.specs.Previews.{ArePreviews, IsProposable};
 ghost use Rattle.route_book.specs.Exchange.{CountsStale};
 ghost use Rattle.line_arena.specs.Count.{counted_by};
-ghost use Rattle.session_laws.specs.Calls.{IsFaultOf};
+ghost use Rattle.session_laws.specs.Calls.{IsCall};
 ghost use Rattle.session_laws.specs.History.{IsHistory, world_of};
 ghost use Rattle.route_session.specs.Turning.{turn_command};
 ghost use Rattle.route_session.specs.Upheld.{IsUpheld};
@@ -155,9 +155,7 @@ impl Session {
     /// Opens a transaction. The error is `AlreadyOpen` exactly if one is open, otherwise only out
     /// of memory.
     pub fn begin(&mut self) -> Result<(), SessionFault>
-        ensures ok { OnOk result (step commands.Begin self.old.world ≡ Ok self.new.world) }
-        ensures fault { IfErr result (IsFaultOf commands.Begin self.old.world) }
-        ensures err { OnErr result (self.new.world ≡ rolled_back self.old.world) }
+        ensures call { IsCall commands.Begin result self.old self.new }
         ensures book { self.new.book ≡ self.old.book }
         ensures searched { self.new.searched ≡ self.old.searched }
         ensures written { self.new.written ≡ self.old.written }
@@ -179,9 +177,7 @@ impl Session {
     /// never contains.
     pub fn edit(&mut self, edit: &Edit) -> Result<(), SessionFault>
         requires { IsDirected edit.now }
-        ensures ok { OnOk result (step (commands.Edit edit.now) self.old.world ≡ Ok self.new.world) }
-        ensures fault { IfErr result (IsFaultOf (commands.Edit edit.now) self.old.world) }
-        ensures err { OnErr result (self.new.world ≡ rolled_back self.old.world) }
+        ensures call { IsCall (commands.Edit edit.now) result self.old self.new }
         ensures memory { result ≢ Err (faults.Edit scene_faults.Memory) }
         ensures book { self.new.book ≡ self.old.book }
         ensures searched { self.new.searched ≡ self.old.searched }
@@ -210,10 +206,7 @@ impl Session {
     ) -> Result<(), SessionFault>
         requires some { 1 ≤ workers }
         requires few { workers ≤ 4 }
-        ensures ok { OnOk result (step commands.Commit self.old.world ≡ Ok self.new.world) }
-        ensures fault { IfErr result (IsFaultOf commands.Commit self.old.world) }
-        ensures err { OnErr result (self.new.world ≡ rolled_back self.old.world) }
-        ensures right { AreAnswers self.new.world.present self.new.book }
+        ensures call { IsCall commands.Commit result self.old self.new }
         ensures book { OnErr result (self.new.book ≡ self.old.book) }
         ensures searched { OnOk result (CountsStale self.old.world.present self.old.book self.new.world.present self.old.searched self.new.searched) }
         ensures written { OnOk result (CountsWrites (floor_of self.old.world.present) (floor_of self.new.world.present) self.old.written self.new.written) }
@@ -238,10 +231,7 @@ impl Session {
     /// The error is `NoTransaction` exactly if none is open, otherwise only out of memory. It takes
     /// all memory before the scene, the book and the history change.
     pub fn commit_alone(&mut self) -> Result<(), SessionFault>
-        ensures ok { OnOk result (step commands.Commit self.old.world ≡ Ok self.new.world) }
-        ensures fault { IfErr result (IsFaultOf commands.Commit self.old.world) }
-        ensures err { OnErr result (self.new.world ≡ rolled_back self.old.world) }
-        ensures right { AreAnswers self.new.world.present self.new.book }
+        ensures call { IsCall commands.Commit result self.old self.new }
         ensures book { OnErr result (self.new.book ≡ self.old.book) }
         ensures searched { OnOk result (CountsStale self.old.world.present self.old.book self.new.world.present self.old.searched self.new.searched) }
         ensures written { OnOk result (CountsWrites (floor_of self.old.world.present) (floor_of self.new.world.present) self.old.written self.new.written) }
@@ -263,9 +253,8 @@ impl Session {
     /// Drops the transaction. The error is `NoTransaction` exactly if none is open. Takes no
     /// memory.
     pub fn abort(&mut self) -> Result<(), SessionFault>
-        ensures ok { OnOk result (step commands.Abort self.old.world ≡ Ok self.new.world) }
+        ensures call { IsCall commands.Abort result self.old self.new }
         ensures fault { IfErr result (λ f. step commands.Abort self.old.world ≡ Err (refused f)) }
-        ensures err { OnErr result (self.new.world ≡ rolled_back self.old.world) }
         ensures book { self.new.book ≡ self.old.book }
         ensures searched { self.new.searched ≡ self.old.searched }
         ensures written { self.new.written ≡ self.old.written }
@@ -282,10 +271,7 @@ impl Session {
     /// exactly if the past is empty; otherwise only out of memory. It takes memory only for a copy
     /// of the scene, its floor and the plan of the repair, before anything changes.
     pub fn undo(&mut self) -> Result<(), SessionFault>
-        ensures ok { OnOk result (step commands.Undo self.old.world ≡ Ok self.new.world) }
-        ensures fault { IfErr result (IsFaultOf commands.Undo self.old.world) }
-        ensures err { OnErr result (self.new.world ≡ rolled_back self.old.world) }
-        ensures right { AreAnswers self.new.world.present self.new.book }
+        ensures call { IsCall commands.Undo result self.old self.new }
         ensures book { OnErr result (self.new.book ≡ self.old.book) }
         ensures searched { self.new.searched ≡ self.old.searched }
         ensures written { OnOk result (CountsWrites (floor_of self.old.world.present) (floor_of self.new.world.present) self.old.written self.new.written) }
@@ -300,10 +286,7 @@ impl Session {
     /// exactly if the future is empty; otherwise only out of memory. It takes memory only for a
     /// copy of the scene, its floor and the plan of the repair, before anything changes.
     pub fn redo(&mut self) -> Result<(), SessionFault>
-        ensures ok { OnOk result (step commands.Redo self.old.world ≡ Ok self.new.world) }
-        ensures fault { IfErr result (IsFaultOf commands.Redo self.old.world) }
-        ensures err { OnErr result (self.new.world ≡ rolled_back self.old.world) }
-        ensures right { AreAnswers self.new.world.present self.new.book }
+        ensures call { IsCall commands.Redo result self.old self.new }
         ensures book { OnErr result (self.new.book ≡ self.old.book) }
         ensures searched { self.new.searched ≡ self.old.searched }
         ensures written { OnOk result (CountsWrites (floor_of self.old.world.present) (floor_of self.new.world.present) self.old.written self.new.written) }
@@ -314,10 +297,7 @@ impl Session {
 
     /// Goes one scene toward the past or the future, with its routes, without a search.
     fn turn(&mut self, toward: Toward) -> Result<(), SessionFault>
-        ensures ok { OnOk result (step (turn_command toward) self.old.world ≡ Ok self.new.world) }
-        ensures fault { IfErr result (IsFaultOf (turn_command toward) self.old.world) }
-        ensures err { OnErr result (self.new.world ≡ rolled_back self.old.world) }
-        ensures right { AreAnswers self.new.world.present self.new.book }
+        ensures call { IsCall (turn_command toward) result self.old self.new }
         ensures book { OnErr result (self.new.book ≡ self.old.book) }
         ensures searched { self.new.searched ≡ self.old.searched }
         ensures written { OnOk result (CountsWrites (floor_of self.old.world.present) (floor_of self.new.world.present) self.old.written self.new.written) }

@@ -1,6 +1,6 @@
 -- A commit is replied to with what it searched, or with its refusal.
 use Rattle.std.proofs.Common.{◌≡◌, ◌≢◌, ℕ, ◌+◌, ◌<◌, ◌≤◌, ◌^◌, inl, inr, List, [], ◌∷◌, length, Option, None, Some, Result, Ok, Err, refl, sym, ap, subst, ◌∙◌, arith}
-use Rattle.std.specs.Prelude.{◌-◌, not, IfErr, IfOk, IsErr, IsErrOf, OnErr, OnOk}
+use Rattle.std.specs.Prelude.{◌-◌, not, IfErr, IfOk, IsErr, IsErrOf, OnOk}
 use Rattle.std.specs.declared.alloc.AllocError.{AllocError}
 use Rattle.std.proofs.lemmas.Bool.{false≢true}
 use Rattle.std.proofs.lemmas.List.Sums.{length-filter, count_by-le-length}
@@ -18,7 +18,7 @@ use Rattle.report_text.specs.declared.reply.Reply.{Reply}
 use Rattle.report_text.specs.declared.reply.Reply.TheVariants.{Searched, Refused}
 use Rattle.line_arena.specs.Count.{counted_by}
 use Rattle.session_laws.specs.State.{State}
-use Rattle.session_laws.specs.Calls.{IsFaultOf}
+use Rattle.session_laws.specs.Calls.{IsCall}
 use Rattle.script_replay.specs.Replies.{IsReplyOf}
 use Rattle.script_replay.specs.Replied.{IsReplied}
 
@@ -76,14 +76,13 @@ none_of_err P (Err e) err = tt
 
 pub commit_replied : (old new : State) (answer : Result Unit SessionFault) (searched : ℕ) (result : Result Reply AllocError)
     → AreAnswers old.world.present old.book → IsValid new.world.present → old.searched + 512 < 2 ^ 64 → searched ≡ new.searched - old.searched
-    → OnOk answer (step Commit old.world ≡ Ok new.world) → OnOk answer (HasSearched old new)
-    → IfErr answer (IsFaultOf Commit old.world) → OnErr answer (new.world ≡ rolled_back old.world) → (IsErrOf answer NoTransaction → new.searched ≡ old.searched)
+    → IsCall Commit answer old new → OnOk answer (HasSearched old new) → (IsErrOf answer NoTransaction → new.searched ≡ old.searched)
     → OnOk answer (result ≡ Ok (Searched searched)) → (IsErrOf answer Memory → IsErr result) → IfErr answer (λ f. f ≢ Memory → result ≡ Ok (Refused (reported.Command f)))
     → IfOk result (IsReplied Commit old new)
-commit_replied old new (Ok _) searched result right valid countable is ok stale fault err none at_done at_memory at_refused =
-    subst (λ r. IfOk r (IsReplied Commit old new)) (sym at_done) (done old new searched right valid countable is ok stale)
-commit_replied old new (Err Memory) searched result right valid countable is ok stale fault err none at_done at_memory at_refused =
+commit_replied old new (Ok _) searched result right valid countable is call stale none at_done at_memory at_refused =
+    subst (λ r. IfOk r (IsReplied Commit old new)) (sym at_done) (done old new searched right valid countable is call.ok stale)
+commit_replied old new (Err Memory) searched result right valid countable is call stale none at_done at_memory at_refused =
     none_of_err (IsReplied Commit old new) result (at_memory refl)
-commit_replied old new (Err f) searched result right valid countable is ok stale fault err none at_done at_memory at_refused =
+commit_replied old new (Err f) searched result right valid countable is call stale none at_done at_memory at_refused =
     let other : f ≢ Memory = λ e. cc in
-    subst (λ r. IfOk r (IsReplied Commit old new)) (sym (at_refused other)) (not_done old new f fault err (λ e. none (ap Err e)))
+    subst (λ r. IfOk r (IsReplied Commit old new)) (sym (at_refused other)) (not_done old new f call.fault call.err (λ e. none (ap Err e)))

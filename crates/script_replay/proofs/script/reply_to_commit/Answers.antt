@@ -13,5 +13,5 @@ returns g c =
     let searched = c.searched.result - c.searched-before.result in
     let valid : IsValid new.world.present = subst IsValid c.scene.ensures.scene c.valid.ensures in
     let counted : searched ≡ new.searched - old.searched = omega (arith, c.searched.ensures, c.searched-before.ensures) in
-    commit_replied old new c.commit-answer.result searched c.reply_of.result c.right.ensures valid c.requires.countable counted made.ok made.searched made.fault made.err made.refused_searched
+    commit_replied old new c.commit-answer.result searched c.reply_of.result c.right.ensures valid c.requires.countable counted made.call made.searched made.refused_searched
     replied.done replied.memory replied.refused

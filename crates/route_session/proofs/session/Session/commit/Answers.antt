@@ -37,12 +37,17 @@ exchange_on-requires-clause-begun g c =
 pub invariant_of-self-2 : goal.invariant_of-self-2
 invariant_of-self-2 g c = rw c.take.ensures.after c.exchange_on.ensures.upheld
 
-pub returns-clause-ok : goal.returns-clause-ok
-returns-clause-ok g c =
+pub returns-clause-call : goal.returns-clause-call
+returns-clause-call g c =
     let open_is : c.self.inside.txn ≡ Some c.in-Some.txn = cc in
     let new = c.exchange_on.new in
-    rw (← c.self.view_is, c.take.ensures.after, open_is)
-    (subst (λ (s : Scene). step Commit (world_of c.self.inside.log s (Some c.in-Some.txn.working)) ≡ Ok (world_of new.log new.present.scene None)) c.follow.ensures.scene c.exchange_on.ensures.ok)
+    record {
+      ok = rw (← c.self.view_is, c.take.ensures.after, open_is)
+          (subst (λ (s : Scene). step Commit (world_of c.self.inside.log s (Some c.in-Some.txn.working)) ≡ Ok (world_of new.log new.present.scene None)) c.follow.ensures.scene c.exchange_on.ensures.ok);
+      fault = tt;
+      err = tt;
+      right = c.exchange_on.ensures.upheld.right;
+    }
 
 pub returns-clause-searched : goal.returns-clause-searched
 returns-clause-searched g c = rw (← c.self.view_is, c.exchange_on.ensures.scene, c.exchange_on.ensures.tally, ← c.working.ensures) c.in-Ok.ensures.tally

@@ -18,5 +18,5 @@ invariant_of-self-else-is_err c =
     with_transaction c.self.inside.present.scene c.self.inside.present.graph c.self.inside.present.book c.self.inside.log c.self.inside.txn c.self.invariant c.apply.new.self
     (subst (BeganOn c.self.inside.present.scene) (sym is) (keeps_begin c.self.inside.present.scene c.args.edit.now old c.requires edited.0 began))
 
-pub returns-then-is_err-clause-err : goal.returns-then-is_err-clause-err
-returns-then-is_err-clause-err c = search rules
+pub returns-then-is_err-clause-call : goal.returns-then-is_err-clause-call
+returns-then-is_err-clause-call c = search rules

@@ -1,5 +1,5 @@
 -- What a turn refuses, and what it leaves.
-use Rattle.std.proofs.Common.{◌≡◌, true, false, None, Some, Ok, slice_get, sym, ap, subst, ◌∙◌}
+use Rattle.std.proofs.Common.{rules, ◌≡◌, true, false, None, Some, Ok, slice_get, sym, ap, subst, ◌∙◌}
 use Rattle.std.specs.Prelude.{IsOk, is_some, option_copied}
 use Rattle.plane_geom.specs.Floor.{IsFloor}
 use Rattle.visibility_graph.specs.Drawing.{Drawing}
@@ -13,16 +13,26 @@ use Rattle.route_session.proofs.Upholding.{none_by, working_of}
 use Rattle.route_session.proofs.session.Session.turn.Goals as goal
 use Rattle.route_session.proofs.session.Session.turn.Goals.{After-drop-repair-inside-5, In-Some}
 
-pub returns-then-is_some-clause-fault : goal.returns-then-is_some-clause-fault
-returns-then-is_some-clause-fault c =
+pub returns-then-is_some-clause-call : goal.returns-then-is_some-clause-call
+returns-then-is_some-clause-call c =
     let opened : is_some c.self.inside.txn ≡ true = cc in
-    rw (← c.self.view_is) (open_refuses c.args.toward c.self.inside.log c.self.inside.present.scene c.self.inside.txn opened)
+    record {
+      ok = tt;
+      fault = rw (← c.self.view_is) (open_refuses c.args.toward c.self.inside.log c.self.inside.present.scene c.self.inside.txn opened);
+      err = search rules;
+      right = c.self.invariant.right;
+    }
 
-pub returns-in_default-clause-fault : goal.returns-in_default-clause-fault
-returns-in_default-clause-fault c =
+pub returns-in_default-clause-call : goal.returns-in_default-clause-call
+returns-in_default-clause-call c =
     let shut : is_some c.self.inside.txn ≡ false = cc in
     let none : slice_get (steps_toward c.args.toward c.self.inside.log) 0 ≡ None = sym c.nearest_step.ensures ∙ ap option_copied c.in_default.is in
-    rw (← c.self.view_is) (nothing_there c.args.toward c.self.inside.log c.self.inside.present.scene c.self.inside.txn c.no_step.result c.no_step.ensures shut none)
+    record {
+      ok = tt;
+      fault = rw (← c.self.view_is) (nothing_there c.args.toward c.self.inside.log c.self.inside.present.scene c.self.inside.txn c.no_step.result c.no_step.ensures shut none);
+      err = search rules;
+      right = c.self.invariant.right;
+    }
 
 -- the step is the nearest one there
 step_is : (c : In-Some) → slice_get (steps_toward c.args.toward c.self.inside.log) 0 ≡ Some c.in-Some.step.now
@@ -37,11 +47,21 @@ scene_toward-requires c =
     let some = step_is (goal.at.scene_toward-requires c).In-Some in
     may_turn c.self.inside.present.scene c.self.inside.present.graph c.self.inside.present.book c.self.inside.log c.self.inside.txn c.self.invariant c.args.toward c.in-Some.step.now some
 
-pub returns-in_default-scene_toward-clause-fault : goal.returns-in_default-scene_toward-clause-fault
-returns-in_default-scene_toward-clause-fault c = rw (← c.self.view_is) (goes (goal.at.returns-in_default-scene_toward-clause-fault c).In-Some)
+pub returns-in_default-scene_toward-clause-call : goal.returns-in_default-scene_toward-clause-call
+returns-in_default-scene_toward-clause-call c = record {
+  ok = tt;
+  fault = rw (← c.self.view_is) (goes (goal.at.returns-in_default-scene_toward-clause-call c).In-Some);
+  err = search rules;
+  right = c.self.invariant.right;
+}
 
-pub returns-in_default-repair-clause-fault : goal.returns-in_default-repair-clause-fault
-returns-in_default-repair-clause-fault c = rw (← c.self.view_is) (goes (goal.at.returns-in_default-repair-clause-fault c).In-Some)
+pub returns-in_default-repair-clause-call : goal.returns-in_default-repair-clause-call
+returns-in_default-repair-clause-call c = record {
+  ok = tt;
+  fault = rw (← c.self.view_is) (goes (goal.at.returns-in_default-repair-clause-call c).In-Some);
+  err = search rules;
+  right = search rules;
+}
 
 pub exchange_toward-requires-clause-here : goal.exchange_toward-requires-clause-here
 exchange_toward-requires-clause-here c =
@@ -67,10 +87,12 @@ went c =
 pub invariant_of-self-2 : goal.invariant_of-self-2
 invariant_of-self-2 c = rw c.take.ensures.after (went c).0
 
-pub returns-clause-ok : goal.returns-clause-ok
-returns-clause-ok c =
+pub returns-clause-call : goal.returns-clause-call
+returns-clause-call c =
     let shut : is_some c.self.inside.txn ≡ false = cc in
-    rw (← c.self.view_is, c.take.ensures.after, none_by c.self.inside.txn shut) (went c).1
-
-pub returns-clause-right : goal.returns-clause-right
-returns-clause-right c = (went c).0.right
+    record {
+      ok = rw (← c.self.view_is, c.take.ensures.after, none_by c.self.inside.txn shut) (went c).1;
+      fault = tt;
+      err = tt;
+      right = (went c).0.right;
+    }
