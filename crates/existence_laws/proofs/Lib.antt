@@ -9,3 +9,5 @@ pub mod Solving
 pub mod Arguing
 pub mod Proposing
 pub mod Describing
+pub mod Sharing
+pub mod Nudging

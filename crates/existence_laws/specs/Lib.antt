@@ -7,3 +7,5 @@ pub mod Previews
 pub mod Arguments
 pub mod Proposals
 pub mod Diagrams
+pub mod Paths
+pub mod Nudged

@@ -1,6 +1,8 @@
 //! The laws, each the contract of a function with an empty body.
 ghost use Rattle.existence_laws.specs.Answers.{HaveAnswers, HaveStaleLists, HaveVerdicts, TasksHaveAnswers};
 ghost use Rattle.existence_laws.specs.Audits.{HaveLeastProofs, ScenesAreAudited};
+ghost use Rattle.existence_laws.specs.Nudged.{HaveNudgedLines};
+ghost use Rattle.existence_laws.specs.Paths.{HaveSharedPaths};
 ghost use Rattle.existence_laws.specs.Previews.{HavePreviews};
 ghost use Rattle.existence_laws.specs.Readings.{HaveProofReadings, HaveReadings};
 ghost use Rattle.existence_laws.specs.Solutions.{HaveSolutions};
@@ -60,4 +62,14 @@ pub fn some_least_proofs()
 /// multipliers that show it.
 pub fn some_solution()
     ensures { HaveSolutions }
+{}
+
+/// Routes that `shared_paths` accepts have a list of shared paths.
+pub fn some_shared_paths()
+    ensures { HaveSharedPaths }
+{}
+
+/// Right answers of a valid scene have nudged lines, with the solutions of both phases.
+pub fn some_nudged_lines()
+    ensures { HaveNudgedLines }
 {}

@@ -61,7 +61,7 @@ abs_sum zero f = omega (arith, ints)
 abs_sum (suc n) f = omega (arith, ints, abs_sum n f)
 
 -- a `Vec` as long as another one, with the elements of the list
-abbrev vec_like : {X Y : Type 0} (v : Vec X Global) (ys : List Y) → length ys ≡ length v.items → Vec Y Global
+abbrev pub vec_like : {X Y : Type 0} (v : Vec X Global) (ys : List Y) → length ys ≡ length v.items → Vec Y Global
 vec_like v ys e = record { ptr = v.ptr; len = v.len; cap = v.cap; alloc = v.alloc; items = ys; ok = (v.ok.0 ∙ sym e, v.ok.1); small = v.small }
 
 -- ---- the same places over other denominators
