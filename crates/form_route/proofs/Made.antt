@@ -10,7 +10,7 @@ use Rattle.scene_model.specs.World.{World, opened}
 use Rattle.report_text.specs.declared.reply.LineReply.{LineReply}
 use Rattle.gml_scene.specs.Tree.{tree_of}
 use Rattle.script_replay.specs.Replies.{AreReplies, searched_in, world_after}
-use Rattle.form_route.specs.Diagram.{IsDiagram, IsOutput}
+use Rattle.form_route.specs.Diagram.{IsOutput}
 use Rattle.form_route.specs.declared.report.Unrouted.{Unrouted}
 use Rattle.form_route.specs.Report.{has_refusal, report, unrouted_in}
 use Rattle.form_route.specs.Routes.{AreLines, Routes}
@@ -23,16 +23,6 @@ of_ok P r x is holds = subst (λ r. IfOk r P) is holds
 pub so_of : {E : Type 0} (P : Scene → Scene → Type 0) (r : Result Scene E) (s : Scene) (v w : World) → r ≡ Ok s → v ≡ w → P s w.present → IfOk r (λ was. P was v.present)
 so_of P r s v w is same holds = subst (λ r. IfOk r (λ was. P was v.present)) (sym is) (subst (λ (u : World). P s u.present) (sym same) holds)
 
--- the report followed by the diagram is the output
-pub with_diagram : {E : Type 0} (tree : Pairs) (count : Bool) (opening : ℕ) (replies : List LineReply) (w : World) (answers : List Answer) (front diagram text : List ℕ) (r : Result Scene E) → front ≡ report count opening replies w answers
-    → IfOk r (λ was. IsDiagram tree was w.present answers diagram) → text ≡ front ++ diagram → IfOk r (λ was. IsOutput tree was count opening replies w answers text)
-with_diagram tree count opening replies w answers front diagram text (Ok was) is_front is_diagram is_text = record {
-  diagram = diagram;
-  is_diagram = is_diagram;
-  is_text = is_text ∙ ap (λ f. f ++ diagram) is_front;
-}
-with_diagram tree count opening replies w answers front diagram text (Err e) is_front is_diagram is_text = tt
-
 module _ (tree : Pairs) (s : Scene) (commands : List (ℕ × Command)) (count : Bool) (replies : List LineReply) (w : World) (answers : List Answer) where
   pub made : (opening searched : ℕ) (text : List ℕ) (refused : Bool) (unrouted : Unrouted) → w ≡ world_after s commands → AreReplies (opened s) commands replies
       → opening ≡ length (connectors s) → IsOutput tree s count opening replies w answers text
@@ -41,13 +31,12 @@ module _ (tree : Pairs) (s : Scene) (commands : List (ℕ × Command)) (count : 
   made opening searched text refused unrouted same are_replies is_opening is_output refused_is searched_is unrouted_is = record {
     replies = replies;
     answers = answers;
-    lines = is_output.is_diagram.lines;
+    lines = is_output.lines;
     are_replies = are_replies;
-    are_lines = subst (λ (v : World). AreLines v.present answers is_output.is_diagram.lines) same is_output.is_diagram.are_lines;
+    are_lines = subst (λ (v : World). AreLines v.present answers is_output.lines) same is_output.are_lines;
     is_text =
         is_output.is_text
-        ∙ ap (λ ds. report count opening replies w answers ++ ds) is_output.is_diagram.is_text
-        ∙ (λ i. report count (is_opening i) replies (same i) answers ++ printed (tree_of tree s (same i).present is_output.is_diagram.lines));
+        ∙ (λ i. report count (is_opening i) replies (same i) answers ++ printed (tree_of tree s (same i).present is_output.lines));
     is_refused = refused_is ∙ ap (has_refusal replies) same;
     is_searched = searched_is;
     is_unrouted = unrouted_is ∙ ap (λ (v : World). unrouted_in v.present answers) same;

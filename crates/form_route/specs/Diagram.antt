@@ -1,5 +1,5 @@
 -- The diagram that is written after the report, and both together.
-use Rattle.std.specs.Prelude.{◌≡◌, ℕ, Bool, List, ◌++◌}
+use Rattle.std.specs.Prelude.{◌≡◌, ℕ, Bool, List, [], ◌++◌}
 use Rattle.gml_text.specs.Tree.{Pairs}
 use Rattle.gml_text.specs.Printed.{printed}
 use Rattle.walk_model.specs.declared.route.Answer.{Answer}
@@ -11,15 +11,16 @@ use Rattle.gml_scene.specs.Tree.{tree_of}
 use Rattle.form_route.specs.Report.{report}
 use Rattle.form_route.specs.Routes.{AreLines}
 
--- the printed diagram of a scene with its nudged lines, where `was` is the scene that is read from the diagram's tree
-pub record IsDiagram (tree : Pairs) (was s : Scene) (answers : List Answer) (text : List ℕ) : Type 0 where
+-- the text before, followed by the printed diagram of a scene with its nudged lines, where `was` is the scene that is read from the diagram's tree
+pub record EndsInDiagram (tree : Pairs) (was s : Scene) (answers : List Answer) (before text : List ℕ) : Type 0 where
   pub lines : List WrittenRoute
   pub are_lines : AreLines s answers lines
-  pub is_text : text ≡ printed (tree_of tree was s lines)
+  pub is_text : text ≡ before ++ printed (tree_of tree was s lines)
+
+-- the printed diagram alone
+abbrev pub IsDiagram : Pairs → Scene → Scene → List Answer → List ℕ → Type 0
+IsDiagram tree was s answers text = EndsInDiagram tree was s answers [] text
 
 -- the report on the replies, followed by the printed diagram of the world's present scene
-pub record IsOutput (tree : Pairs) (was : Scene) (count : Bool) (opening : ℕ) (replies : List LineReply) (end : World) (answers : List Answer)
-    (text : List ℕ) : Type 0 where
-  pub diagram : List ℕ
-  pub is_diagram : IsDiagram tree was end.present answers diagram
-  pub is_text : text ≡ report count opening replies end answers ++ diagram
+abbrev pub IsOutput : Pairs → Scene → Bool → ℕ → List LineReply → World → List Answer → List ℕ → Type 0
+IsOutput tree was count opening replies end answers text = EndsInDiagram tree was end.present answers (report count opening replies end answers) text

@@ -1,16 +1,16 @@
 //! A script on a diagram, from its commands to the bytes of the output.
-ghost use Rattle.std.specs.Prelude.{◌≡◌, ◌<◌, ◌≤◌, ◌^◌, IfOk, IsOk, Ok, length};
+ghost use Rattle.std.specs.Prelude.{◌≡◌, ◌<◌, ◌≤◌, ◌^◌, IfOk, IsOk, Ok, OnOk, length};
 ghost use Rattle.gml_text.specs.Printed.{IsPrintable};
 ghost use Rattle.gml_text.specs.View.{tree};
 ghost use Rattle.gml_scene.specs.Origins.{AreEdgesOf, AreNodesOf, AreRoutesOf};
 ghost use Rattle.diagram_read.specs.Scene.{scene_of};
 ghost use Rattle.script_replay.specs.Replies.{AreDirected};
-ghost use Rattle.form_route.specs.Diagram.{IsDiagram, IsOutput};
+ghost use Rattle.form_route.specs.Diagram.{EndsInDiagram, IsDiagram, IsOutput};
 ghost use Rattle.form_route.specs.Routes.{AreLines, Routes};
 
 use crate::report::{Unrouted, has_refusal, report, unrouted_of};
 use gml_scene::put_routes;
-use gml_text::{Doc, print};
+use gml_text::{Doc, push_printed};
 use par_route::Gate;
 use report_text::LineReply;
 use route_search::Tally;
@@ -108,8 +108,7 @@ fn output(
         IsOutput (tree doc.now) was count opening replies.now session.now.world session.now.book text.items)) }
 {
     let mut text = report(alloc, count, opening, replies, session)?;
-    let diagram = printed_diagram(alloc, doc, session)?;
-    text.extend_from_slice(&diagram)?;
+    push_diagram(alloc, &mut text, doc, session)?;
     Ok(text)
 }
 
@@ -121,27 +120,46 @@ pub fn printed_diagram(alloc: Global, doc: &Doc, session: &Session) -> Result<Ve
     requires printable { IsPrintable (tree doc.now) }
     ensures { IfOk result (λ text. IfOk (scene_of (tree doc.now)) (λ was. IsDiagram (tree doc.now) was session.now.world.present session.now.book text.items)) }
 {
+    let mut text = Vec::new(alloc);
+    push_diagram(alloc, &mut text, doc, session)?;
+    Ok(text)
+}
+
+/// Appends the printed document of the session's present scene, with its nudged lines.
+fn push_diagram(
+    alloc: Global,
+    text: &mut Vec<u8>,
+    doc: &Doc,
+    session: &Session,
+) -> Result<(), AllocError>
+    requires source { IsOk (scene_of (tree doc.now)) }
+    requires nodes { IfOk (scene_of (tree doc.now)) (λ was. AreNodesOf was session.now.world.present) }
+    requires edges { IfOk (scene_of (tree doc.now)) (λ was. AreEdgesOf was session.now.world.present) }
+    requires printable { IsPrintable (tree doc.now) }
+    ensures { OnOk result (IfOk (scene_of (tree doc.now)) (λ was. EndsInDiagram (tree doc.now) was session.now.world.present session.now.book text.old.items text.new.items)) }
+{
     let scene = session.scene();
     scene.valid();
     let nudged = session.nudged()?;
-    printed_lines(alloc, doc, session, &nudged.routes)
+    push_lines(alloc, text, doc, session, &nudged.routes)
 }
 
-/// The printed document of the session's present scene, with these lines.
-fn printed_lines(
+/// Appends the printed document of the session's present scene, with these lines.
+fn push_lines(
     alloc: Global,
+    text: &mut Vec<u8>,
     doc: &Doc,
     session: &Session,
     lines: &[WrittenRoute],
-) -> Result<Vec<u8>, AllocError>
+) -> Result<(), AllocError>
     requires source { IsOk (scene_of (tree doc.now)) }
     requires nodes { IfOk (scene_of (tree doc.now)) (λ was. AreNodesOf was session.now.world.present) }
     requires edges { IfOk (scene_of (tree doc.now)) (λ was. AreEdgesOf was session.now.world.present) }
     requires routes { AreRoutesOf session.now.world.present lines.now }
     requires lines { AreLines session.now.world.present session.now.book lines.now }
     requires printable { IsPrintable (tree doc.now) }
-    ensures { IfOk result (λ text. IfOk (scene_of (tree doc.now)) (λ was. IsDiagram (tree doc.now) was session.now.world.present session.now.book text.items)) }
+    ensures { OnOk result (IfOk (scene_of (tree doc.now)) (λ was. EndsInDiagram (tree doc.now) was session.now.world.present session.now.book text.old.items text.new.items)) }
 {
     let routed = put_routes(alloc, doc, session.scene(), lines)?;
-    print(alloc, &routed)
+    push_printed(text, &routed)
 }

@@ -1,9 +1,9 @@
 //! GML in both directions: bytes as a tree of pairs, and a tree as bytes.
 //!
 //! A document is pairs of a key and a value, and a value is a number, a string or a list of pairs.
-//! `parse` reads the tree of a document, `find` finds a pair by its key, and `print` writes a tree
-//! in its one printed form. Bytes of keys, numbers and strings are kept as they were written, so an
-//! unknown key is preserved.
+//! `parse` reads the tree of a document, `find` finds a pair by its key, and `push_printed` and
+//! `print` write a tree in its one printed form. Bytes of keys, numbers and strings are kept as
+//! they were written, so an unknown key is preserved.
 //!
 //! # The grammar
 //!
@@ -35,4 +35,4 @@ pub use laws::{printed_is_read, read_once, spelled_once};
 pub use read::parse;
 pub use search::find;
 pub use tree::{Bytes, Doc, Pair, Value};
-pub use write::print;
+pub use write::{print, push_printed};

@@ -75,7 +75,8 @@ fn put_lines(out: &mut Vec<u8>, list: &[Pair], level: usize) -> Result<(), Alloc
     Ok(())
 }
 
-/// Writes a document in its printed form.
+/// Appends a document in its printed form. The only error is out of memory, which can leave the
+/// beginning of the text appended.
 ///
 /// Each pair is on its own line, after two spaces for each open list, with one space between its
 /// key and its value. A list opens on the line of its key and closes on its own line. Each line
@@ -84,6 +85,14 @@ fn put_lines(out: &mut Vec<u8>, list: &[Pair], level: usize) -> Result<(), Alloc
 ///
 /// The document's keys, numbers and strings have to follow the grammar, with at most 64 open lists.
 /// Every document that `parse` returns does.
+pub fn push_printed(out: &mut Vec<u8>, doc: &Doc) -> Result<(), AllocError>
+    requires { IsPrintable (tree doc.now) }
+    ensures { OnOk result (out.new.items ≡ out.old.items ++ printed (tree doc.now)) }
+{
+    put_lines(out, &doc.pairs, 0)
+}
+
+/// The text that `push_printed` appends. The only error is out of memory.
 pub fn print(alloc: Global, doc: &Doc) -> Result<Vec<u8>, AllocError>
     requires { IsPrintable (tree doc.now) }
     ensures printed { IfOk result (λ out. out.items ≡ printed (tree doc.now)) }
@@ -92,6 +101,6 @@ pub fn print(alloc: Global, doc: &Doc) -> Result<Vec<u8>, AllocError>
     ensures spelled { IfOk result (λ out. SpellsDocument (tree doc.now) out.items) }
 {
     let mut out = Vec::new(alloc);
-    put_lines(&mut out, &doc.pairs, 0)?;
+    push_printed(&mut out, doc)?;
     Ok(out)
 }

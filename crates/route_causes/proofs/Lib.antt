@@ -1,0 +1,2 @@
+-- Why a closed end and a covered checkpoint leave no walk.
+pub mod NoWalk
