@@ -1,5 +1,5 @@
 -- What is written of a replay is the output of its script.
-use Rattle.std.proofs.Common.{◌≡◌, ℕ, ◌+◌, List, ◌++◌, Bool, Result, Ok, Err, length, sym, subst, ap, ◌∙◌}
+use Rattle.std.proofs.Common.{◌≡◌, ℕ, ◌+◌, List, ◌++◌, Bool, Result, Ok, length, sym, subst, ap, ◌∙◌}
 use Rattle.std.specs.Prelude.{IfOk}
 use Rattle.gml_text.specs.Printed.{printed}
 use Rattle.gml_text.specs.Tree.{Pairs}
