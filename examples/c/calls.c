@@ -327,6 +327,35 @@ static void handles(void) {
     reroute_end(&session);
 }
 
+/* Twenty connectors, of some thousand bytes of text: no call is out of memory. */
+static void twenty(reroute_session *s) {
+    static uint8_t out[20000];
+    uint32_t number = 0;
+    int64_t k;
+    size_t count = 7, length = 7;
+    DONE(reroute_open(s));
+    DONE(reroute_begin(s));
+    for (k = 0; k < 20; k++) {
+        DONE(reroute_add_box(s, 2 * k + 1, 0, 100000 * k, 20000, 20000));
+        DONE(reroute_add_box(s, 2 * k + 2, 100000, 100000 * k, 20000, 20000));
+        DONE(reroute_connect(s, 2 * k + 1, 0, 2 * k + 2, 0, &number));
+    }
+    DONE(reroute_commit(s));
+    DONE(reroute_lines(s, &count));
+    WANT(count == 20 && reroute_line(s, 19).connector == 20);
+    DONE(reroute_begin(s));
+    DONE(reroute_move_box(s, 40, 100000, 1950000));
+    DONE(reroute_commit(s));
+    DONE(reroute_lines(s, &count));
+    WANT(count == 20 && reroute_line(s, 19).changed && !reroute_line(s, 18).changed);
+    DONE(reroute_write_gml(s, out, sizeof out, &length));
+    WANT(4096 < length && length <= sizeof out);
+    reroute_close(s);
+    DONE(reroute_open_gml(s, out, length));
+    WANT(reroute_box_count(s) == 40 && reroute_connector_count(s) == 20);
+    reroute_close(s);
+}
+
 int main(void) {
     reroute_session session = { malloc(reroute_size()) };
     WANT(session.held && reroute_version() == REROUTE_VERSION);
@@ -347,6 +376,7 @@ int main(void) {
     closed(&session);
     texts(&session);
     closed(&session);
+    twenty(&session);
     reroute_close(&session);
     free(session.held);
     handles();

@@ -9,5 +9,6 @@ mod laws;
 pub use inputs::{arguments_ask, scripts_have_proposals, trees_have_scenes};
 pub use laws::{
     some_answer, some_answers, some_audit, some_least_proofs, some_nudged_lines, some_preview,
-    some_proof_reading, some_reading, some_shared_paths, some_solution, some_stale_list, some_verdict,
+    some_proof_reading, some_reading, some_shared_paths, some_solution, some_stale_list,
+    some_verdict,
 };

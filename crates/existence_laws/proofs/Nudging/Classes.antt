@@ -1,5 +1,5 @@
 -- Numbers that links join have classes: each link in turn joins two of them, and a class is known by its least number.
-use Rattle.std.proofs.Common.{◌≡◌, ◌≢◌, ◌⊎◌, inl, inr, ℕ, zero, suc, ◌+◌, ◌<◌, ◌≤◌, List, [], ◌∷◌, ◌++◌, length, get_or, map, set, refl, sym, ap, ◌∙◌, subst, arith}
+use Rattle.std.proofs.Common.{◌≡◌, ◌⊎◌, inl, inr, ℕ, zero, suc, ◌+◌, ◌<◌, ◌≤◌, List, [], ◌∷◌, ◌++◌, length, get_or, map, set, refl, sym, ap, ◌∙◌, subst, arith}
 use Rattle.std.specs.Prelude.{All, Contains, replicate}
 use Rattle.std.specs.List.{AllByRecursion as Each, range_with_len}
 use Rattle.std.proofs.Math.Decide.{ℕ_discrete}
@@ -161,19 +161,21 @@ module _ (linked : ℕ → ℕ → Type 0) where
         let in_i = (inside i j l).0 in
         let in_j = (inside i j l).1 in
         let same : least i ≡ least j = link_ends i j in_i in_j l in
-        connected_on i (least i) j (connected_link i (least i) (leads i in_i)) (subst (λ n. Connected (LeadsUp above) n j) (sym same) (connected_back j (least j) (connected_link j (least j) (leads j in_j)))) in
-        (trees.0, record {
-          within = subst (λ n. All (All (λ i. i < n)) trees.0) above_count trees.1.within;
-          some = trees.1.some;
-          rising = trees.1.rising;
-          firsts = trees.1.firsts;
-          whole = λ i h. trees.1.whole i (omega (arith, h, above_count));
-          linked = λ places i j has_places has_i h.
-              let was = trees.1.linked places i j has_places has_i (omega (arith, h, above_count)) in (
-                λ c. connected_by by_links i j (was.0 c),
-                λ way. was.1 (connected_by up i j way),
-              );
-        })
+        connected_on i (least i) j (connected_link i (least i) (leads i in_i)) (subst (λ n. Connected (LeadsUp above) n j) (sym same) (connected_back j (least j) (connected_link j (least j) (leads j in_j)))) in (
+          trees.0,
+          record {
+            within = subst (λ n. All (All (λ i. i < n)) trees.0) above_count trees.1.within;
+            some = trees.1.some;
+            rising = trees.1.rising;
+            firsts = trees.1.firsts;
+            whole = λ i h. trees.1.whole i (omega (arith, h, above_count));
+            linked = λ places i j has_places has_i h.
+                let was = trees.1.linked places i j has_places has_i (omega (arith, h, above_count)) in (
+                  λ c. connected_by by_links i j (was.0 c),
+                  λ way. was.1 (connected_by up i j way),
+                );
+          },
+        )
       where
         link_ends : (i j : ℕ) → i < count → j < count → linked i j → least i ≡ least j
         link_ends i j l h has = All-contains (λ p. least p.0 ≡ least p.1) links (i, j) (All-from_recursion (λ p. least p.0 ≡ least p.1) links are.ends) (has_link i j l h has)

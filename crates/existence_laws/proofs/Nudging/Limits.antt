@@ -1,9 +1,9 @@
 -- How far a run may move: each condition narrows the coordinates from a lower limit to an upper one.
-use Rattle.std.proofs.Common.{◌≡◌, ◌↔◌, ◌⊎◌, inl, inr, ℕ, suc, ◌+◌, ◌-◌, ◌<◌, ℤ, ◌≤ℤ◌, ◌<ℤ◌, Bool, true, false, List, [], ◌∷◌, length, get_or, map, refl, sym, ap, ◌∙◌, subst, arith}
+use Rattle.std.proofs.Common.{◌≡◌, ◌↔◌, ◌⊎◌, inl, inr, ℕ, suc, ◌+◌, ◌-◌, ◌<◌, ℤ, ◌≤ℤ◌, List, [], ◌∷◌, length, get_or, refl, arith}
 use Rattle.std.specs.Prelude.{All, Any, Contains, ⊤}
 use Rattle.std.specs.Int.{int_max, int_min}
 use Rattle.std.proofs.Math.Decide.{map_dec, dec_le, ℕ_discrete}
-use Rattle.std.proofs.lemmas.Int.{ints, clamps, by_lt_z}
+use Rattle.std.proofs.lemmas.Int.{ints, by_lt_z}
 use Rattle.std.proofs.lemmas.List.Elements.{All-cons, All-contains, All-head, All-nil, All-tail, Contains-get_or}
 use Rattle.plane_geom.specs.declared.point.Point.{Point}
 use Rattle.plane_geom.specs.declared.point.Dir.{Dir}
@@ -15,7 +15,7 @@ use Rattle.plane_geom.specs.declared.rect.Rect.{Rect}
 use Rattle.plane_geom.specs.declared.rect.Solid.{Solid}
 use Rattle.plane_geom.specs.Along.{across}
 use Rattle.plane_geom.specs.Floor.{Holds, point_on}
-use Rattle.plane_geom.specs.Point.{IsCoordinate, opposite, sheet_end, sheet_start}
+use Rattle.plane_geom.specs.Point.{opposite, sheet_end, sheet_start}
 use Rattle.plane_geom.specs.Rect.{Overlaps}
 use Rattle.plane_geom.proofs.Places.{halfway, overlap_ends}
 use Rattle.segment_order.specs.declared.run.Run.{Run}
@@ -197,11 +197,14 @@ module _ (solids : List Solid) (route : PhaseRoute) (k : ℕ) (stays : MayStandA
       let e = opposite (run_at runs (k + 1)).heading in
       let n = with_both Free (λ z. (0 < k → Before (k - 1) d z) × (k + 1 < length runs → After (k + 1) e z)) free
       (with_both (λ z. 0 < k → Before (k - 1) d z) (λ z. k + 1 < length runs → After (k + 1) e z)
-      (where_holds (Before (k - 1) d) (dec_le _ _) (λ l. before (k - 1) d)) (where_holds (After (k + 1) e) (dec_le _ _) (λ l. after (k + 1) e))) sheet_start sheet_end in
-      (n.0, n.1, λ z. (
-        λ may. (n.2 z).1 ((may.within.low, may.within.high), (may.free, (λ l p has. may.before p l has, λ l p has. may.after p l has))),
-        λ f. (let h = (n.2 z).0 f in record { within = record { low = h.0.0; high = h.0.1 }; free = h.1.0; before = λ p l has. h.1.1.0 l p has; after = λ p l has. h.1.1.1 l p has }),
-      ))
+      (where_holds (Before (k - 1) d) (dec_le _ _) (λ l. before (k - 1) d)) (where_holds (After (k + 1) e) (dec_le _ _) (λ l. after (k + 1) e))) sheet_start sheet_end in (
+        n.0,
+        n.1,
+        λ z. (
+          λ may. (n.2 z).1 ((may.within.low, may.within.high), (may.free, (λ l p has. may.before p l has, λ l p has. may.after p l has))),
+          λ f. (let h = (n.2 z).0 f in record { within = record { low = h.0.0; high = h.0.1 }; free = h.1.0; before = λ p l has. h.1.1.0 l p has; after = λ p l has. h.1.1.1 l p has }),
+        ),
+      )
 
 pub some_limits : (solids : List Solid) (route : PhaseRoute) (k : ℕ) → ((IsFixed route k → ⊥) → MayStandAt solids route k (run_at route.runs.items k).at) → Dec (IsFixed route k) → (low : ℤ) × (high : ℤ) × HasLimits solids route k low high
 some_limits solids route k stays (yes fixed) =

@@ -1,7 +1,6 @@
 -- Right answers of a scene have nudged lines: raw routes, both phases, and the line along each route.
-use Rattle.std.proofs.Common.{◌≡◌, ℕ, zero, suc, ◌+◌, ◌<◌, ◌≤◌, ◌^◌, ℤ, Some, List, [], ◌∷◌, length, get_or, slice_get, refl, sym, ap, ◌∙◌, subst, arith}
+use Rattle.std.proofs.Common.{ℕ, ◌+◌, ◌≤◌, ◌^◌, ℤ, List, [], ◌∷◌, length, get_or, slice_get, refl, sym, ap, ◌∙◌, arith}
 use Rattle.std.specs.Prelude.{All}
-use Rattle.std.specs.List.{AllZip}
 use Rattle.std.proofs.lemmas.Int.{ints}
 use Rattle.std.proofs.lemmas.List.Elements.{recursion_from_All}
 use Rattle.plane_geom.specs.declared.point.Point.{Point}
@@ -21,10 +20,9 @@ use Rattle.channel_bundles.specs.declared.route.PhaseRoute.{PhaseRoute}
 use Rattle.channel_bundles.specs.Links.{IsNudge}
 use Rattle.nudge_laws.specs.LegalRuns.{walk_along}
 use Rattle.nudge_laws.specs.Nudged.{IsNudged, IsWrittenLine}
-use Rattle.nudge_laws.specs.Ready.{AreRaw, HasLegalWalk, HaveFewRuns, IsReady}
+use Rattle.nudge_laws.specs.Ready.{AreRaw, HasLegalWalk, HaveFewRuns}
 use Rattle.nudge_laws.proofs.Phases.Solvable.{as_many}
 use Rattle.nudge_routes.proofs.BetweenPhases.{raw_may_move, x_may_move, x_ready_all}
-use Rattle.nudge_phases.specs.Nudged.{IsNudgedScene}
 use Rattle.nudge_phases.specs.Raw.{AreRawRoutes, IsRawRoute, routed}
 use Rattle.nudge_phases.proofs.Answered.{IsAnswered, answered}
 use Rattle.nudge_phases.proofs.RawReady.{few_points}

@@ -1,7 +1,7 @@
 -- A phase: bundles of its runs, a solution of each, and the routes with their runs at the solutions' places.
-use Rattle.std.proofs.Common.{◌≡◌, ◌≢◌, ℕ, zero, suc, ◌+◌, ◌*◌, ◌-◌, ◌<◌, ◌≤◌, ◌^◌, ℤ, Bool, true, false, Option, Some, None, List, [], ◌∷◌, ◌++◌, length, map, get_or, slice_get, refl, sym, ap, ◌∙◌, subst, arith}
+use Rattle.std.proofs.Common.{◌≡◌, ◌≢◌, ℕ, zero, suc, ◌*◌, ◌<◌, ◌≤◌, ◌^◌, ℤ, Bool, true, false, Option, Some, None, List, [], ◌∷◌, length, map, get_or, slice_get, refl, sym, ap, ◌∙◌, arith}
 use Rattle.std.specs.Prelude.{All, IsSome, Vec}
-use Rattle.std.specs.List.{AllByRecursion as Each, AllZip, range_with_len}
+use Rattle.std.specs.List.{AllZip, range_with_len}
 use Rattle.std.specs.declared.alloc.Global.{Global}
 use Rattle.std.proofs.Math.Decide.{map_dec, dec_le}
 use Rattle.std.proofs.lemmas.List.{length-append, length-map}
@@ -14,7 +14,6 @@ use Rattle.plane_geom.specs.declared.point.Way.{Way}
 use Rattle.plane_geom.specs.declared.rect.Solid.{Solid}
 use Rattle.segment_order.specs.declared.run.Run.{Run}
 use Rattle.segment_order.specs.Run.{no_run, run_at}
-use Rattle.separation_model.specs.declared.bundle.Rule.{Rule}
 use Rattle.separation_model.specs.declared.bundle.Solution.{Solution}
 use Rattle.separation_model.specs.Bundle.{IsBundle, int_at, most_items}
 use Rattle.separation_model.specs.Rounded.{rounded_down}
@@ -22,7 +21,6 @@ use Rattle.separation_model.proofs.Rounding.{rounded_down_is}
 use Rattle.channel_bundles.specs.declared.route.PhaseRoute.{PhaseRoute}
 use Rattle.channel_bundles.specs.declared.member.Member.{Member}
 use Rattle.channel_bundles.specs.declared.channel.RunBundle.{RunBundle}
-use Rattle.channel_bundles.specs.Classes.{AreClasses, Connected, Rise}
 use Rattle.channel_bundles.specs.Route.{IsPhaseRoute, runs_of_way}
 use Rattle.channel_bundles.specs.Limits.{MayMove}
 use Rattle.channel_bundles.specs.Links.{IsLink, IsNudge, item_of, link, member_at, rule_if, rules_after, rules_from}

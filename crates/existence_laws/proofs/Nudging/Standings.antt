@@ -1,8 +1,8 @@
 -- All runs of a way with their limits, in their order.
-use Rattle.std.proofs.Common.{◌≡◌, ◌↔◌, inl, inr, ℕ, zero, suc, ◌+◌, ◌-◌, ◌<◌, Bool, true, false, List, [], ◌∷◌, ◌++◌, length, map, get_or, refl, sym, ap, ◌∙◌, subst, subst₂, arith}
+use Rattle.std.proofs.Common.{◌≡◌, ◌↔◌, inl, inr, zero, suc, ◌+◌, ◌-◌, Bool, true, false, List, [], ◌∷◌, map, get_or, refl, sym, ap, ◌∙◌, subst, arith}
 use Rattle.std.specs.Prelude.{All, IsTrue, if◌then◌else◌}
 use Rattle.std.specs.Cmp.{IsTotalOrder}
-use Rattle.std.specs.List.{AllByRecursion as Each, AllZip}
+use Rattle.std.specs.List.{AllZip}
 use Rattle.std.specs.List.Sorted.{IsPermutation, IsSortedBy}
 use Rattle.std.specs.Ordering.{is_lt, match_ordering, ordering_reverse}
 use Rattle.std.specs.declared.cmp.Ordering.{Ordering}
@@ -160,9 +160,11 @@ module _ (solids : List Solid) (routes : List PhaseRoute) (way : Way) (good : Al
   some_in_order =
       let sts = some_standings in
       let ps = runs_of_way way routes in
-      let order = some_order (λ (s t : Standing). compare_keys (key s) (key t)) (on_total key keys_total) sts.0 in
-      (order.0, record {
-        each = All-permutation (IsStanding solids) sts.0 order.0 order.1 (each_stands ps sts.0 sts.1);
-        once = subst (λ xs. IsPermutation xs (map pair_of order.0)) (pairs_are ps sts.0 sts.1) (IsPermutation-map pair_of sts.0 order.0 order.1);
-        sorted = order.2;
-      })
+      let order = some_order (λ (s t : Standing). compare_keys (key s) (key t)) (on_total key keys_total) sts.0 in (
+        order.0,
+        record {
+          each = All-permutation (IsStanding solids) sts.0 order.0 order.1 (each_stands ps sts.0 sts.1);
+          once = subst (λ xs. IsPermutation xs (map pair_of order.0)) (pairs_are ps sts.0 sts.1) (IsPermutation-map pair_of sts.0 order.0 order.1);
+          sorted = order.2;
+        },
+      )

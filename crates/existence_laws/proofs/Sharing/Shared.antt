@@ -1,6 +1,5 @@
 -- From each start a path leads as far as both routes go on, since it goes forward along the first of them.
 use Rattle.std.proofs.Common.{ℕ, zero, suc, ◌+◌, ◌≤◌, true, List, [], ◌∷◌, length, refl, arith}
-use Rattle.std.specs.List.{AllByRecursion as Each}
 use Rattle.std.proofs.lemmas.List.Elements.{All-cons, All-nil, recursion_from_All}
 use Rattle.segment_order.specs.declared.run.Run.{Run}
 use Rattle.scene_model.proofs.Editing.Entries.{each_weaker}

@@ -1,5 +1,5 @@
 -- It is decided whether a shared path begins at two runs, so all starts can be put in order.
-use Rattle.std.proofs.Common.{◌≡◌, ◌⊎◌, inl, inr, ℕ, zero, suc, ◌<◌, Bool, List, [], ◌∷◌, length, All, refl, sym, ap, ◌∙◌, subst, arith}
+use Rattle.std.proofs.Common.{◌≡◌, inl, inr, ℕ, zero, suc, Bool, List, [], ◌∷◌, length, All, refl, ap, ◌∙◌, arith}
 use Rattle.std.specs.Prelude.{Contains}
 use Rattle.std.specs.List.{AllByRecursion as Each}
 use Rattle.std.specs.List.Sorted.{IsStrictlySortedBy}
@@ -78,7 +78,7 @@ module _ {K : Type 0} (cmp : K → K → Ordering) (total : IsTotalOrder cmp) wh
   in_place k x xs Equal e sorted rest = sorted
   in_place k x xs Greater e sorted rest = (
     recursion_from_All (λ y. cmp x y ≡ Less) (insert_key cmp xs k)
-    (All-insert_key cmp k (λ y. cmp x y ≡ Less) xs (All-from_recursion (λ y. cmp x y ≡ Less) xs sorted.0) (total.antisymm x k ∙ ap ordering_reverse e)),
+        (All-insert_key cmp k (λ y. cmp x y ≡ Less) xs (All-from_recursion (λ y. cmp x y ≡ Less) xs sorted.0) (total.antisymm x k ∙ ap ordering_reverse e)),
     rest,
   )
 
