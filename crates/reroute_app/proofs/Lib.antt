@@ -6,6 +6,8 @@ pub mod Scripts
 pub mod ReadScenes
 pub mod OneOutcome
 pub mod Causes
+pub mod PastReads
 pub mod Claims
+pub mod Lines
 pub mod Places
 pub mod Completeness

@@ -12,6 +12,7 @@ pub mod Shared
 pub mod Certificate
 pub mod Run
 pub mod Causes
+pub mod Lines
 pub mod Exit
 pub mod Complete
 pub mod View

@@ -7,6 +7,7 @@ ghost use Rattle.host_edge.specs.Folder.{ExposedFiles};
 ghost use Rattle.host_edge.specs.Note.{Note};
 ghost use Rattle.command_words.specs.Words.{form_of};
 ghost use Rattle.reroute_app.specs.Causes.{ClaimsAreTrue, FindsBadLine, FindsNoDiagram, FindsNoProof, FindsNothing, FindsRefusal, LastFailed, LastTookMore};
+ghost use Rattle.reroute_app.specs.Lines.{RunsWriteGoodLines};
 ghost use Rattle.reroute_app.specs.Run.{HasOneOutcome, ReadsInOrder, Tallies, Writes, WritesPart};
 ghost use Rattle.reroute_app.specs.Status.{IsOutputWritten};
 
@@ -33,7 +34,7 @@ use form_check::checks_come_to_one;
 use form_make::seeds_come_to_one;
 use form_preview::proposals_come_to_one;
 pub use form_route::Unrouted;
-use form_route::replays_come_to_one;
+use form_route::{replays_come_to_one, written_lines_are_legal_and_apart};
 use form_shared::shares_come_to_one;
 pub use hint::{Hint, Place};
 use host_edge::{Folder, Sink, WriteFailed, write_all_to};
@@ -52,7 +53,8 @@ use std::thread::Threads;
 /// - `check FILE` reads the file as a diagram in GML, and writes for the line of each edge its cost
 ///   or the first rule that it breaks.
 /// - `route FILE FILE`, with `--workers N` and `--count`, reads a diagram and a script, replays the
-///   script, and writes the report and the diagram of the scene at the end, with its nudged lines.
+///   script, and writes the report and the diagram of the scene at the end, with its nudged lines,
+///   which are legal and apart by the law `routed_lines_are_legal_and_apart`.
 /// - `make SEED` generates a diagram and a script from a seed, routes them, and writes a summary.
 /// - `preview FILE FILE`, with `--workers N`, reads a diagram and a script of proposed transactions,
 ///   and writes what each of them would give: the costs of its edges, or its first edit that is
@@ -140,8 +142,9 @@ pub fn run_gated<R: Threads + Sync, F: Folder, O: Sink, G: Gate>(
 
 /// The same with a gate that delays no piece of searches.
 ///
-/// The subcommands are those of `run_gated`. The whole output is made first, and then written.
-/// `tally` counts the searches that `route` and `make` made.
+/// The subcommands are those of `run_gated`, and `routed_lines_are_legal_and_apart` is the law of
+/// the lines that `route` writes. The whole output is made first, and then written. `tally` counts
+/// the searches that `route` and `make` made.
 pub fn run<R: Threads + Sync, F: Folder, O: Sink>(
     rt: &R,
     alloc: Global,
@@ -207,4 +210,13 @@ pub fn one_outcome()
     proposals_come_to_one();
     shares_come_to_one();
     certificates_come_to_one();
+}
+
+/// Where the arguments ask for `route`, and the outcome is that something was refused, or nothing
+/// was, the lines in its output are legal walks of their connectors, and keep every separation of
+/// both phases.
+pub fn routed_lines_are_legal_and_apart()
+    ensures { RunsWriteGoodLines }
+{
+    written_lines_are_legal_and_apart();
 }

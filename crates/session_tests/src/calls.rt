@@ -84,9 +84,9 @@ enum Wanted {
     Written(u64),
 }
 
-fn is_wanted(opened: Sight, seen: Sight, wanted: Wanted) -> bool {
+fn is_wanted(as_opened: bool, seen: Sight, wanted: Wanted) -> bool {
     match wanted {
-        Wanted::AsOpened => seen == opened,
+        Wanted::AsOpened => as_opened,
         Wanted::Moved(x, cost, searched) => {
             (seen.x, seen.cost, seen.searched) == (Some(x), Some(cost), searched)
         }
@@ -129,35 +129,49 @@ fn answer<R: Threads + Sync>(
     }
 }
 
-/// Whether the step has its expected result.
+/// The whole scene and the whole book of a session, as text.
+fn whole(alloc: Global, session: &Session) -> Result<String, AllocError> {
+    let scene = session.scene();
+    let (nodes, edges) = (scene.nodes(), scene.edges());
+    let (settings, answers) = (scene.settings(), session.book().answers());
+    format!(in alloc; "{nodes:?} {edges:?} {settings:?} {answers:?}")
+}
+
+/// Whether the step has its expected result in a session that had this sight and this text when it
+/// was opened.
 fn is_right<R: Threads + Sync>(
     rt: Option<&R>,
+    alloc: Global,
     session: &mut Session,
-    opened: Sight,
+    opened: (Sight, &str),
     step: Step,
-) -> bool {
+) -> Result<bool, AllocError> {
     let answer = answer(rt, session, step);
     let seen = look(session);
-    match step {
-        Step::Made(_, wanted) => answer == Ok(()) && is_wanted(opened, seen, wanted),
-        Step::Refused(_, fault) => answer == Err(fault) && seen == opened,
-        Step::Edit(_, fault) => answer == Err(SessionFault::Edit(fault)) && seen == opened,
-    }
+    let text = whole(alloc, session)?;
+    let as_opened = (seen, text.as_str()) == opened;
+    Ok(match step {
+        Step::Made(_, wanted) => answer == Ok(()) && is_wanted(as_opened, seen, wanted),
+        Step::Refused(_, fault) => answer == Err(fault) && as_opened,
+        Step::Edit(_, fault) => answer == Err(SessionFault::Edit(fault)) && as_opened,
+    })
 }
 
 /// The first of the steps with another result.
 fn wrong_step<R: Threads + Sync>(
     rt: Option<&R>,
+    alloc: Global,
     session: &mut Session,
     steps: &[Step],
-) -> Option<usize> {
-    let opened = look(session);
+) -> Result<Option<usize>, AllocError> {
+    let seen = look(session);
+    let text = whole(alloc, session)?;
     for (place, step) in steps.iter().enumerate() {
-        if !is_right(rt, session, opened, *step) {
-            return Some(place);
+        if !is_right(rt, alloc, session, (seen, text.as_str()), *step)? {
+            return Ok(Some(place));
         }
     }
-    None
+    Ok(None)
 }
 
 /// The result of steps: the first one with another result than expected, the number of nudged lines
@@ -181,11 +195,11 @@ fn reported<R: Threads + Sync>(
     let Ok(mut session) = open(rt, alloc, scene) else {
         return Err(SceneFault::Memory);
     };
-    let wrong = wrong_step(rt, &mut session, steps);
+    let wrong = wrong_step(rt, alloc, &mut session, steps);
     let lines = lines(&session);
     let searches = session.into_tally().count();
     drawn?;
-    let Ok(lines) = lines else {
+    let (Ok(wrong), Ok(lines)) = (wrong, lines) else {
         return Err(SceneFault::Memory);
     };
     Ok(Outcome {
@@ -228,6 +242,15 @@ const REFUSED_EDITS: &[Step] = &[
     Step::Edit(Ask::Unvia(9, 1), SceneFault::UnknownEdge { number: 9 }),
     Step::Edit(Ask::Unvia(1, 3), SceneFault::NoSuchPlace { place: 3 }),
     Step::Edit(Ask::Penalty(-1), SceneFault::OutOfRange { word: 3 }),
+    Step::Refused(
+        &[
+            Call::Begin,
+            Call::Edit(Ask::Via(1, 1, 0)),
+            Call::Edit(Ask::Via(1, 1, 0)),
+            Call::Edit(Ask::Via(1, 1, 0)),
+        ],
+        SessionFault::Edit(SceneFault::TooMany { limit: 4 }),
+    ),
 ];
 
 /// Further than a scene may extend.
