@@ -7,6 +7,7 @@ pub mod Numbering
 pub mod Listing
 pub mod Clear
 pub mod Linking
+pub mod Leading
 pub mod Placing
 pub mod Bundling
 pub mod Chained

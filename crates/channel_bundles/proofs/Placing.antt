@@ -152,8 +152,8 @@ are_rising (s ∷ rest) sorted =
     }
 
 -- a run more in the list
-pub added : (solids : List Solid) (old made : List Placed) (p : Placed) → All (IsPlaced solids) old → IsPlaced solids p → made ≡ old ++ p ∷ [] → All (IsPlaced solids) made
-added solids old made p all one e = subst (All (IsPlaced solids)) (sym e) (All-push (IsPlaced solids) old p all one)
+pub added : (solids : List Solid) (routes : List PhaseRoute) (old made : List Placed) (p : Placed) → All (IsPlaced solids routes) old → IsPlaced solids routes p → made ≡ old ++ p ∷ [] → All (IsPlaced solids routes) made
+added solids routes old made p all one e = subst (All (IsPlaced solids routes)) (sym e) (All-push (IsPlaced solids routes) old p all one)
 
 pub paired : (old made : List Placed) (p : Placed) → made ≡ old ++ p ∷ [] → pairs_of made ≡ pairs_of old ++ (p.route.now, p.member.run) ∷ []
 paired old made p e =

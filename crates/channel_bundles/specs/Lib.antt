@@ -4,4 +4,5 @@ pub mod Limits
 pub mod Links
 pub mod Classes
 pub mod Bundles
+pub mod Leaders
 pub mod Placed

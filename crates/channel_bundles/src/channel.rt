@@ -1,16 +1,17 @@
 //! The bundles of a phase.
-ghost use Rattle.std.specs.Prelude.{◌≡◌, ◌≢◌, ◌<◌, ◌≤◌, ◌++◌, All, AllPairs, IfOk, length, map};
+ghost use Rattle.std.specs.Prelude.{◌≡◌, ◌≢◌, ◌+◌, ◌<◌, ◌≤◌, All, AllPairs, IfOk, length, map, take};
 ghost use Rattle.plane_geom.specs.Floor.{IsSolid};
 ghost use Rattle.segment_order.specs.declared.run.Run.{Run};
 ghost use Rattle.separation_model.specs.Bundle.{IsBundle, most_items};
 ghost use Rattle.channel_bundles.specs.declared.route.PhaseRoute.{PhaseRoute};
-ghost use Rattle.channel_bundles.specs.Route.{IsPhaseRoute, of_way, runs_of_way};
+ghost use Rattle.channel_bundles.specs.Route.{IsPhaseRoute, runs_of_way};
 ghost use Rattle.channel_bundles.specs.Limits.{MayMove};
 ghost use Rattle.channel_bundles.specs.Classes.{Rise};
 ghost use Rattle.channel_bundles.specs.Links.{IsMember, IsNudge, item_of};
 ghost use Rattle.channel_bundles.specs.Bundles.{AreBundles, AreBundlesOf, AreInOrder, IsBundleOf, members_at};
 ghost use Rattle.channel_bundles.specs.Placed.{AreRising, IsPlaced, pairs_of, standings_of};
 
+use crate::leaders::{is_same_but_for_edge, leader_of, runs_at};
 use crate::links::{linked_classes, rules_of};
 use crate::member::Member;
 use crate::route::PhaseRoute;
@@ -29,10 +30,11 @@ pub struct RunBundle {
     pub runs: Vec<Run>,
 }
 
-/// A run with its limits, and its route.
+/// A run with its limits, its route, and the index of a route that goes the same way.
 #[derive(Clone, Copy)]
 struct Placed<'a> {
     route: &'a PhaseRoute,
+    leader: usize,
     member: Member,
 }
 
@@ -40,38 +42,48 @@ impl Placed<'_> {
     ghost use Rattle.segment_order.specs.Order.{compare_keys};
     ghost use Rattle.channel_bundles.specs.Placed.{key_of_placed};
 
-    /// Compares two runs by their order on the line.
-    fn compare(&self, other: &Placed<'_>) -> Ordering
-        ensures { result ≡ compare_keys (key_of_placed self.now) (key_of_placed other.now) }
+    /// Compares two runs by their order on the line. The routes of their leaders are walked, and none
+    /// where the two runs have one leader and are at the same place.
+    fn compare(&self, other: &Placed<'_>, routes: &[PhaseRoute]) -> Ordering
+        ensures { result ≡ compare_keys (key_of_placed routes.now self.now) (key_of_placed routes.now other.now) }
     {
+        let (a, b) = (&self.member.run, &other.member.run);
+        if self.leader == other.leader && is_same_but_for_edge(a, b) {
+            return a.edge.cmp(&b.edge);
+        }
         line_order(
-            &self.member.run,
-            &self.route.runs,
-            &other.member.run,
-            &other.route.runs,
+            a,
+            runs_at(routes, self.leader),
+            b,
+            runs_at(routes, other.leader),
         )
     }
 }
 
-/// Appends the route's runs of the way.
+/// Appends the runs of the way of the route at the index.
 fn add_runs<'a>(
     placed: &mut Vec<Placed<'a>>,
     solids: &[Solid],
-    route: &'a PhaseRoute,
+    routes: &'a [PhaseRoute],
+    at: usize,
     way: Way,
 ) -> Result<(), AllocError>
     requires solids { All IsSolid solids.now }
-    requires route { IsPhaseRoute route.now }
-    requires movable { MayMove solids.now way route.now }
-    requires so_far { All (IsPlaced solids.now) placed.old.items }
-    ensures each { IfOk result (λ _. All (IsPlaced solids.now) placed.new.items) }
-    ensures runs { IfOk result (λ _. pairs_of placed.new.items ≡
-        pairs_of placed.old.items ++ map (λ r. (route.now, r)) (of_way way route.now.runs.items)) }
+    requires routes { All IsPhaseRoute routes.now }
+    requires movable { All (MayMove solids.now way) routes.now }
+    requires at { at < length routes.now }
+    requires so_far { All (IsPlaced solids.now routes.now) placed.old.items }
+    requires before { pairs_of placed.old.items ≡ runs_of_way way (take at routes.now) }
+    ensures each { IfOk result (λ _. All (IsPlaced solids.now routes.now) placed.new.items) }
+    ensures runs { IfOk result (λ _. pairs_of placed.new.items ≡ runs_of_way way (take (at + 1) routes.now)) }
 {
+    let route = &routes[at];
+    let leader = leader_of(routes, at);
     for k in 0..route.runs.len() {
         if route.is_of_way(k, way) {
             placed.push(Placed {
                 route,
+                leader,
                 member: route.member(solids, k),
             })?;
         }
@@ -89,12 +101,12 @@ fn runs_of<'a>(
     requires solids { All IsSolid solids.now }
     requires routes { All IsPhaseRoute routes.now }
     requires movable { All (MayMove solids.now way) routes.now }
-    ensures each { IfOk result (λ placed. All (IsPlaced solids.now) placed.items) }
+    ensures each { IfOk result (λ placed. All (IsPlaced solids.now routes.now) placed.items) }
     ensures runs { IfOk result (λ placed. pairs_of placed.items ≡ runs_of_way way routes.now) }
 {
     let mut placed = Vec::new(alloc);
-    for route in routes {
-        add_runs(&mut placed, solids, route, way)?;
+    for at in 0..routes.len() {
+        add_runs(&mut placed, solids, routes, at, way)?;
     }
     Ok(placed)
 }
@@ -110,10 +122,10 @@ fn runs_in_order<'a>(
     requires routes { All IsPhaseRoute routes.now }
     requires movable { All (MayMove solids.now way) routes.now }
     ensures order { IfOk result (λ placed. AreInOrder solids.now routes.now way (standings_of placed.items)) }
-    ensures each { IfOk result (λ placed. All (IsPlaced solids.now) placed.items) }
+    ensures each { IfOk result (λ placed. All (IsPlaced solids.now routes.now) placed.items) }
 {
     let mut placed = runs_of(alloc, solids, routes, way)?;
-    placed.sort_unstable_by(|a, b| a.compare(b));
+    placed.sort_unstable_by(|a, b| a.compare(b, routes));
     Ok(placed)
 }
 

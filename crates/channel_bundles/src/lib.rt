@@ -6,6 +6,7 @@
 mod channel;
 mod forest;
 mod laws;
+mod leaders;
 mod limits;
 mod links;
 mod member;

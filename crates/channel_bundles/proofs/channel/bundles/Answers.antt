@@ -37,7 +37,7 @@ found solids routes way nudge placed ms order e (Err x) is = tt
 pub bundles_of-requires-clause-members : goal.bundles_of-requires-clause-members
 bundles_of-requires-clause-members c =
     subst (All IsMember) (sym (c.deref-2.ensures.value ∙ c.in_ok-members.ensures ∙ ap (map (λ (p : Placed). p.member)) c.deref.ensures.value))
-    (All-map IsMember (λ (p : Placed). p.member) c.in_ok-placed.placed.items (All-weaker (IsPlaced c.args.solids.now) (λ p. IsMember p.member) (λ p is. is.member) c.in_ok-placed.placed.items c.in_ok-placed.ensures.each))
+    (All-map IsMember (λ (p : Placed). p.member) c.in_ok-placed.placed.items (All-weaker (IsPlaced c.args.solids.now c.args.routes.now) (λ p. IsMember p.member) (λ p is. is.member) c.in_ok-placed.placed.items c.in_ok-placed.ensures.each))
 
 pub bundles_of-requires-clause-few : goal.bundles_of-requires-clause-few
 bundles_of-requires-clause-few c =
