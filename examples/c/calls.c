@@ -1,5 +1,5 @@
 /* Every call of reroute.h, with what it has to answer: prints ok, or the first line of this file that is wrong.
- *     cc calls.c $(pkg-config --cflags --libs reroute) -o calls
+ *     cc calls.c $(pkg-config --cflags --libs reroute) -Wl,-rpath,$(pkg-config --variable=libdir reroute) -o calls
  */
 #include "reroute.h"
 #include <stdio.h>

@@ -1,6 +1,6 @@
 /* A drag, on the screen's own copy of the lines, which it keeps by what is told alone: 50 previews, cancelled; the same again,
  * released; one released over another box, which leaves connectors without a line; and both undone. Lengths are in thousandths.
- *     cc drag_a_box.c $(pkg-config --cflags --libs reroute) -o drag_a_box
+ *     cc drag_a_box.c $(pkg-config --cflags --libs reroute) -Wl,-rpath,$(pkg-config --variable=libdir reroute) -o drag_a_box
  *     ./drag_a_box drag_a_box.gml
  */
 #include "reroute.h"

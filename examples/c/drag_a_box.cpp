@@ -1,6 +1,6 @@
 // A drag, on the screen's own copy of the lines, which it keeps by what is told alone: 50 previews, cancelled; the same again,
 // released; one released over another box, which leaves connectors without a line; and both undone.
-//     c++ -std=c++11 drag_a_box.cpp $(pkg-config --cflags --libs reroute) -o drag_a_box
+//     c++ -std=c++11 drag_a_box.cpp $(pkg-config --cflags --libs reroute) -Wl,-rpath,$(pkg-config --variable=libdir reroute) -o drag_a_box
 //     ./drag_a_box drag_a_box.gml
 #include "reroute.hpp"
 #include <cstdio>

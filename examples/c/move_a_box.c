@@ -1,5 +1,5 @@
 /* Two boxes with a connector; a third box is moved between them, and the move is undone. Lengths are in thousandths.
- *     cc move_a_box.c $(pkg-config --cflags --libs reroute) -o move_a_box
+ *     cc move_a_box.c $(pkg-config --cflags --libs reroute) -Wl,-rpath,$(pkg-config --variable=libdir reroute) -o move_a_box
  */
 #include "reroute.h"
 #include <stdio.h>

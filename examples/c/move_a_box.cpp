@@ -1,5 +1,5 @@
 // Two boxes with a connector; a third box is moved between them, and the move is undone.
-//     c++ -std=c++11 move_a_box.cpp $(pkg-config --cflags --libs reroute) -o move_a_box
+//     c++ -std=c++11 move_a_box.cpp $(pkg-config --cflags --libs reroute) -Wl,-rpath,$(pkg-config --variable=libdir reroute) -o move_a_box
 #include "reroute.hpp"
 #include <cstdio>
 

@@ -264,7 +264,14 @@ async function openGml(bytes) {
   view.fit();
 }
 
-const opening = (name, bytes) => act(() => `opened ${name}: ${boxes.size} boxes, ${connectors.size} connectors`, async () => {
+/** What is said of a diagram that was opened: where ends have no pins, also what gives them pins. */
+function saidOfOpened(name) {
+  const lacksPins = [...connectors.values()].some(one => one.from !== one.to && !(one.fromClass && one.toClass));
+  return `opened ${name}: ${boxes.size} boxes, ${connectors.size} connectors`
+    + (lacksPins ? `; lines of one box run together without pins, which reroute-draw ${name} -o pinned.gml adds` : '');
+}
+
+const opening = (name, bytes) => act(() => saidOfOpened(name), async () => {
   await openGml(bytes);
   keep();
 });

@@ -420,6 +420,7 @@ class Trial:
                        b'  node [ id 2 label "Web front end (React)" graphics [ x 200 y 0 w 60 h 40 ] ]\n'
                        b'  edge [ source 1 target 2 label "pays" ]\n]\n')
         tab.open(path)
+        self.expect('that ends have no pins is told', 'reroute-draw labels.gml' in tab.text('said'), tab.text('said'))
         titles = tab.value("[...document.querySelectorAll('.box title')].map(it => it.textContent)")
         self.expect('labels are decoded', titles[0] == '"Stripe" ä ö (Täx)', titles)
         self.expect('and wrapped', tab.count('[data-box="2"] tspan') == 2)
@@ -541,6 +542,8 @@ def main():
     if not os.path.exists(f'{given.folder}/reroute.html'):
         print(f'try_page.py: there is no page in {given.folder}; tools/build-wasm makes it', file=sys.stderr)
         return 2
+    if given.pictures:
+        os.makedirs(given.pictures, exist_ok=True)
     faults = tried_module(command, given) + tried(command, f'file://{given.folder}/reroute.html', given, 'file')
     if given.live:
         faults += tried_live(command, given)

@@ -40,6 +40,9 @@ class Missing(unittest.TestCase):
 
     def test_arguments(self):
         self.assertEqual(run('--level', 'fast').returncode, 2)
+        self.assertEqual(run('--level').returncode, 2)
+        for level in (('--level', '-O1'), ('--level=-O1',)):
+            self.assertEqual(run(*level, '/nowhere/at/all').returncode, 3)
         self.assertEqual(run('--help').returncode, 0)
 
 
