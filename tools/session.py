@@ -29,7 +29,10 @@ class Session:
         self.file.close()
 
     def ask(self, requests):
-        """Sends requests; the lines that they report, by the numbers of connectors (None for no line), and the first refusal."""
+        """Sends requests; what they report by the numbers of connectors, and the first refusal.
+
+        A connector has a line, None for no line, or the words that tell why it has no route.
+        """
         found, refusal, left = {}, None, len(requests)
         try:
             self.run.stdin.write(''.join(f'{request}\n' for request in requests).encode())
@@ -45,6 +48,8 @@ class Session:
                 found[int(words[1])] = list(zip(numbers[::2], numbers[1::2]))
             elif words[0] == b'no':
                 found[int(words[2])] = None
+            elif words[0] == b'why':
+                found[int(words[1])] = [word.decode() for word in words[2:]]
             else:
                 left -= 1
                 if words[0] == b'refused' and not refusal:

@@ -16,6 +16,7 @@ LOADER = importlib.machinery.SourceFileLoader('explain', EXPLAIN)
 explain = importlib.util.module_from_spec(importlib.util.spec_from_loader('explain', LOADER))
 LOADER.exec_module(explain)
 REROUTE = os.environ.get('REROUTE', f'{TOP}/out/reroute')
+LIVE = os.environ.setdefault('REROUTE_LIVE', f'{TOP}/out/reroute_live')
 # The files of other tools that reroute refuses, with what it says and a part of what explain says of it.
 REFUSED = {
     'gephi_text_ids': ('diagram: Syntax at 55', "line 7, column 8 (byte 55): 'n0' stands where a value has to stand"),
@@ -60,12 +61,13 @@ STRANGE = (b'\0\xff', b'diagram: Syntax at 99999999\n', b'diagram: TooDeep at 3\
            b'# edge 9: no route\ngraph [ ]\n', b'# line 99: X1 Syntax\n')
 # Diagrams with an edge that has no route, and why.
 CLOSED = (
-    (f'{NODE} node [ id 2 graphics [ x 0 y 0 w 90 h 90 ] ]', '', 'its source, box 1, lies inside box 2'),
+    (f'{NODE} node [ id 2 graphics [ x 0 y 0 w 90 h 90 ] ]', '', 'each way out of its source, box 1, is closed, the first by box 2'),
     (f'{NODE} {OTHER}', 'via [ x 200 y 0 ]', 'its checkpoint 1 at (200, 0) lies inside box 2'),
     (f'{NODE} {OTHER} ' + ' '.join(f'node [ id {k} graphics [ x {x} y {y} w {w} h {h} ] ]' for k, x, y, w, h in (
-        (3, 0, -50, 140, 20), (4, 0, 50, 140, 20), (5, -60, 0, 20, 120), (6, 60, 0, 20, 120))), '', 'boxes 3, 4, 5, 6 stand all round it'),
+        (3, 0, -50, 140, 20), (4, 0, 50, 140, 20), (5, -60, 0, 20, 120), (6, 60, 0, 20, 120))), '', 'its ends and checkpoints lie in parts of the sheet'),
     (f'{NODE} {OTHER} ' + ' '.join(f'node [ id {k} graphics [ x {x} y {y} ] ]' for k, x, y in (
-        (3, 32, 0), (4, -32, 0), (5, 0, 32), (6, 0, -32))), '', 'East by box 3; South by box 5; West by box 4; North by box 6'))
+        (3, 32, 0), (4, -32, 0), (5, 0, 32), (6, 0, -32))), '', 'is closed, the first by box 3'),
+    (f'{NODE} {OTHER} node [ id 3 graphics [ x 200 y 0 w 90 h 90 ] ]', '', 'each way out of its target, box 2, is closed, the first by box 3'))
 
 
 def run(words, data=b''):
@@ -108,7 +110,7 @@ class Answers(unittest.TestCase):
             self.assertRegex(done.stderr.decode(), r'\A(reroute-)?explain: [^\n]+\n\Z')
 
 
-@unittest.skipUnless(os.path.exists(REROUTE), f'{REROUTE} is not there')
+@unittest.skipUnless(os.path.exists(REROUTE) and os.path.exists(LIVE), 'reroute and reroute_live are not built')
 class Diagrams(unittest.TestCase):
     """What reroute says of files."""
 

@@ -17,11 +17,12 @@ use Rattle.session_laws.specs.Calls.{IsCall}
 use Rattle.form_route.specs.Diagram.{IsDiagram}
 use Rattle.form_route.specs.Routes.{AreLines}
 use Rattle.live_replies.specs.declared.request.Request.{Request}
-use Rattle.live_replies.specs.declared.request.Request.TheVariants.{Nothing, Do, Preview, Lines, Gml, Next, Quit}
+use Rattle.live_replies.specs.declared.request.Request.TheVariants.{Nothing, Do, Preview, Lines, Gml, Next, Why, Quit}
 use Rattle.live_replies.specs.Changes.{changes, changes_text}
 use Rattle.live_replies.specs.Live.{LiveState}
 use Rattle.live_replies.specs.Requests.{request_of}
 use Rattle.live_replies.specs.Texts.{drawn_texts, gml_text, next_text, no_memory_line, ok_line, refused_line, too_long_line, unreported_line}
+use Rattle.live_replies.specs.Why.{SaysWhy}
 
 -- these are the lines of the session's present scene
 abbrev pub AreSessionLines : State → List WrittenRoute → Type 0
@@ -121,6 +122,7 @@ Answers Preview old new said = AnswersPreview old.session.world.working old new 
 Answers Lines old new said = ReportsLines old new said ⊎ AnswersNoMemory old new said
 Answers Gml old new said = ReportsDiagram old new said ⊎ AnswersNoMemory old new said
 Answers Next old new said = ReportsNext old new said ⊎ AnswersNoMemory old new said
+Answers Why old new said = ((new ≡ old) × SaysWhy old.session said) ⊎ AnswersNoMemory old new said
 Answers Quit old new said = (new ≡ old) × (said ≡ ok_line)
 
 -- the reply to a line that was read so: one that is too long, and one that finds no memory, rolls back the transaction

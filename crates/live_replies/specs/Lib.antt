@@ -4,6 +4,7 @@ pub mod Changes
 pub mod Requests
 pub mod Said
 pub mod Live
+pub mod Why
 pub mod Answers
 pub mod Previews
 pub mod Client

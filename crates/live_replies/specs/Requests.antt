@@ -5,7 +5,7 @@ use Rattle.scene_model.specs.declared.edit.Command.{Command}
 use Rattle.scene_model.specs.World.{IsDirectedCommand}
 use Rattle.edit_script.specs.Script.{commands}
 use Rattle.live_replies.specs.declared.request.Request.{Request}
-use Rattle.live_replies.specs.declared.request.Request.TheVariants.{Nothing, Do, Preview, Lines, Gml, Next, Quit}
+use Rattle.live_replies.specs.declared.request.Request.TheVariants.{Nothing, Do, Preview, Lines, Gml, Next, Why, Quit}
 
 -- the first of the commands, or nothing
 abbrev pub first_of : List (ℕ × Command) → Request
@@ -31,6 +31,7 @@ request_of line =
     else if is_word (codes "lines") line then Lines
     else if is_word (codes "gml") line then Gml
     else if is_word (codes "next") line then Next
+    else if is_word (codes "why") line then Why
     else if is_quit line then Quit
     else command_request line
 
@@ -42,4 +43,5 @@ IsDirectedRequest Preview = ⊤
 IsDirectedRequest Lines = ⊤
 IsDirectedRequest Gml = ⊤
 IsDirectedRequest Next = ⊤
+IsDirectedRequest Why = ⊤
 IsDirectedRequest Quit = ⊤

@@ -10,6 +10,7 @@ mod reply;
 mod request;
 mod serving;
 mod text;
+mod why;
 
 pub use laws::{changes_keep_clients, diagrams_stay, previews_are_commits};
 pub use live::Live;

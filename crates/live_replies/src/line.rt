@@ -11,7 +11,7 @@ use std::alloc::{AllocError, Global};
 use walk_model::WrittenRoute;
 
 /// Appends a text and the digits of a number after it.
-fn push_numbered(out: &mut Vec<u8>, text: &[u8], number: u64) -> Result<(), AllocError>
+pub(crate) fn push_numbered(out: &mut Vec<u8>, text: &[u8], number: u64) -> Result<(), AllocError>
     ensures { OnOk result (out.new.items ≡ out.old.items ++ (text.now ++ decimal number)) }
 {
     let mut buffer = Buffer::new();

@@ -20,6 +20,7 @@ use crate::calls::{call, preview};
 use crate::reply::{Said, refused};
 use crate::request::{Request, is_quit, request_of};
 use crate::text::{changes_text, gml_text, lines_text, next_text};
+use crate::why::why_text;
 use form_route::printed_diagram;
 use gml_text::Doc;
 use nudge_phases::Nudged;
@@ -286,6 +287,7 @@ impl Live {
             Request::Lines => self.report_lines(),
             Request::Gml => Said::of(self.diagram()),
             Request::Next => Said::of(self.next()),
+            Request::Why => Said::of(why_text(self.alloc, &self.session)),
         }
     }
 

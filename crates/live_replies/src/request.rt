@@ -24,6 +24,8 @@ pub enum Request {
     Gml,
     /// The number of the next connector that is added.
     Next,
+    /// Why connectors have no route.
+    Why,
     /// The end.
     Quit,
 }
@@ -87,6 +89,8 @@ pub(crate) fn request_of(alloc: Global, line: &[u8]) -> Result<Request, AllocErr
         Ok(Request::Gml)
     } else if is_word(b"next", line) {
         Ok(Request::Next)
+    } else if is_word(b"why", line) {
+        Ok(Request::Why)
     } else if is_quit(line) {
         Ok(Request::Quit)
     } else {
