@@ -1,13 +1,13 @@
 -- What arguments are read as, by their parts.
-use Rattle.std.proofs.Common.{◌≡◌, ◌⊎◌, inl, inr, ℕ, zero, suc, ◌+◌, Bool, true, false, List, [], ◌∷◌, ◌++◌, length, take, drop, Option, Some, None, codes, refl, sym, ap, subst, ◌∙◌, arith, true≢false}
-use Rattle.std.specs.Prelude.{◌==◌, ◌&&◌, bytes_eq, filter, is_some, not, unwrap_or, option_map, option_and_then, if◌then◌else◌}
+use Rattle.std.proofs.Common.{◌≡◌, ◌⊎◌, inl, inr, ℕ, suc, ◌+◌, Bool, true, false, List, [], ◌∷◌, ◌++◌, length, take, drop, Option, Some, None, codes, refl, sym, ap, subst, ◌∙◌, arith, true≢false}
+use Rattle.std.specs.Prelude.{◌==◌, ◌&&◌, bytes_eq, filter, is_some, not, option_map, option_and_then, if◌then◌else◌}
 use Rattle.std.specs.List.{AllByRecursion, before_first, filter_map, flat_map, list_any, position_or_len}
 use Rattle.std.proofs.lemmas.Bool.{and_parts, cases_Bool, eqb-true}
 use Rattle.std.proofs.lemmas.List.{append-nil, append_assoc}
 use Rattle.std.proofs.lemmas.Option.{none-some, same_Some}
 use Rattle.std.proofs.lemmas.Slice.Eq.{bytes_eq-Decides}
 use Rattle.command_words.specs.Words.{Form, Said, check, route, make, preview, shared, prove, audit, file_in, file_said, files_in, files_said, form_after, form_of, form_with, is_option, make_form, names_file, nothing_said, option_value, preview_form, route_form, said_after, seed_of, with_count, with_named, with_option, with_plain, with_workers, workers_said}
-use Rattle.existence_laws.specs.Arguments.{ArgumentsAsk, AreFiles, AreNone, ArePlainOf, AreOptionsOf, Ask, Consist, IsFile, IsPart, Part, after_end, counting, is_counting, joined, name_of, parted, plain, plain_in, plain_of, value_of, words_in}
+use Rattle.existence_laws.specs.Arguments.{ArgumentsAsk, AreFiles, AreNone, ArePlainOf, AreOptionsOf, Ask, Consist, IsFile, IsPart, Part, after_end, counting, is_counting, joined, name_of, parted, plain, plain_in, value_of, words_in}
 
 abbrev Text : Type 0
 Text = List ℕ

@@ -1,9 +1,10 @@
 -- The scene that is read of a tree is the scene of the tree.
 use Rattle.std.proofs.Common.{◌≡◌, ℕ, suc, ◌+◌, Bool, true, false, if◌then◌else◌, List, [], ◌∷◌, ◌++◌, length, Option, Some, None, Result, Ok, Err, refl, sym, ap, subst, ◌∙◌, arith, length-append, int_eq}
-use Rattle.std.specs.Prelude.{ℤ, pos, ◌==◌, ◌||◌, codes, find, int_lt, is_some, nat_le, option_and_then, option_map, IfOk, IfSome}
+use Rattle.std.specs.Prelude.{ℤ, pos, ◌≤ℤ◌, ◌==◌, ◌||◌, codes, int_lt, is_some, nat_le, option_and_then, option_map, IfOk, IfSome}
 use Rattle.std.specs.List.{AllZip}
-use Rattle.std.proofs.lemmas.Bool.{eqb-true, false≢true}
+use Rattle.std.proofs.lemmas.Bool.{false≢true}
 use Rattle.std.proofs.lemmas.Bool.Decides.{Decides-int_eq}
+use Rattle.std.proofs.lemmas.Int.{ints}
 use Rattle.std.proofs.lemmas.List.{append-nil, append_assoc}
 use Rattle.std.proofs.lemmas.Option.{same_Some}
 use Rattle.fixed_milli.specs.declared.milli.MilliFault.{MilliFault}
@@ -23,12 +24,13 @@ use Rattle.scene_model.specs.Valid.{IsPlain}
 use Rattle.scene_model.proofs.Directions.{tested}
 use Rattle.scene_model.proofs.Directions.Tested.{yes, no}
 use Rattle.scene_model.proofs.Editing.Entries.{found_passes}
+use Rattle.scene_model.proofs.Editing.Refusals.{or_none}
 use Rattle.diagram_read.specs.declared.fault.DiagramFault.{DiagramFault}
 use Rattle.diagram_read.specs.declared.fault.DiagramFault.TheVariants.{NoGraph, BadId, SameId, NoPlace, BadNumber, BadEnd, OutOfRange, TooMany, BadPin, BadVia, BadWeight}
 use Rattle.diagram_read.specs.declared.fault.Part.TheVariants as part
 use Rattle.diagram_read.specs.Checkpoints.{checkpoint_of}
 use Rattle.diagram_read.specs.Edges.{class_in, connector_in, edge_in, end_node, loop_at, own_class, weight_in, with_edge_in, with_edges_in, with_via}
-use Rattle.diagram_read.specs.Faults.{◌>>=◌, each, need, refuse}
+use Rattle.diagram_read.specs.Faults.{each, need, refuse}
 use Rattle.diagram_read.specs.Nodes.{bare_node, boxed, is_group_mark, node_in, size_in, with_node_in, with_nodes_in, with_pin}
 use Rattle.diagram_read.specs.Pins.{added_class, cost_in, dirs_in, pin_of, within_box}
 use Rattle.diagram_read.specs.Scene.{scene_of}
@@ -36,8 +38,8 @@ use Rattle.diagram_read.specs.Settings.{with_setting_at, with_setting_read, with
 use Rattle.diagram_read.specs.Values.{ListEntry, as_list, class_of, entries_from, exact_at, id_of, in_range, is_no_number, list_at, milli_of, number_in, value_at, values_at}
 use Rattle.diagram_read.proofs.PinsRead.{some_holds}
 use Rattle.diagram_read.proofs.SettingsRead.{still_empty}
-use Rattle.diagram_read.proofs.Steps.{bound, chosen, ok_holds, there}
-use Rattle.existence_laws.specs.Diagrams.{AreEdgesOf, AreSettingsOf, IsConnectorOf, IsEdgeOf, IsEnd, IsHalfOf, IsNodeOf, IsPinOf, IsSceneOf, IsSetting, IsVia, TreesHaveScenes, class_at}
+use Rattle.diagram_read.proofs.Steps.{bound, chosen, not_refused, ok_holds, there}
+use Rattle.existence_laws.specs.Diagrams.{AreEdgesOf, AreSettingsOf, IsConnectorOf, IsEdgeOf, IsEnd, IsHalfOf, IsNodeOf, IsPinOf, IsSceneOf, IsSetting, IsVia, class_at}
 
 -- ---- lists read one by one
 
@@ -64,27 +66,30 @@ zip_one R one (a ∷ xs) (b ∷ ys) [] h k = absurd k
 zip_one R one (a ∷ xs) (b ∷ ys) (c ∷ zs) h k = λ i. one a b c h.0 k.0 i ∷ zip_one R one xs ys zs h.1 k.1 i
 
 -- what holds of what follows a value that is there
-followed : {A B : Type 0} (P : B → Type 0) (o : Option A) (next : A → Option B) → ((x : A) → o ≡ Some x → IfSome (next x) P) → IfSome (option_and_then next o) P
+pub followed : {A B : Type 0} (P : B → Type 0) (o : Option A) (next : A → Option B) → ((x : A) → o ≡ Some x → IfSome (next x) P) → IfSome (option_and_then next o) P
 followed P None next holds = tt
 followed P (Some x) next holds = holds x refl
 
--- the value of a choice that is not refused
-kept_one : {A : Type 0} (b : Bool) (x y : A) → (if b then None else Some x) ≡ Some y → x ≡ y
-kept_one true x y is = cc
-kept_one false x y is = same_Some x y is
+-- a choice that gives something
+pub told : {A : Type 0} (b : Bool) (x y : A) → (if b then Some x else None) ≡ Some y → (b ≡ true) × (x ≡ y)
+told true x y is = (refl, same_Some x y is)
+told false x y is = cc
 
-kept_other : {A : Type 0} (b : Bool) (x y : A) → (if b then Some x else None) ≡ Some y → x ≡ y
-kept_other true x y is = same_Some x y is
-kept_other false x y is = cc
+pub told_other : {A : Type 0} (b : Bool) (x y : A) → (if b then None else Some x) ≡ Some y → (b ≡ false) × (x ≡ y)
+told_other true x y is = cc
+told_other false x y is = (refl, same_Some x y is)
 
-in_range_ok : (r : Result ℤ MilliFault) (x : ℤ) → in_range r ≡ Some x → r ≡ Ok x
+pub in_range_ok : (r : Result ℤ MilliFault) (x : ℤ) → in_range r ≡ Some x → r ≡ Ok x
 in_range_ok (Ok y) x is = ap Ok (same_Some y x is)
 in_range_ok (Err fault) x is = cc
 
 -- a fact of what is read, from another
-ok_more : {A : Type 0} (r : Result A DiagramFault) (P Q : A → Type 0) → IfOk r P → ((x : A) → P x → Q x) → IfOk r Q
+pub ok_more : {A : Type 0} (r : Result A DiagramFault) (P Q : A → Type 0) → IfOk r P → ((x : A) → P x → Q x) → IfOk r Q
 ok_more (Ok x) P Q holds more = more x holds
 ok_more (Err fault) P Q holds more = tt
+
+pub not_below : (a b : ℤ) → int_lt a b ≡ false → b ≤ℤ a
+not_below a b h = omega (arith, ints, h)
 
 -- ---- pins
 
@@ -101,7 +106,7 @@ pin_is n value =
     followed _ (dirs_in (value_at (codes "dirs") pairs)) _ (λ dirs f.
     followed _ (cost_in (value_at (codes "cost") pairs)) _ (λ cost g.
     let p : Pin = record { class = added; dx = dx; dy = dy; dirs = dirs; cost = cost } in
-    within n value p (record { pairs = pairs; is_list = a; class = b ∙ ap Some (kept_one (class == 0) class added c); dx = d; dy = e; dirs = f; cost = g }))))))))
+    within n value p (record { pairs = pairs; is_list = a; class = b ∙ ap Some (told_other (class == 0) class added c).1; dx = d; dy = e; dirs = f; cost = g }))))))))
 
 -- a node with its first pins
 record HasPins (bare : Node) (seen : List Content) (n : Node) : Type 0 where
@@ -142,13 +147,14 @@ boxed_is place id entry graphics x y is_x is_y =
     bound _ (need far (in_range w)) _ (λ wide d.
     bound _ (need far (in_range h)) _ (λ high e.
     bound _ (refuse far (int_lt wide (pos 0) || int_lt high (pos 0))) _ (λ sizes f.
+    let signs = or_none (int_lt wide (pos 0)) (int_lt high (pos 0)) (not_refused far (int_lt wide (pos 0) || int_lt high (pos 0)) sizes f) in
     bound _ (refuse far (is_off on_x (half wide) || is_off on_y (half high))) _ (λ corners g.
     record {
       named = refl;
       x = ap (λ o. in_range (number_in o)) is_x ∙ there far (in_range (milli_of x)) on_x b;
       y = ap (λ o. in_range (number_in o)) is_y ∙ there far (in_range (milli_of y)) on_y c;
-      width = (wide, in_range_ok w wide (there far (in_range w) wide d), refl);
-      height = (high, in_range_ok h high (there far (in_range h) high e), refl);
+      width = (wide, in_range_ok w wide (there far (in_range w) wide d), not_below wide (pos 0) signs.0, refl);
+      height = (high, in_range_ok h high (there far (in_range h) high e), not_below high (pos 0) signs.1, refl);
       group = refl;
       bare = refl;
       origin = refl;
@@ -215,21 +221,21 @@ nodes_more set seen s entry has =
 
 -- ---- edges
 
-end_at : (s : Scene) (o : Option ℤ) (n : Node) → option_and_then (node_with s) o ≡ Some n → (o ≡ Some n.id) × (is_some (find (λ m. int_eq m.id n.id) s.nodes) ≡ true)
+pub end_at : (s : Scene) (o : Option ℤ) (n : Node) → option_and_then (node_with s) o ≡ Some n → (o ≡ Some n.id) × (node_with s n.id ≡ Some n)
 end_at s None n is = cc
 end_at s (Some id) n is =
     let same : n.id ≡ id = (Decides-int_eq n.id id).0 (found_passes (λ (m : Node). int_eq m.id id) s.nodes n is) in
-    (ap Some (sym same), subst (λ (d : ℤ). is_some (find (λ m. int_eq m.id d) s.nodes) ≡ true) (sym same) (ap is_some is))
+    (ap Some (sym same), ap (node_with s) same ∙ is)
 
 end_is : (s : Scene) (value : Option Content) (n : Node) → end_node s value ≡ Some n → IsEnd s.nodes value n.id
-end_is s value n is = let e = end_at s (option_and_then id_of value) n is in record { given = e.0; known = e.1 }
+end_is s value n is = let e = end_at s (option_and_then id_of value) n is in record { given = e.0; known = ap is_some e.1 }
 
-own_at : (n : Node) (o : Option ℕ) (c : ℕ) → option_and_then (own_class n) o ≡ Some c → o ≡ Some c
+own_at : (n : Node) (o : Option ℕ) (c : ℕ) → option_and_then (own_class n) o ≡ Some c → (o ≡ Some c) × (has_class n c ≡ true)
 own_at n None c is = cc
-own_at n (Some d) c is = ap Some (kept_other (has_class n d) d c is)
+own_at n (Some d) c is = let t = told (has_class n d) d c is in (ap Some t.1, subst (λ (k : ℕ). has_class n k ≡ true) t.1 t.0)
 
-class_is : (n : Node) (value : Option Content) (c : ℕ) → class_in n value ≡ Some c → class_at value ≡ Some c
-class_is n None c is = is
+pub class_is : (n : Node) (value : Option Content) (c : ℕ) → class_in n value ≡ Some c → (class_at value ≡ Some c) × (has_class n c ≡ true)
+class_is n None c is = (is, subst (λ (k : ℕ). has_class n k ≡ true) (same_Some 0 c is) refl)
 class_is n (Some value) c is = own_at n (class_of value) c is
 
 via_more : (place before : ℕ) (seen : List Content) (points : List Point) (value : Content) → AllZip IsVia seen points → IfOk (with_via place before points value) (AllZip IsVia (seen ++ value ∷ []))
@@ -254,8 +260,8 @@ connector_is nodes place before from to entry source target other =
       to = target;
       loop = λ same. absurd (other same);
       connector = λ differ. record {
-        from_class = class_is from from_value from_class (there (BadEnd place) (class_in from from_value) from_class a);
-        to_class = class_is to to_value to_class (there (BadEnd place) (class_in to to_value) to_class b);
+        from_class = (class_is from from_value from_class (there (BadEnd place) (class_in from from_value) from_class a)).0;
+        to_class = (class_is to to_value to_class (there (BadEnd place) (class_in to to_value) to_class b)).0;
         via = ok_holds (each (with_via place before) [] vias) via (AllZip IsVia vias) c (collected (AllZip IsVia) (with_via place before) (via_more place before) [] [] vias tt);
         weight = there (BadWeight place) weights weight d;
       };
@@ -316,7 +322,7 @@ edges_more noded seen s entry has =
 
 -- ---- settings
 
-abbrev setting_of : Setting → Settings → ℤ
+abbrev pub setting_of : Setting → Settings → ℤ
 setting_of Penalty t = t.penalty
 setting_of Buffer t = t.buffer
 setting_of Nudge t = t.nudge
@@ -326,7 +332,7 @@ record IsChanged (what : Setting) (value : Option Content) (old new : Settings) 
   is : IsSetting value (setting_of what old) setting
   changes : new ≡ with_setting what setting old
 
-unchanged : (what : Setting) (t : Settings) → t ≡ with_setting what (setting_of what t) t
+pub unchanged : (what : Setting) (t : Settings) → t ≡ with_setting what (setting_of what t) t
 unchanged Penalty t = refl
 unchanged Buffer t = refl
 unchanged Nudge t = refl
@@ -360,7 +366,7 @@ settings_are (Some router) =
 
 -- ---- the scene
 
-scene_is : (tree : Pairs) → IfOk (scene_of tree) (IsSceneOf tree)
+pub scene_is : (tree : Pairs) → IfOk (scene_of tree) (IsSceneOf tree)
 scene_is tree =
     bound _ (need NoGraph (list_at (codes "graph") tree)) _ (λ graph a.
     let router = list_at (codes "router") graph in
@@ -426,7 +432,7 @@ one_pin value p q h k =
 one_half : (a b : Option Content) (x y : ℤ) → a ≡ b → IsHalfOf a x → IsHalfOf b y → x ≡ y
 one_half a b x y one h k =
     let size : h.0 ≡ k.0 = same_Ok h.0 k.0 (size_in b) (ap size_in (sym one) ∙ h.1) k.1 in
-    h.2 ∙ ap half size ∙ sym k.2
+    h.3 ∙ ap half size ∙ sym k.3
 
 one_node : (entry : ListEntry) (n m : Node) → IsNodeOf entry n → IsNodeOf entry m → n ≡ m
 one_node entry n m h k =
@@ -488,7 +494,7 @@ one_list nodes number (entry ∷ entries) [] es h k = absurd h
 one_list nodes number (entry ∷ entries) (d ∷ ds) [] h k = absurd k
 one_list nodes number (entry ∷ entries) (d ∷ ds) (e ∷ es) h k = λ i. one_edge nodes number entry d e h.0 k.0 i ∷ one_list nodes (number + 1) entries ds es h.1 k.1 i
 
-one_scene : (tree : Pairs) (s other : Scene) → IsSceneOf tree s → IsSceneOf tree other → s ≡ other
+pub one_scene : (tree : Pairs) (s other : Scene) → IsSceneOf tree s → IsSceneOf tree other → s ≡ other
 one_scene tree s other h k =
     let graph : k.graph ≡ h.graph = same (list_at (codes "graph") tree) k.graph h.graph k.is_graph h.is_graph in
     let router = list_at (codes "router") h.graph in
@@ -499,6 +505,3 @@ one_scene tree s other h k =
     let edges = one_list other.nodes 1 entries s.edges other.edges on_nodes (subst (λ (g : Pairs). AreEdgesOf other.nodes 1 (entries_from 0 (codes "edge") g) other.edges) graph k.edges) in
     let next : s.next_edge ≡ other.next_edge = h.next_edge ∙ ap (λ (es : List Edge). length es + 1) edges ∙ sym k.next_edge in
     λ i. record { nodes = nodes i; edges = edges i; settings = settings i; next_edge = next i }
-
-pub trees_have_scenes : TreesHaveScenes
-trees_have_scenes = record { read = λ tree s is. ok_holds (scene_of tree) s (IsSceneOf tree) is (scene_is tree); one = one_scene }

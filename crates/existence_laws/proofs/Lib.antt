@@ -9,5 +9,7 @@ pub mod Solving
 pub mod Arguing
 pub mod Proposing
 pub mod Describing
+pub mod Keeping
+pub mod Retelling
 pub mod Sharing
 pub mod Nudging

@@ -1,5 +1,5 @@
 -- The proposals of a script, from its commands as a whole.
-use Rattle.std.proofs.Common.{◌≡◌, ◌≢◌, ◌⊎◌, inl, inr, ℕ, ◌+◌, ◌<◌, ◌≤◌, Bool, true, false, if◌then◌else◌, nat_lt, List, [], ◌∷◌, ◌++◌, length, map, Option, None, Some, Result, Ok, Err, refl, sym, ap, subst, ◌∙◌, arith, length-append}
+use Rattle.std.proofs.Common.{◌≡◌, ◌⊎◌, inl, inr, ℕ, ◌+◌, ◌<◌, ◌≤◌, Bool, true, false, if◌then◌else◌, nat_lt, List, [], ◌∷◌, ◌++◌, length, map, Option, None, Some, Result, Ok, Err, refl, sym, ap, subst, ◌∙◌, arith, length-append}
 use Rattle.std.specs.Prelude.{IfSome}
 use Rattle.std.proofs.lemmas.Bool.{ltb-false, ltb-true}
 use Rattle.std.proofs.lemmas.Grind.{flat_map-append}
@@ -11,7 +11,7 @@ use Rattle.report_text.specs.declared.refusal.Refusal.{Refusal}
 use Rattle.report_text.specs.declared.refusal.Refusal.TheVariants.{Syntax}
 use Rattle.preview.specs.declared.proposals.Proposal.{Proposal}
 use Rattle.form_preview.specs.Blocks.{Blocks, Read, proposals, refused_at, unfinished, too_many, read_on, ended, unless_refused, blocks_from, blocks_of}
-use Rattle.existence_laws.specs.Proposals.{IsNextBegin, IsReason, IsRefusedAt, MayBegin, Says, ScriptsHaveProposals, commands_for, commands_of, unnumbered}
+use Rattle.existence_laws.specs.Proposals.{IsReason, MayBegin, Says, ScriptsHaveProposals, commands_for, commands_of, unnumbered}
 
 -- ---- the commands of proposals
 

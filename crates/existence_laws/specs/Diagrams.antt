@@ -1,5 +1,5 @@
 -- The scene of a diagram: its nodes and edges in the order of the file, each with the first value under each key.
-use Rattle.std.specs.Prelude.{◌≡◌, ℕ, ◌+◌, ℤ, true, List, [], ◌∷◌, length, codes, find, Option, Some, None, option_and_then, is_some, Ok}
+use Rattle.std.specs.Prelude.{◌≡◌, ◌↔◌, ℕ, ◌+◌, ℤ, pos, ◌≤ℤ◌, true, List, [], ◌∷◌, length, codes, find, Option, Some, None, option_and_then, is_some, Ok}
 use Rattle.std.specs.List.{AllZip}
 use Rattle.std.specs.Ordering.{int_eq}
 use Rattle.gml_text.specs.Tree.{Content, Pairs}
@@ -10,7 +10,7 @@ use Rattle.scene_model.specs.declared.pin.Pin.{Pin}
 use Rattle.scene_model.specs.declared.settings.Settings.{Settings}
 use Rattle.scene_model.specs.Edits.{half}
 use Rattle.scene_model.specs.Scene.{Scene, default_settings}
-use Rattle.scene_model.specs.Valid.{IsPlain}
+use Rattle.scene_model.specs.Valid.{IsPlain, IsValid}
 use Rattle.diagram_read.specs.Checkpoints.{checkpoint_of}
 use Rattle.diagram_read.specs.Edges.{weight_in}
 use Rattle.diagram_read.specs.Nodes.{is_group_mark, size_in}
@@ -41,7 +41,7 @@ pub record IsPinOf (value : Content) (p : Pin) : Type 0 where
 
 -- half of the size that is given, or of the default
 abbrev pub IsHalfOf : Option Content → ℤ → Type 0
-IsHalfOf value half_size = (size : ℤ) × (size_in value ≡ Ok size) × (half_size ≡ half size)
+IsHalfOf value half_size = (size : ℤ) × (size_in value ≡ Ok size) × (pos 0 ≤ℤ size) × (half_size ≡ half size)
 
 -- the node of a list
 pub record IsNodeOf (entry : ListEntry) (n : Node) : Type 0 where
@@ -101,7 +101,7 @@ pub record IsSceneOf (tree : Pairs) (s : Scene) : Type 0 where
   pub edges : AreEdgesOf s.nodes 1 (entries_from 0 (codes "edge") graph) s.edges
   pub next_edge : s.next_edge ≡ length s.edges + 1
 
--- the law: the scene that is read of a tree is the scene of the tree, and a tree has at most one
+-- the law: a tree is read as a scene exactly if that is its scene and is valid; and it has at most one scene
 pub record TreesHaveScenes : Type 0 where
-  pub read : (tree : Pairs) (s : Scene) → scene_of tree ≡ Ok s → IsSceneOf tree s
+  pub read : (tree : Pairs) (s : Scene) → (scene_of tree ≡ Ok s) ↔ (IsSceneOf tree s × IsValid s)
   pub one : (tree : Pairs) (s other : Scene) → IsSceneOf tree s → IsSceneOf tree other → s ≡ other

@@ -16,8 +16,8 @@ pub fn scripts_have_proposals()
     ensures { ScriptsHaveProposals }
 {}
 
-/// The scene that is read of a tree has the nodes and edges of its lists in their order, each with the first value under
-/// each key or the default. A tree has at most one such scene.
+/// A tree is read as a scene exactly if this has the nodes and edges of its lists in their order, each with the first
+/// value under each key or the default, and is valid. A tree has at most one such scene.
 pub fn trees_have_scenes()
     ensures { TreesHaveScenes }
 {}
