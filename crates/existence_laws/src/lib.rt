@@ -1,6 +1,6 @@
 //! Laws on the definitions: that what they ask for exists (answers of tasks and of scenes, stale connectors, verdicts,
-//! proposals, certificates, audits, readings of bytes, and solutions of bundles), and what arguments, proposals and
-//! diagrams are read as.
+//! proposals, certificates, audits, readings of bytes, solutions of bundles, nudged lines, and shared paths), and what
+//! arguments, proposals and diagrams are read as.
 #![tactic(auto)]
 
 mod inputs;
