@@ -3,4 +3,5 @@ mod InOrder
 mod Passing
 mod Places
 mod Playing
+mod Proposing
 mod Sources

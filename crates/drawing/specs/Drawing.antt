@@ -65,7 +65,7 @@ next_edge w = (edited_scene w.working w.present).next_edge
 
 -- the lines of the present scene are reported, and compared with those that were reported before
 pub record Reports (old new : DrawingState) : Type 0 where
-  pub drawn : AreDrawn new.session new.reported
+  pub drawn : AreDrawn new.session.world.present new.session.book new.reported
   pub asked : new.asked ≡ asked_of old.reported new.reported
 
 -- the lines after a commit of the open transaction are compared with those that were reported, which stay

@@ -1,10 +1,11 @@
 //! A drawing: opened from the bytes of a diagram, and written back.
-ghost use Rattle.std.specs.Prelude.{◌≡◌, IfErr, IfOk, Ok, codes};
+ghost use Rattle.std.specs.Prelude.{◌≡◌, ◌≤◌, [], IfErr, IfOk, Ok, codes};
 ghost use Rattle.gml_text.specs.Printed.{IsPrintable};
 ghost use Rattle.gml_text.specs.View.{tree};
 ghost use Rattle.diagram_read.specs.Scene.{scene_of};
 ghost use Rattle.scene_model.specs.Scene.{empty_scene};
-ghost use Rattle.drawing.specs.Drawing.{IsOpened, IsWritten, edited_scene, next_edge};
+ghost use Rattle.drawing.specs.Changes.{asked_of};
+ghost use Rattle.drawing.specs.Drawing.{IsOpened, IsSource, IsWritten, edited_scene, next_edge};
 ghost use Rattle.drawing.specs.Opening.{IsOpenFault, Opens, empty_diagram};
 
 use crate::changes::Differences;
@@ -13,10 +14,12 @@ use crate::lines::Lines;
 use diagram_read::scene_of;
 use form_route::printed_diagram;
 use gml_text::{Bytes, Doc, Pair, Value, parse};
+use par_route::Gate;
 use route_session::Session;
 use scene_store::Scene;
 use std::alloc::{AllocError, Global};
 use std::marker::Model;
+use std::thread::Threads;
 
 /// A session, with the document that its scenes come from, the lines that were reported last, and what was asked for last.
 #[derive(Drop)]
@@ -70,8 +73,25 @@ fn empty_document(alloc: Global) -> Result<Doc, AllocError>
 }
 
 impl Drawing {
+    /// The drawing of a session whose scenes come from the document. No line is reported yet.
+    fn on(alloc: Global, doc: Doc, session: Session) -> Drawing
+        requires { IsSource (tree doc) session.world }
+        ensures session { result.session ≡ session }
+        ensures document { result.document ≡ doc }
+        ensures reported { result.reported ≡ [] }
+        ensures asked { result.asked ≡ asked_of [] [] }
+    {
+        Drawing {
+            doc,
+            session,
+            reported: Lines::none(alloc),
+            proposed: None,
+            differences: Differences::none(alloc),
+        }
+    }
+
     /// A session on the scene of a document. The only error is out of memory.
-    fn on(alloc: Global, doc: Doc, scene: Scene) -> Result<Drawing, AllocError>
+    fn read_alone(alloc: Global, doc: Doc, scene: Scene) -> Result<Drawing, AllocError>
         requires source { scene_of (tree doc) ≡ Ok scene }
         requires printable { IsPrintable (tree doc) }
         ensures opened { IfOk result (IsOpened scene) }
@@ -79,23 +99,40 @@ impl Drawing {
     {
         scene.valid();
         let session = Session::open_alone(alloc, scene)?;
-        Ok(Drawing {
-            doc,
-            session,
-            reported: Lines::none(alloc),
-            proposed: None,
-            differences: Differences::none(alloc),
-        })
+        Ok(Drawing::on(alloc, doc, session))
     }
 
-    /// A session on the empty scene, of a document without a node. It is searched by this thread alone, as in all calls.
+    /// A session on the scene of a document, which is searched by at most `workers` searches side by side.
+    ///
+    /// The only error is out of memory.
+    pub fn read<R: Threads + Sync, G: Gate>(
+        rt: &R,
+        alloc: Global,
+        doc: Doc,
+        scene: Scene,
+        workers: u32,
+        gate: &G,
+    ) -> Result<Drawing, AllocError>
+        requires some { 1 ≤ workers }
+        requires few_workers { workers ≤ 4 }
+        requires source { scene_of (tree doc) ≡ Ok scene }
+        requires printable { IsPrintable (tree doc) }
+        ensures opened { IfOk result (IsOpened scene) }
+        ensures document { IfOk result (λ d. d.document ≡ doc) }
+    {
+        scene.valid();
+        let session = Session::open(rt, alloc, scene, workers, gate)?;
+        Ok(Drawing::on(alloc, doc, session))
+    }
+
+    /// A session on the empty scene, of a document without a node.
     ///
     /// The only error is out of memory.
     pub fn new(alloc: Global) -> Result<Drawing, AllocError>
         ensures opened { IfOk result (IsOpened empty_scene) }
         ensures document { IfOk result (λ d. tree d.document ≡ empty_diagram) }
     {
-        Drawing::on(alloc, empty_document(alloc)?, Scene::new(alloc))
+        Drawing::read_alone(alloc, empty_document(alloc)?, Scene::new(alloc))
     }
 
     /// A session on the scene of a diagram in GML.
@@ -111,7 +148,7 @@ impl Drawing {
             Ok(scene) => scene,
             Err(fault) => return Err(OpenFault::Diagram(fault)),
         };
-        match Drawing::on(alloc, doc, scene) {
+        match Drawing::read_alone(alloc, doc, scene) {
             Ok(drawing) => Ok(drawing),
             Err(AllocError) => Err(OpenFault::Memory),
         }

@@ -1,6 +1,6 @@
 //! What each front holds: a session, the document that its scenes come from, and the lines that were reported.
 //!
-//! Coordinates are whole thousandths of a GML unit. No call starts a thread.
+//! Coordinates are whole thousandths of a GML unit. No call starts a thread but those that have `workers`.
 #![tactic(auto)]
 
 mod asking;
@@ -11,6 +11,7 @@ mod fault;
 mod lines;
 mod script;
 
+pub use asking::Compared;
 pub use drawing::Drawing;
 pub use fault::OpenFault;
 pub use script::{Stopped, Why};

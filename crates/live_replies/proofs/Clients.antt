@@ -1,7 +1,7 @@
 -- A client that applies the changes knows the lines after.
-use Rattle.std.proofs.Common.{◌≡◌, ℕ, ◌<◌, Bool, true, false, cond, Option, None, Some, List, [], ◌∷◌, ◌++◌, inl, inr, refl, sym, ap, ap₂, ◌∙◌, arith, if◌then◌else◌}
-use Rattle.std.specs.Prelude.{◌==◌, ◌&&◌, is_some}
-use Rattle.std.specs.List.{flat_map, AllByRecursion as Each}
+use Rattle.std.proofs.Common.{◌≡◌, ℕ, ◌<◌, Bool, true, false, cond, Option, None, Some, List, [], ◌∷◌, ◌++◌, inl, inr, refl, sym, ap, ap₂, ◌∙◌, arith, if◌then◌else◌, map}
+use Rattle.std.specs.Prelude.{◌==◌, ◌&&◌, filter, is_some, not}
+use Rattle.std.specs.List.{AllByRecursion as Each}
 use Rattle.std.specs.Ordering.{int_eq}
 use Rattle.std.proofs.lemmas.Bool.{cases_Bool, eqb-true, false≢true}
 use Rattle.std.proofs.lemmas.Bool.Decides.{Decides-int_eq, eqb_tells}
@@ -15,7 +15,8 @@ use Rattle.scene_model.proofs.Editing.Entries.{Pairs, each_weaker, found_cases, 
 use Rattle.nudge_phases.proofs.SceneLines.{good_raws, line_edges}
 use Rattle.form_route.specs.Routes.{AreLines}
 use Rattle.form_route.proofs.Lines.{lines_are_routes}
-use Rattle.live_replies.specs.Changes.{Change, gone, drawn, are_same_corners, changes, drawn_of, gone_of, has_corners, is_reported, line_of}
+use Rattle.drawing.specs.Changes.{are_same_corners, asked_of, gone_between, has_corners, is_changed, line_of}
+use Rattle.live_replies.specs.Changes.{Change, gone, drawn, changes, drawn_of}
 use Rattle.live_replies.specs.Client.{ChangesKeepClients, applied, with_change, without}
 
 -- how a change, and how many, change what is known of one connector
@@ -70,50 +71,74 @@ gone_elsewhere edge number known there = ap (λ t. cond t None known) there
 drawn_elsewhere : (edge : ℕ) (l : WrittenRoute) (known : Option WrittenRoute) → (l.edge == edge) ≡ false → known_after edge known (drawn l) ≡ known
 drawn_elsewhere edge l known there = ap (λ t. cond t (Some l) known) there
 
+-- the connectors that are gone, and the lines that changed
+abbrev all_gone : List WrittenRoute → List WrittenRoute → List Change
+all_gone after before = map gone (gone_between before after)
+
+abbrev all_drawn : List WrittenRoute → List WrittenRoute → List Change
+all_drawn before after = drawn_of after (map (is_changed before) after)
+
+-- the first of those that were reported stays, or is gone
+module _ (after before : List WrittenRoute) (b : WrittenRoute) where
+  abbrev rest : List WrittenRoute
+  rest = filter (λ l. not (is_some (line_of after l.edge))) before
+
+  first_gone : {t : Bool} → is_some (line_of after b.edge) ≡ t → all_gone after (b ∷ before) ≡ map gone (map (λ l. l.edge) (cond (not t) (b ∷ rest) rest))
+  first_gone is = ap (λ t. map gone (map (λ l. l.edge) (cond (not t) (b ∷ rest) rest))) is
+
+-- the first of those after stands among those before, or is drawn
+first_drawn : (before after : List WrittenRoute) (a : WrittenRoute) {t : Bool} → has_corners (line_of before a.edge) a.points ≡ t
+    → all_drawn before (a ∷ after) ≡ cond (not t) (drawn a ∷ all_drawn before after) (all_drawn before after)
+first_drawn before after a is = ap (λ t. cond (not t) (drawn a ∷ all_drawn before after) (all_drawn before after)) is
+
 -- a line that is not known is not known after others are gone
-none_more : (edge : ℕ) (after before : List WrittenRoute) → known_after_all edge None (flat_map (gone_of after) before) ≡ None
+none_more : (edge : ℕ) (after before : List WrittenRoute) → known_after_all edge None (all_gone after before) ≡ None
 none_more edge after [] = refl
 none_more edge after (b ∷ before) =
-    elim (cases_Bool (is_some (line_of after b.edge))) as (λ _. known_after_all edge None (gone_of after b ++ flat_map (gone_of after) before) ≡ None) [
-      | inl stays ↦ rw stays (none_more edge after before)
-      | inr goes ↦ rw goes (ap (λ known. known_after_all edge known (flat_map (gone_of after) before)) (none_either (b.edge == edge)) ∙ none_more edge after before)
+    elim (cases_Bool (is_some (line_of after b.edge))) as (λ _. known_after_all edge None (all_gone after (b ∷ before)) ≡ None) [
+      | inl stays ↦ ap (known_after_all edge None) (first_gone after before b stays) ∙ none_more edge after before
+      | inr goes ↦ ap (known_after_all edge None) (first_gone after before b goes)
+          ∙ ap (λ known. known_after_all edge known (all_gone after before)) (none_either (b.edge == edge)) ∙ none_more edge after before
     ]
 
 -- a connector that has a line after: what is known of it stays while others are gone
 line_stays : (edge : ℕ) (after before : List WrittenRoute) (known : Option WrittenRoute) (l : WrittenRoute) → line_of after edge ≡ Some l
-    → known_after_all edge known (flat_map (gone_of after) before) ≡ known
+    → known_after_all edge known (all_gone after before) ≡ known
 line_stays edge after [] known l has = refl
 line_stays edge after (b ∷ before) known l has =
-    elim (cases_Bool (is_some (line_of after b.edge))) as (λ _. known_after_all edge known (gone_of after b ++ flat_map (gone_of after) before) ≡ known) [
-      | inl stays ↦ rw stays (line_stays edge after before known l has)
+    elim (cases_Bool (is_some (line_of after b.edge))) as (λ _. known_after_all edge known (all_gone after (b ∷ before)) ≡ known) [
+      | inl stays ↦ ap (known_after_all edge known) (first_gone after before b stays) ∙ line_stays edge after before known l has
       | inr goes ↦ (let there = differs b.edge edge (λ same. false≢true (sym goes ∙ ap (λ n. is_some (line_of after n)) same ∙ ap is_some has)) in
-          rw goes (ap (λ k. known_after_all edge k (flat_map (gone_of after) before)) (gone_elsewhere edge b.edge known there) ∙ line_stays edge after before known l has))
+          ap (known_after_all edge known) (first_gone after before b goes)
+          ∙ ap (λ k. known_after_all edge k (all_gone after before)) (gone_elsewhere edge b.edge known there) ∙ line_stays edge after before known l has)
     ]
 
 -- a connector that has no line after: it is gone if it was known
 line_goes : (edge : ℕ) (after before : List WrittenRoute) (known : Option WrittenRoute) → line_of after edge ≡ None → known ≡ line_of before edge
-    → known_after_all edge known (flat_map (gone_of after) before) ≡ None
+    → known_after_all edge known (all_gone after before) ≡ None
 line_goes edge after [] known none is = is
-line_goes edge after (b ∷ before) known none is = elim (eqb_tells b.edge edge) as (λ _. known_after_all edge known (gone_of after b ++ flat_map (gone_of after) before) ≡ None) [
-  | inl here ↦ rw (ap (λ n. is_some (line_of after n)) here.1 ∙ ap is_some none)
-      (ap (λ t. known_after_all edge (cond t None known) (flat_map (gone_of after) before)) here.0 ∙ none_more edge after before)
+line_goes edge after (b ∷ before) known none is = elim (eqb_tells b.edge edge) as (λ _. known_after_all edge known (all_gone after (b ∷ before)) ≡ None) [
+  | inl here ↦ ap (known_after_all edge known) (first_gone after before b (ap (λ n. is_some (line_of after n)) here.1 ∙ ap is_some none))
+      ∙ ap (λ t. known_after_all edge (cond t None known) (all_gone after before)) here.0 ∙ none_more edge after before
   | inr there ↦ (let later = line_goes edge after before known none (is ∙ ap (λ t. cond t (Some b) (line_of before edge)) there.0) in
-      elim (cases_Bool (is_some (line_of after b.edge))) as (λ _. known_after_all edge known (gone_of after b ++ flat_map (gone_of after) before) ≡ None) [
-        | inl stays ↦ rw stays later
-        | inr goes ↦ rw goes (ap (λ k. known_after_all edge k (flat_map (gone_of after) before)) (gone_elsewhere edge b.edge known there.0) ∙ later)
+      elim (cases_Bool (is_some (line_of after b.edge))) as (λ _. known_after_all edge known (all_gone after (b ∷ before)) ≡ None) [
+        | inl stays ↦ ap (known_after_all edge known) (first_gone after before b stays) ∙ later
+        | inr goes ↦ ap (known_after_all edge known) (first_gone after before b goes)
+            ∙ ap (λ k. known_after_all edge k (all_gone after before)) (gone_elsewhere edge b.edge known there.0) ∙ later
       ])
 ]
 
 -- no line of the connector is drawn
 not_drawn : (edge : ℕ) (before after : List WrittenRoute) (known : Option WrittenRoute) → line_of after edge ≡ None
-    → known_after_all edge known (flat_map (drawn_of before) after) ≡ known
+    → known_after_all edge known (all_drawn before after) ≡ known
 not_drawn edge before [] known none = refl
 not_drawn edge before (a ∷ after) known none =
     let apart = none_cases (a.edge == edge) a (line_of after edge) none in
     let later = not_drawn edge before after known apart.1 in
-    elim (cases_Bool (is_reported before a)) as (λ _. known_after_all edge known (drawn_of before a ++ flat_map (drawn_of before) after) ≡ known) [
-      | inl reported ↦ rw reported later
-      | inr new ↦ rw new (ap (λ k. known_after_all edge k (flat_map (drawn_of before) after)) (drawn_elsewhere edge a known apart.0) ∙ later)
+    elim (cases_Bool (has_corners (line_of before a.edge) a.points)) as (λ _. known_after_all edge known (all_drawn before (a ∷ after)) ≡ known) [
+      | inl reported ↦ ap (known_after_all edge known) (first_drawn before after a reported) ∙ later
+      | inr new ↦ ap (known_after_all edge known) (first_drawn before after a new)
+          ∙ ap (λ k. known_after_all edge k (all_drawn before after)) (drawn_elsewhere edge a known apart.0) ∙ later
     ]
 
 -- a line that was reported stands among those before
@@ -148,7 +173,7 @@ reported_found before a None is h = absurd (false≢true h)
 reported_found before a (Some b) is h =
     ap Some (same_line b a (eqb-true b.edge a.edge (found_passes (λ (l : WrittenRoute). l.edge == a.edge) before b is)) (same_corners b.points a.points h))
 
-reported_is : (before : List WrittenRoute) (a : WrittenRoute) → is_reported before a ≡ true → line_of before a.edge ≡ Some a
+reported_is : (before : List WrittenRoute) (a : WrittenRoute) → has_corners (line_of before a.edge) a.points ≡ true → line_of before a.edge ≡ Some a
 reported_is before a reported = reported_found before a (line_of before a.edge) refl reported
 
 abbrev Rises : WrittenRoute → WrittenRoute → Type 0
@@ -160,30 +185,33 @@ none_later edge a after here rises = found_none (λ (l : WrittenRoute). l.edge =
 
 -- a connector that has a line after: it is drawn, or it was known
 line_drawn : (edge : ℕ) (before after : List WrittenRoute) (known : Option WrittenRoute) (l : WrittenRoute) → Pairs Rises after → line_of after edge ≡ Some l
-    → known ≡ line_of before edge → known_after_all edge known (flat_map (drawn_of before) after) ≡ Some l
+    → known ≡ line_of before edge → known_after_all edge known (all_drawn before after) ≡ Some l
 line_drawn edge before [] known l rise has is = absurd (none-some l has)
 line_drawn edge before (a ∷ after) known l rise has is = elim (found_cases (a.edge == edge) a l (line_of after edge) has)
-    as (λ _. known_after_all edge known (drawn_of before a ++ flat_map (drawn_of before) after) ≡ Some l) [
+    as (λ _. known_after_all edge known (all_drawn before (a ∷ after)) ≡ Some l) [
       | inl here ↦ (let same = eqb-true a.edge edge here.0 in let none = none_later edge a after same rise.0 in
-          elim (cases_Bool (is_reported before a)) as (λ _. known_after_all edge known (drawn_of before a ++ flat_map (drawn_of before) after) ≡ Some l) [
-            | inl reported ↦ rw reported (not_drawn edge before after known none ∙ is ∙ ap (line_of before) (sym same) ∙ reported_is before a reported ∙ ap Some here.1)
-            | inr new ↦ rw new (ap (λ t. known_after_all edge (cond t (Some a) known) (flat_map (drawn_of before) after)) here.0
-                ∙ not_drawn edge before after (Some a) none ∙ ap Some here.1)
+          elim (cases_Bool (has_corners (line_of before a.edge) a.points)) as (λ _. known_after_all edge known (all_drawn before (a ∷ after)) ≡ Some l) [
+            | inl reported ↦ ap (known_after_all edge known) (first_drawn before after a reported)
+                ∙ not_drawn edge before after known none ∙ is ∙ ap (line_of before) (sym same) ∙ reported_is before a reported ∙ ap Some here.1
+            | inr new ↦ ap (known_after_all edge known) (first_drawn before after a new)
+                ∙ ap (λ t. known_after_all edge (cond t (Some a) known) (all_drawn before after)) here.0
+                ∙ not_drawn edge before after (Some a) none ∙ ap Some here.1
           ])
       | inr there ↦ (let later = line_drawn edge before after known l rise.1 there.1 is in
-          elim (cases_Bool (is_reported before a)) as (λ _. known_after_all edge known (drawn_of before a ++ flat_map (drawn_of before) after) ≡ Some l) [
-            | inl reported ↦ rw reported later
-            | inr new ↦ rw new (ap (λ k. known_after_all edge k (flat_map (drawn_of before) after)) (drawn_elsewhere edge a known there.0) ∙ later)
+          elim (cases_Bool (has_corners (line_of before a.edge) a.points)) as (λ _. known_after_all edge known (all_drawn before (a ∷ after)) ≡ Some l) [
+            | inl reported ↦ ap (known_after_all edge known) (first_drawn before after a reported) ∙ later
+            | inr new ↦ ap (known_after_all edge known) (first_drawn before after a new)
+                ∙ ap (λ k. known_after_all edge k (all_drawn before after)) (drawn_elsewhere edge a known there.0) ∙ later
           ])
     ]
 
 -- what is known after the changes: the line after, or none
 known_then : (edge : ℕ) (before after : List WrittenRoute) (known line : Option WrittenRoute) → Pairs Rises after → line_of after edge ≡ line → known ≡ line_of before edge
-    → known_after_all edge (known_after_all edge known (flat_map (gone_of after) before)) (flat_map (drawn_of before) after) ≡ line
+    → known_after_all edge (known_after_all edge known (all_gone after before)) (all_drawn before after) ≡ line
 known_then edge before after known None rise none is =
-    ap (λ k. known_after_all edge k (flat_map (drawn_of before) after)) (line_goes edge after before known none is) ∙ not_drawn edge before after None none
+    ap (λ k. known_after_all edge k (all_drawn before after)) (line_goes edge after before known none is) ∙ not_drawn edge before after None none
 known_then edge before after known (Some l) rise has is =
-    ap (λ k. known_after_all edge k (flat_map (drawn_of before) after)) (line_stays edge after before known l has) ∙ line_drawn edge before after known l rise has is
+    ap (λ k. known_after_all edge k (all_drawn before after)) (line_stays edge after before known l has) ∙ line_drawn edge before after known l rise has is
 
 -- the numbers of the lines of a scene rise, since they are those of its connectors in order
 lines_rise : (s : Scene) (answers : List Answer) (lines : List WrittenRoute) → IsValid s → AreLines s answers lines → Pairs Rises lines
@@ -194,5 +222,5 @@ lines_rise s answers lines valid are =
 
 pub clients_kept : ChangesKeepClients
 clients_kept s client before after valid are knows edge =
-    of_applied edge client (changes before after) ∙ one_by_one edge (line_of client edge) (flat_map (gone_of after) before) (flat_map (drawn_of before) after)
-    ∙ known_then edge before after (line_of client edge) (line_of after edge) (lines_rise s.world.present s.book after valid are) refl (knows edge)
+    of_applied edge client (changes (asked_of before after)) ∙ one_by_one edge (line_of client edge) (all_gone after before) (all_drawn before after)
+    ∙ known_then edge before after (line_of client edge) (line_of after edge) (lines_rise s.world.present s.book after valid are.are_lines) refl (knows edge)

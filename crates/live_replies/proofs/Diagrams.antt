@@ -11,34 +11,34 @@ use Rattle.live_replies.specs.declared.serving.End.{End}
 use Rattle.live_replies.specs.declared.serving.End.TheVariants.{Input, Quit}
 use Rattle.live_replies.specs.declared.serving.ServeFault.{ServeFault}
 use Rattle.live_replies.specs.declared.serving.ServeFault.TheVariants.{Read, Write, Memory, Exhausted}
+use Rattle.drawing.specs.Drawing.{DrawingState}
 use Rattle.live_replies.specs.Answers.{Answers, AnswersCommand, AnswersPreview, AnswersRead}
-use Rattle.live_replies.specs.Live.{LiveState}
 use Rattle.live_replies.specs.Requests.{request_of}
 use Rattle.live_replies.specs.Serves.{AreTurns, DiagramsStay, EndsTurn, Moment, Turn}
 
-module _ (old new : LiveState) (said : List ℕ) where
-  same : new ≡ old → new.diagram ≡ old.diagram
-  same is = ap (λ (l : LiveState). l.diagram) is
+module _ (old new : DrawingState) (said : List ℕ) where
+  same : new ≡ old → new.document ≡ old.document
+  same is = ap (λ (l : DrawingState). l.document) is
 
-  after_command : (c : Command) → AnswersCommand c old new said → new.diagram ≡ old.diagram
-  after_command Begin h = h.diagram
-  after_command (Edit e) h = h.diagram
-  after_command Commit h = h.diagram
-  after_command Abort h = h.diagram
-  after_command Undo h = h.diagram
-  after_command Redo h = h.diagram
-  after_command Bad h = h.0.diagram
+  after_command : (c : Command) → AnswersCommand c old new said → new.document ≡ old.document
+  after_command Begin h = h.document
+  after_command (Edit e) h = h.document
+  after_command Commit h = h.document
+  after_command Abort h = h.document
+  after_command Undo h = h.document
+  after_command Redo h = h.document
+  after_command Bad h = h.0.keeps.document
 
-  after_preview : (working : Option Scene) → AnswersPreview working old new said → new.diagram ≡ old.diagram
+  after_preview : (working : Option Scene) → AnswersPreview working old new said → new.document ≡ old.document
   after_preview None h = same h.0
   after_preview (Some s) h = same h.stays
 
-  after_request : (r : Request) → Answers r old new said → new.diagram ≡ old.diagram
+  after_request : (r : Request) → Answers r old new said → new.document ≡ old.document
   after_request Nothing h = same h.0
   after_request (Do c) h = after_command c h
   after_request Preview (inl h) = after_preview old.session.world.working h
   after_request Preview (inr h) = same h.0
-  after_request Lines (inl h) = ap (λ (l : LiveState). l.diagram) h.1
+  after_request Lines (inl h) = h.document
   after_request Lines (inr h) = same h.0
   after_request Gml (inl h) = same h.0
   after_request Gml (inr h) = same h.0
@@ -48,22 +48,22 @@ module _ (old new : LiveState) (said : List ℕ) where
   after_request Why (inr h) = same h.0
   after_request AskForEnd h = same h.0
 
-  after_reading : (read : LineRead) (line : List ℕ) → AnswersRead read line old new said → new.diagram ≡ old.diagram
+  after_reading : (read : LineRead) (line : List ℕ) → AnswersRead read line old new said → new.document ≡ old.document
   after_reading Whole line (inl h) = after_request (request_of line) h
-  after_reading Whole line (inr h) = h.0.diagram
-  after_reading TooLong line h = h.0.diagram
+  after_reading Whole line (inr h) = h.0.keeps.document
+  after_reading TooLong line h = h.0.keeps.document
   after_reading NoLine line h = absurd h
 
-after_turns : (a b : Moment) (turns : List Turn) → AreTurns a turns b → b.live.diagram ≡ a.live.diagram
-after_turns a b [] h = ap (λ (m : Moment). m.live.diagram) (sym h)
+after_turns : (a b : Moment) (turns : List Turn) → AreTurns a turns b → b.live.document ≡ a.live.document
+after_turns a b [] h = ap (λ (m : Moment). m.live.document) (sym h)
 after_turns a b (t ∷ turns) h = after_turns t.after b turns h.2 ∙ after_reading a.live t.after.live t.said t.read t.line h.0.answered
 
-after_last : (last : Result (Option End) ServeFault) (a b : Moment) → EndsTurn last a b → b.live.diagram ≡ a.live.diagram
+after_last : (last : Result (Option End) ServeFault) (a b : Moment) → EndsTurn last a b → b.live.document ≡ a.live.document
 after_last (Ok None) a b h = after_turns a b h.turns h.are_turns
-after_last (Ok (Some Input)) a b h = ap (λ (l : LiveState). l.diagram) h.0.live
+after_last (Ok (Some Input)) a b h = ap (λ (l : DrawingState). l.document) h.0.live
 after_last (Ok (Some Quit)) a b h =
-    ap (λ (m : Moment). m.live.diagram) (sym h.leads) ∙ after_reading a.live h.turn.after.live h.turn.said h.turn.read h.turn.line h.is_turn.answered
-after_last (Err Read) a b h = ap (λ (l : LiveState). l.diagram) h.live
+    ap (λ (m : Moment). m.live.document) (sym h.leads) ∙ after_reading a.live h.turn.after.live h.turn.said h.turn.read h.turn.line h.is_turn.answered
+after_last (Err Read) a b h = ap (λ (l : DrawingState). l.document) h.live
 after_last (Err Write) a b h = after_reading a.live b.live h.turn.said h.turn.read h.turn.line h.answered
 after_last (Err Memory) a b h = absurd h
 after_last (Err Exhausted) a b h = absurd h

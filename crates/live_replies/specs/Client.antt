@@ -3,8 +3,9 @@ use Rattle.std.specs.Prelude.{◌≡◌, ℕ, ◌==◌, not, List, [], ◌∷◌
 use Rattle.walk_model.specs.declared.route.WrittenRoute.{WrittenRoute}
 use Rattle.scene_model.specs.Valid.{IsValid}
 use Rattle.session_laws.specs.State.{State}
-use Rattle.live_replies.specs.Answers.{AreSessionLines}
-use Rattle.live_replies.specs.Changes.{Change, gone, drawn, changes, line_of}
+use Rattle.drawing.specs.Changes.{asked_of, line_of}
+use Rattle.drawing.specs.Lines.{AreDrawn}
+use Rattle.live_replies.specs.Changes.{Change, gone, drawn, changes}
 
 -- these lines without the connector's
 abbrev pub without : ℕ → List WrittenRoute → List WrittenRoute
@@ -27,4 +28,4 @@ Knows client lines = (edge : ℕ) → line_of client edge ≡ line_of lines edge
 -- the law: a client that knows the lines before, and applies the changes, knows the lines of the session
 abbrev pub ChangesKeepClients : Type 0
 ChangesKeepClients = (s : State) (client before after : List WrittenRoute) →
-    IsValid s.world.present → AreSessionLines s after → Knows client before → Knows (applied client (changes before after)) after
+    IsValid s.world.present → AreDrawn s.world.present s.book after → Knows client before → Knows (applied client (changes (asked_of before after))) after

@@ -3,7 +3,6 @@ pub mod Texts
 pub mod Changes
 pub mod Requests
 pub mod Said
-pub mod Live
 pub mod Why
 pub mod Answers
 pub mod Previews

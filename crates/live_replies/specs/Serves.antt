@@ -6,12 +6,12 @@ use Rattle.host_edge.specs.declared.line_source.LineRead.TheVariants.{Whole, Too
 use Rattle.host_edge.specs.Count.{last_count}
 use Rattle.host_edge.specs.Lines.{IsLineRead}
 use Rattle.host_edge.specs.Sink.{AppendsPart}
+use Rattle.drawing.specs.Drawing.{DrawingState}
 use Rattle.live_replies.specs.declared.serving.End.{End}
 use Rattle.live_replies.specs.declared.serving.End.TheVariants.{Input, Quit}
 use Rattle.live_replies.specs.declared.serving.ServeFault.{ServeFault}
 use Rattle.live_replies.specs.declared.serving.ServeFault.TheVariants.{Read, Write, Memory, Exhausted}
 use Rattle.live_replies.specs.Answers.{AnswersRead}
-use Rattle.live_replies.specs.Live.{LiveState}
 use Rattle.live_replies.specs.Requests.{is_quit}
 
 -- the greatest number of bytes of a line
@@ -22,7 +22,7 @@ most_line = 4096
 pub record Moment : Type 0 where
   pub rest : Option (List ℕ)
   pub held : Option (List ℕ)
-  pub live : LiveState
+  pub live : DrawingState
 
 -- one turn: what was read, the reply to it, and the moment after
 pub record Turn : Type 0 where
@@ -109,4 +109,4 @@ FailsTo Write a b = ServesTo (Err Write) a b
 
 -- the law: a session keeps the diagram that it was opened with
 abbrev pub DiagramsStay : Type 0
-DiagramsStay = (last : Result (Option End) ServeFault) (a b : Moment) → ServesTo last a b → b.live.diagram ≡ a.live.diagram
+DiagramsStay = (last : Result (Option End) ServeFault) (a b : Moment) → ServesTo last a b → b.live.document ≡ a.live.document

@@ -1,106 +1,63 @@
 //! The lines that changed.
-ghost use Rattle.std.specs.Prelude.{◌≡◌, ◌++◌, OnOk, is_some, option_copied};
+ghost use Rattle.std.specs.Prelude.{◌≡◌, ◌++◌, [], ◌∷◌, OnOk, length};
 ghost use Rattle.std.specs.List.{flat_map};
-ghost use Rattle.live_replies.specs.Changes.{are_same_corners, change_text, changes, changes_text, drawn_of, gone_of, is_reported, line_of};
+ghost use Rattle.live_replies.specs.Changes.{changes, changes_text, drawn_of};
+ghost use Rattle.live_replies.specs.Texts.{gone_text};
 
 use crate::line::{push_drawn, push_gone};
-use plane_geom::Point;
+use drawing::Compared;
 use std::alloc::{AllocError, Global};
 use walk_model::WrittenRoute;
 
-/// The line of a connector among these.
-fn line_of<'a>(lines: &'a [WrittenRoute], edge: u32) -> Option<&'a WrittenRoute>
-    ensures { option_copied result ≡ line_of lines.now edge }
+/// Appends which connectors are gone.
+fn push_all_gone(out: &mut Vec<u8>, gone: &[u32]) -> Result<(), AllocError>
+    ensures { OnOk result (out.new.items ≡ out.old.items ++ flat_map gone_text gone.now) }
 {
-    lines.iter().find(|line| line.edge == edge)
-}
-
-/// Whether both are the same corners.
-fn are_same_corners(these: &[Point], those: &[Point]) -> bool
-    ensures { result ≡ are_same_corners these.now those.now }
-{
-    these == those
-}
-
-/// Whether the connector's line stands among these.
-fn is_reported(lines: &[WrittenRoute], line: &WrittenRoute) -> bool
-    ensures { result ≡ is_reported lines.now line.now }
-{
-    match line_of(lines, line.edge) {
-        Some(reported) => are_same_corners(reported.points.as_slice(), line.points.as_slice()),
-        None => false,
-    }
-}
-
-/// Appends that the line is gone, where its connector has none among those after.
-fn push_if_gone(
-    out: &mut Vec<u8>,
-    after: &[WrittenRoute],
-    line: &WrittenRoute,
-) -> Result<(), AllocError>
-    ensures { OnOk result (out.new.items ≡ out.old.items ++ changes_text (gone_of after.now line.now)) }
-{
-    if line_of(after, line.edge).is_some() {
-        return Ok(());
-    }
-    push_gone(out, line.edge)
-}
-
-/// Appends which lines are gone.
-fn push_all_gone(
-    out: &mut Vec<u8>,
-    before: &[WrittenRoute],
-    after: &[WrittenRoute],
-) -> Result<(), AllocError>
-    ensures { OnOk result (out.new.items ≡ out.old.items
-        ++ flat_map (λ l. changes_text (gone_of after.now l)) before.now) }
-{
-    for line in before {
-        push_if_gone(out, after, line)?;
+    for edge in gone {
+        push_gone(out, *edge)?;
     }
     Ok(())
 }
 
-/// Appends the line, where it does not stand among those before.
-fn push_if_drawn(
+/// Appends the line, if it changed.
+fn push_if_changed(
     alloc: Global,
     out: &mut Vec<u8>,
-    before: &[WrittenRoute],
     line: &WrittenRoute,
+    changed: bool,
 ) -> Result<(), AllocError>
-    ensures { OnOk result (out.new.items ≡ out.old.items ++ changes_text (drawn_of before.now line.now)) }
+    ensures { OnOk result (out.new.items ≡ out.old.items ++ changes_text (drawn_of (line.now ∷ []) (changed ∷ []))) }
 {
-    if is_reported(before, line) {
+    if !changed {
         return Ok(());
     }
     push_drawn(alloc, out, line)
 }
 
-/// Appends which lines are drawn.
-fn push_all_new(
+/// Appends the lines that changed.
+fn push_all_changed(
     alloc: Global,
     out: &mut Vec<u8>,
-    before: &[WrittenRoute],
-    after: &[WrittenRoute],
+    lines: &[WrittenRoute],
+    changed: &[bool],
 ) -> Result<(), AllocError>
-    ensures { OnOk result (out.new.items ≡ out.old.items
-        ++ flat_map (λ l. changes_text (drawn_of before.now l)) after.now) }
+    requires { length changed.now ≡ length lines.now }
+    ensures { OnOk result (out.new.items ≡ out.old.items ++ changes_text (drawn_of lines.now changed.now)) }
 {
-    for line in after {
-        push_if_drawn(alloc, out, before, line)?;
+    for (place, line) in lines.iter().enumerate() {
+        push_if_changed(alloc, out, line, changed[place])?;
     }
     Ok(())
 }
 
-/// Appends the changes from the lines before to those after, one line each.
+/// Appends the connectors that are gone and the lines that changed, one line each.
 pub(crate) fn push_changes(
     alloc: Global,
     out: &mut Vec<u8>,
-    before: &[WrittenRoute],
-    after: &[WrittenRoute],
+    compared: &Compared,
 ) -> Result<(), AllocError>
-    ensures { OnOk result (out.new.items ≡ out.old.items ++ changes_text (changes before.now after.now)) }
+    ensures { OnOk result (out.new.items ≡ out.old.items ++ changes_text (changes compared.now)) }
 {
-    push_all_gone(out, before, after)?;
-    push_all_new(alloc, out, before, after)
+    push_all_gone(out, compared.gone())?;
+    push_all_changed(alloc, out, compared.lines(), compared.changed())
 }

@@ -1,7 +1,6 @@
 //! The engine of a session beside an editor: the reply to each line that the editor writes, and the loop that serves.
 #![tactic(auto)]
 
-mod calls;
 mod change;
 mod laws;
 mod line;

@@ -1,68 +1,54 @@
-//! A session beside an editor: its diagram, its scenes, and the lines that were reported to the client.
-ghost use Rattle.std.specs.Prelude.{◌≡◌, ◌≢◌, ◌⊎◌, ◌≤◌, ◌++◌, ℕ, List, [], IfErr, IfOk, OnErr, OnOk, Ok, Some};
+//! A session beside an editor: a drawing, and the reply to each line.
+ghost use Rattle.std.specs.Prelude.{◌≡◌, ◌≢◌, ◌⊎◌, ◌≤◌, ◌++◌, ℕ, List, IfOk, Ok, Some};
 ghost use Rattle.gml_text.specs.Printed.{IsPrintable};
 ghost use Rattle.gml_text.specs.View.{tree};
 ghost use Rattle.diagram_read.specs.Scene.{scene_of};
-ghost use Rattle.scene_model.specs.World.{IsDirectedCommand, opened, rolled_back};
+ghost use Rattle.scene_model.specs.World.{IsDirectedCommand};
 ghost use Rattle.scene_model.specs.declared.edit.Command.TheVariants as commands;
-ghost use Rattle.session_laws.specs.Calls.{IsCall};
-ghost use Rattle.report_text.specs.declared.refusal.Refusal.TheVariants as refusals;
-ghost use Rattle.live_replies.specs.Answers.{Answers, AnswersCommand, AnswersNoMemory, AnswersRead, AreSessionLines, ReportsChanges, ReportsDiagram, ReportsDone, ReportsLines, ReportsNext, ReportsPreview, ReportsResult, RollsBack};
+ghost use Rattle.drawing.specs.Changes.{asked_of};
+ghost use Rattle.drawing.specs.Drawing.{IsOpened, RollsBack};
+ghost use Rattle.drawing.specs.Lines.{AreDrawn};
+ghost use Rattle.live_replies.specs.Answers.{Answers, AnswersCommand, AnswersNoMemory, AnswersRead, ReportsChanges, ReportsDiagram, ReportsDone, ReportsLines, ReportsNext, ReportsPreview};
 ghost use Rattle.live_replies.specs.Changes.{changes, changes_text};
-ghost use Rattle.live_replies.specs.Live.{LiveState};
-ghost use Rattle.live_replies.specs.Requests.{IsDirectedRequest, is_quit, request_of};
+ghost use Rattle.live_replies.specs.Requests.{IsDirectedRequest, is_quit};
 ghost use Rattle.live_replies.specs.Said.{said_bytes};
-ghost use Rattle.live_replies.specs.Texts.{drawn_texts, gml_text, next_text, no_memory_line, ok_line, refused_line};
+ghost use Rattle.live_replies.specs.Texts.{drawn_texts, ok_line};
 ghost use Rattle.live_replies.specs.declared.request.Request.TheVariants as requests;
 ghost use Rattle.host_edge.specs.declared.line_source.LineRead.TheVariants as reads;
 
-use crate::calls::{call, preview};
 use crate::reply::{Said, refused};
 use crate::request::{Request, is_quit, request_of};
 use crate::text::{changes_text, gml_text, lines_text, next_text};
 use crate::why::why_text;
-use form_route::printed_diagram;
+use drawing::{Compared, Drawing};
 use gml_text::Doc;
-use nudge_phases::Nudged;
 use par_route::Gate;
 use report_text::Refusal;
-use route_session::Session;
 use scene_model::{Command, SessionFault};
 use scene_store::Scene;
 use std::alloc::{AllocError, Global};
 use std::marker::Model;
 use std::thread::Threads;
-use walk_model::WrittenRoute;
 
 /// A session beside an editor.
 ///
-/// Its model is the diagram that it was opened with, its session, and the lines that were reported to the client last.
-/// Each scene of the session comes from the diagram.
+/// Its model is that of its drawing: the session, the diagram that it was opened with, and the lines that were reported to
+/// the client last.
 #[derive(Drop)]
 pub struct Live {
     alloc: Global,
-    doc: Doc,
-    session: Session,
-    reported: Vec<WrittenRoute>,
+    drawing: Drawing,
 }
 
 impl Model for Live {
-    ghost use Rattle.gml_text.specs.View.{tree};
-    ghost use Rattle.gml_text.specs.contracts.tree.Doc as document;
-    ghost use Rattle.std.specs.Coded.{codes};
-    ghost use Rattle.live_replies.specs.Live.{LiveState, IsFromDiagram};
+    ghost use Rattle.drawing.specs.contracts.drawing.Drawing as drawings;
+    ghost use Rattle.drawing.specs.Drawing.{DrawingState};
 
-    ghost Value = { LiveState };
+    ghost Value = { DrawingState };
 
-    ghost coded = { Prim.hlevel (codes, document.the_row.coded) };
+    ghost coded = { drawings.the_row.coded };
 
-    ghost view = { λ l. record {
-      diagram = l.doc;
-      session = l.session;
-      reported = l.reported.items;
-    } };
-
-    ghost invariant = { λ l. IsFromDiagram (tree l.doc) l.session.world };
+    ghost view = { λ l. l.drawing };
 }
 
 impl Live {
@@ -81,74 +67,32 @@ impl Live {
         requires few_workers { workers ≤ 4 }
         requires source { scene_of (tree doc) ≡ Ok scene }
         requires printable { IsPrintable (tree doc) }
-        ensures diagram { IfOk result (λ l. l.diagram ≡ doc) }
-        ensures world { IfOk result (λ l. l.session.world ≡ opened scene) }
-        ensures reported { IfOk result (λ l. l.reported ≡ []) }
+        ensures opened { IfOk result (IsOpened scene) }
+        ensures document { IfOk result (λ l. l.document ≡ doc) }
     {
-        scene.valid();
-        let session = Session::open(rt, alloc, scene, workers, gate)?;
-        Ok(Live {
-            alloc,
-            doc,
-            session,
-            reported: Vec::new(alloc),
-        })
-    }
-
-    /// Calls the session as a command says.
-    fn call<R: Threads + Sync, G: Gate>(
-        &mut self,
-        rt: &R,
-        command: &Command,
-        workers: u32,
-        gate: &G,
-    ) -> Result<(), SessionFault>
-        requires some { 1 ≤ workers }
-        requires few_workers { workers ≤ 4 }
-        requires directed { IsDirectedCommand command.now }
-        requires form { command.now ≢ commands.Bad }
-        ensures call { IsCall command.now result self.old.session self.new.session }
-        ensures reported { self.new.reported ≡ self.old.reported }
-        ensures diagram { self.new.diagram ≡ self.old.diagram }
-    {
-        call(rt, &mut self.session, command, workers, gate)
-    }
-
-    /// Drops the transaction if one is open.
-    fn roll_back(&mut self)
-        ensures { RollsBack self.old self.new }
-    {
-        self.session.give_up();
-    }
-
-    /// The lines of the session's present scene.
-    fn session_lines(&self) -> Result<Vec<WrittenRoute>, AllocError>
-        ensures { IfOk result (λ lines. AreSessionLines self.now.session lines.items) }
-    {
-        self.session.right();
-        let Nudged { routes, .. } = self.session.nudged()?;
-        Ok(routes)
+        let drawing = Drawing::read(rt, alloc, doc, scene, workers, gate)?;
+        Ok(Live { alloc, drawing })
     }
 
     /// The lines of the present scene, and the text that reports what changed.
-    fn changes(&self) -> Result<(Vec<WrittenRoute>, Vec<u8>), AllocError>
-        ensures lines { IfOk result (λ r. AreSessionLines self.now.session r.0.items) }
-        ensures text { IfOk result (λ r. r.1.items ≡ changes_text (changes self.now.reported r.0.items) ++ ok_line) }
+    fn changes(&self) -> Result<(Compared, Vec<u8>), AllocError>
+        ensures drawn { IfOk result (λ r. AreDrawn self.now.session.world.present self.now.session.book r.0.lines) }
+        ensures text { IfOk result (λ r. r.1.items ≡ changes_text (changes (asked_of self.now.reported r.0.lines)) ++ ok_line) }
     {
-        let lines = self.session_lines()?;
-        let text = changes_text(self.alloc, &self.reported, &lines)?;
-        Ok((lines, text))
+        let compared = self.drawing.present_lines(self.alloc)?;
+        let text = changes_text(self.alloc, &compared)?;
+        Ok((compared, text))
     }
 
     /// Reports what changed since lines were reported to the client last.
     fn report_changes(&mut self) -> Said
         ensures reports { ReportsChanges self.old.reported self.new (said_bytes result) }
         ensures session { self.new.session ≡ self.old.session }
-        ensures diagram { self.new.diagram ≡ self.old.diagram }
+        ensures document { self.new.document ≡ self.old.document }
     {
         match self.changes() {
-            Ok((lines, text)) => {
-                self.reported = lines;
+            Ok((compared, text)) => {
+                self.drawing.report(compared);
                 Said::Text(text)
             }
             Err(AllocError) => Said::Unreported,
@@ -160,7 +104,7 @@ impl Live {
         requires { command.now ≢ commands.Bad }
         ensures reports { ReportsDone command.now self.old.reported self.new (said_bytes result) }
         ensures session { self.new.session ≡ self.old.session }
-        ensures diagram { self.new.diagram ≡ self.old.diagram }
+        ensures document { self.new.document ≡ self.old.document }
     {
         match command {
             Command::Commit | Command::Undo | Command::Redo => self.report_changes(),
@@ -182,11 +126,18 @@ impl Live {
         requires form { command.now ≢ commands.Bad }
         ensures answer { AnswersCommand command.now self.old self.new (said_bytes result) }
     {
-        match self.call(rt, command, workers, gate) {
+        match self.drawing.run_with(rt, command, workers, gate) {
             Ok(()) => self.report_done(command),
             Err(SessionFault::Memory) => Said::NoMemory,
             Err(fault) => refused(self.alloc, &Refusal::Command(fault)),
         }
+    }
+
+    /// Drops the transaction if one is open.
+    fn roll_back(&mut self)
+        ensures { RollsBack self.old self.new }
+    {
+        self.drawing.roll_back();
     }
 
     /// Reports that a line is not a valid command, which rolls back the transaction.
@@ -210,8 +161,9 @@ impl Live {
         requires working { self.now.session.world.working ≡ Some working.now }
         ensures { IfOk result (λ text. ReportsPreview self.now self.now text.items) }
     {
-        let lines = preview(rt, self.alloc, &self.session, working, workers, gate)?;
-        changes_text(self.alloc, &self.reported, &lines)
+        let drawing = &self.drawing;
+        let compared = drawing.working_lines_with(rt, self.alloc, working, workers, gate)?;
+        changes_text(self.alloc, &compared)
     }
 
     /// Reports what a commit would change, if a transaction is open.
@@ -220,20 +172,20 @@ impl Live {
         requires few_workers { workers ≤ 4 }
         ensures { Answers requests.Preview self.now self.now (said_bytes result) }
     {
-        match self.session.working() {
+        match self.drawing.session().working() {
             Some(working) => Said::of(self.preview(rt, working, workers, gate)),
             None => refused(self.alloc, &Refusal::Command(SessionFault::NoTransaction)),
         }
     }
 
     /// All lines of the present scene, and the text that reports them.
-    fn all_lines(&self) -> Result<(Vec<WrittenRoute>, Vec<u8>), AllocError>
-        ensures lines { IfOk result (λ r. AreSessionLines self.now.session r.0.items) }
-        ensures text { IfOk result (λ r. r.1.items ≡ drawn_texts r.0.items ++ ok_line) }
+    fn all_lines(&self) -> Result<(Compared, Vec<u8>), AllocError>
+        ensures drawn { IfOk result (λ r. AreDrawn self.now.session.world.present self.now.session.book r.0.lines) }
+        ensures text { IfOk result (λ r. r.1.items ≡ drawn_texts r.0.lines ++ ok_line) }
     {
-        let lines = self.session_lines()?;
-        let text = lines_text(self.alloc, &lines)?;
-        Ok((lines, text))
+        let compared = self.drawing.present_lines(self.alloc)?;
+        let text = lines_text(self.alloc, compared.lines())?;
+        Ok((compared, text))
     }
 
     /// Reports all lines of the present scene.
@@ -241,8 +193,8 @@ impl Live {
         ensures { ReportsLines self.old self.new (said_bytes result) ⊎ AnswersNoMemory self.old self.new (said_bytes result) }
     {
         match self.all_lines() {
-            Ok((lines, text)) => {
-                self.reported = lines;
+            Ok((compared, text)) => {
+                self.drawing.report(compared);
                 Said::Text(text)
             }
             Err(AllocError) => Said::NoMemory,
@@ -253,7 +205,7 @@ impl Live {
     fn diagram(&self) -> Result<Vec<u8>, AllocError>
         ensures { IfOk result (λ text. ReportsDiagram self.now self.now text.items) }
     {
-        let diagram = printed_diagram(self.alloc, &self.doc, &self.session)?;
+        let diagram = self.drawing.text(self.alloc)?;
         gml_text(self.alloc, &diagram)
     }
 
@@ -261,7 +213,7 @@ impl Live {
     fn next(&self) -> Result<Vec<u8>, AllocError>
         ensures { IfOk result (λ text. ReportsNext self.now self.now text.items) }
     {
-        next_text(self.alloc, self.session.scene().next_edge())
+        next_text(self.alloc, self.drawing.next_number())
     }
 
     /// Does what a request asks for, and reports the result.
@@ -287,7 +239,7 @@ impl Live {
             Request::Lines => self.report_lines(),
             Request::Gml => Said::of(self.diagram()),
             Request::Next => Said::of(self.next()),
-            Request::Why => Said::of(why_text(self.alloc, &self.session)),
+            Request::Why => Said::of(why_text(self.alloc, self.drawing.session())),
         }
     }
 

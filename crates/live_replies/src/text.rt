@@ -5,19 +5,16 @@ ghost use Rattle.live_replies.specs.Texts.{drawn_texts, gml_text, next_text, ok_
 
 use crate::change::push_changes;
 use crate::line::{push_all_drawn, push_gml, push_next, push_ok};
+use drawing::Compared;
 use std::alloc::{AllocError, Global};
 use walk_model::WrittenRoute;
 
-/// The text that reports the changes from the lines before to those after.
-pub(crate) fn changes_text(
-    alloc: Global,
-    before: &[WrittenRoute],
-    after: &[WrittenRoute],
-) -> Result<Vec<u8>, AllocError>
-    ensures { IfOk result (λ text. text.items ≡ changes_text (changes before.now after.now) ++ ok_line) }
+/// The text that reports what changed.
+pub(crate) fn changes_text(alloc: Global, compared: &Compared) -> Result<Vec<u8>, AllocError>
+    ensures { IfOk result (λ text. text.items ≡ changes_text (changes compared.now) ++ ok_line) }
 {
     let mut text = Vec::new(alloc);
-    push_changes(alloc, &mut text, before, after)?;
+    push_changes(alloc, &mut text, compared)?;
     push_ok(&mut text)?;
     Ok(text)
 }

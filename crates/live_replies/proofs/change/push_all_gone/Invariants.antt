@@ -1,9 +1,8 @@
--- What is reported so far, and the lines that are left, give the whole.
+-- What is reported so far, and the connectors that are left, give the whole.
 use Rattle.std.proofs.Common.{◌≡◌, ◌++◌, drop}
 use Rattle.std.specs.List.{flat_map}
-use Rattle.live_replies.specs.Changes.{changes_text, gone_of}
+use Rattle.live_replies.specs.Texts.{gone_text}
 use Rattle.live_replies.proofs.change.push_all_gone.Given as goal
 
-abbrev pub invariant-loop-line : goal.invariant-loop-line
-invariant-loop-line l =
-    l.out.items ++ flat_map (λ k. changes_text (gone_of l.after k)) (drop l.line-index l.before) ≡ l.fn.out.items ++ flat_map (λ k. changes_text (gone_of l.after k)) l.before
+abbrev pub invariant-loop-edge : goal.invariant-loop-edge
+invariant-loop-edge l = l.out.items ++ flat_map gone_text (drop l.edge-index l.gone) ≡ l.fn.out.items ++ flat_map gone_text l.gone

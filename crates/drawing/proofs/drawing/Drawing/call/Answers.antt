@@ -1,7 +1,7 @@
 -- What is called keeps the scenes of the document.
 use Rattle.gml_text.specs.View.{tree}
 use Rattle.drawing.proofs.Sources.{source_called}
-use Rattle.drawing.proofs.drawing.Drawing.run.Goals as goal
+use Rattle.drawing.proofs.drawing.Drawing.call.Goals as goal
 
 pub invariant_of-self : goal.invariant_of-self
 invariant_of-self c =
