@@ -64,7 +64,7 @@ CLOSED = (
     (f'{NODE} node [ id 2 graphics [ x 0 y 0 w 90 h 90 ] ]', '', 'each way out of its source, box 1, is closed, the first by box 2'),
     (f'{NODE} {OTHER}', 'via [ x 200 y 0 ]', 'its checkpoint 1 at (200, 0) lies inside box 2'),
     (f'{NODE} {OTHER} ' + ' '.join(f'node [ id {k} graphics [ x {x} y {y} w {w} h {h} ] ]' for k, x, y, w, h in (
-        (3, 0, -50, 140, 20), (4, 0, 50, 140, 20), (5, -60, 0, 20, 120), (6, 60, 0, 20, 120))), '', 'its ends and checkpoints lie in parts of the sheet'),
+        (3, 0, -50, 140, 20), (4, 0, 50, 140, 20), (5, -60, 0, 20, 120), (6, 60, 0, 20, 120))), '', 'boxes leave no way between its ends and checkpoints'),
     (f'{NODE} {OTHER} ' + ' '.join(f'node [ id {k} graphics [ x {x} y {y} ] ]' for k, x, y in (
         (3, 32, 0), (4, -32, 0), (5, 0, 32), (6, 0, -32))), '', 'is closed, the first by box 3'),
     (f'{NODE} {OTHER} node [ id 3 graphics [ x 200 y 0 w 90 h 90 ] ]', '', 'each way out of its target, box 2, is closed, the first by box 3'))
