@@ -1,9 +1,9 @@
 //! A command as a call of a drawing's session: the one place that tells commands apart.
-ghost use Rattle.std.specs.Prelude.{◌≡◌, ◌≢◌, ◌≤◌, IfErr, Ok, OnErr, OnOk};
+ghost use Rattle.std.specs.Prelude.{◌≢◌, ◌≤◌, IfErr};
 ghost use Rattle.drawing.specs.Drawing.{IsDrawingCall, IsRefusable, RollsBack, Searches};
-ghost use Rattle.scene_model.specs.World.{IsDirectedCommand, rolled_back, step};
+ghost use Rattle.scene_model.specs.World.{IsDirectedCommand};
 ghost use Rattle.scene_model.specs.declared.edit.Command.TheVariants as commands;
-ghost use Rattle.session_laws.specs.Calls.{IsFaultOf};
+ghost use Rattle.session_laws.specs.Calls.{IsCall};
 
 use crate::drawing::Drawing;
 use par_route::Gate;
@@ -16,9 +16,7 @@ fn made(session: &mut Session, command: &Command) -> Result<(), SessionFault>
     requires directed { IsDirectedCommand command.now }
     requires form { command.now ≢ commands.Bad }
     requires other { command.now ≢ commands.Commit }
-    ensures ok { OnOk result (step command.now session.old.world ≡ Ok session.new.world) }
-    ensures fault { IfErr result (IsFaultOf command.now session.old.world) }
-    ensures err { OnErr result (session.new.world ≡ rolled_back session.old.world) }
+    ensures call { IsCall command.now result session.old session.new }
     ensures searches { Searches command.now result session.old session.new }
     ensures refusable { IfErr result (IsRefusable command.now) }
 {
@@ -40,9 +38,7 @@ impl Drawing {
         requires other { command.now ≢ commands.Commit }
         ensures { IsDrawingCall command.now result self.old self.new }
     {
-        let answer = made(&mut self.session, command);
-        self.session.right();
-        answer
+        made(&mut self.session, command)
     }
 
     /// Closes the transaction. The stale connectors are searched by this thread alone.

@@ -5,5 +5,4 @@ use Rattle.drawing.proofs.drawing.Drawing.call.Goals as goal
 
 pub invariant_of-self : goal.invariant_of-self
 invariant_of-self c =
-    source_called (tree c.self.inside.doc) c.args.command.now c.made-answer.result c.self.inside.session c.made-answer.new.session c.requires.directed
-    (record { ok = c.made-answer.ensures.ok; fault = c.made-answer.ensures.fault; err = c.made-answer.ensures.err; right = c.right.ensures }) c.self.invariant
+    source_called (tree c.self.inside.doc) c.args.command.now c.made.result c.self.inside.session c.made.new.session c.requires.directed c.made.ensures.call c.self.invariant

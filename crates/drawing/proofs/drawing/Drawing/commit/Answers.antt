@@ -6,6 +6,4 @@ use Rattle.drawing.proofs.drawing.Drawing.commit.Goals as goal
 
 pub invariant_of-self : goal.invariant_of-self
 invariant_of-self g c =
-    let e = c.commit.ensures in
-    source_called (tree c.self.inside.doc) Commit c.commit.result c.self.inside.session c.commit.new.self tt
-    (record { ok = e.ok; fault = e.fault; err = e.err; right = e.right }) c.self.invariant
+    source_called (tree c.self.inside.doc) Commit c.commit.result c.self.inside.session c.commit.new.self tt c.commit.ensures.call c.self.invariant

@@ -6,6 +6,4 @@ use Rattle.drawing.proofs.drawing.Drawing.commit_alone.Goals as goal
 
 pub invariant_of-self : goal.invariant_of-self
 invariant_of-self c =
-    let e = c.commit_alone.ensures in
-    source_called (tree c.self.inside.doc) Commit c.commit_alone.result c.self.inside.session c.commit_alone.new.self tt
-    (record { ok = e.ok; fault = e.fault; err = e.err; right = e.right }) c.self.invariant
+    source_called (tree c.self.inside.doc) Commit c.commit_alone.result c.self.inside.session c.commit_alone.new.self tt c.commit_alone.ensures.call c.self.invariant
