@@ -2,8 +2,8 @@
 use Rattle.std.proofs.Common.{◌≡◌, ℕ, ◌+◌, ◌<◌, List, [], ◌∷◌, ◌++◌, length, map, take, drop, get_or, Ok, refl, sym, ap, subst, ◌∙◌}
 use Rattle.std.proofs.lemmas.List.{drop_more, map_push, take-append-drop, take_more}
 use Rattle.scene_model.specs.declared.edit.Command.{Command}
-use Rattle.session_laws.specs.State.{State}
-use Rattle.session_laws.specs.Calls.{AreCalls, IsCall, CommandResult}
+use Rattle.session_model.specs.State.{State}
+use Rattle.session_model.specs.Calls.{AreCalls, IsCall, CommandResult}
 use Rattle.drawing.specs.Drawing.{DrawingState, IsDrawingCall, Keeps}
 use Rattle.drawing.specs.declared.script.Stopped.{Stopped}
 use Rattle.drawing.specs.Played.{AreDone, IsRefused, StopsAt, done}

@@ -5,7 +5,7 @@ use Rattle.walk_model.specs.declared.route.WrittenRoute.{WrittenRoute}
 use Rattle.scene_model.specs.declared.edit.Command.TheVariants.{Commit}
 use Rattle.scene_model.specs.Scene.{Scene}
 use Rattle.scene_model.specs.World.{taken}
-use Rattle.session_laws.specs.State.{State}
+use Rattle.session_model.specs.State.{State}
 use Rattle.drawing.specs.Lines.{AreDrawn, AreProposed}
 
 -- a commit is done, and the lines are those of the session after it

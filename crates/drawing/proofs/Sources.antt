@@ -11,8 +11,8 @@ use Rattle.scene_model.specs.Valid.{IsValid}
 use Rattle.scene_model.specs.World.{World, EditsKeep, IsDirectedCommand, rolled_back, next_world, opened, or_rolled_back}
 use Rattle.scene_model.proofs.Editing.Worlds.{after_keeps}
 use Rattle.gml_scene.proofs.OriginsKept.{edits_keep_origins, own_scenes_fit}
-use Rattle.session_laws.specs.Calls.{IsCall}
-use Rattle.session_laws.specs.State.{State}
+use Rattle.session_model.specs.Calls.{IsCall}
+use Rattle.session_model.specs.State.{State}
 use Rattle.drawing.specs.Drawing.{ComesFrom, IsSource}
 
 edits_keep : (was : Scene) → EditsKeep (ComesFrom was)

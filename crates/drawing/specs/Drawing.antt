@@ -13,8 +13,8 @@ use Rattle.scene_model.specs.declared.fault.SessionFault.TheVariants.{NoTransact
 use Rattle.scene_model.specs.Answers.{AreAnswers}
 use Rattle.scene_model.specs.Scene.{Scene, connectors}
 use Rattle.scene_model.specs.World.{World, Everywhere, rolled_back, opened}
-use Rattle.session_laws.specs.Calls.{IsCall}
-use Rattle.session_laws.specs.State.{State}
+use Rattle.session_model.specs.Calls.{IsCall}
+use Rattle.session_model.specs.State.{State}
 use Rattle.route_book.specs.Exchange.{CountsStale}
 use Rattle.gml_scene.specs.Origins.{AreEdgesOf, AreNodesOf}
 use Rattle.form_route.specs.Diagram.{IsDiagram}

@@ -2,14 +2,14 @@
 use Rattle.std.specs.Prelude.{List, IsNone, IsSome, Ok}
 use Rattle.walk_model.specs.declared.route.WrittenRoute.{WrittenRoute}
 use Rattle.walk_model.specs.declared.route.Answer.{Answer}
-use Rattle.nudge_laws.specs.Apart.{KeepsApart}
+use Rattle.nudge_phases.specs.Apart.{KeepsApart}
 use Rattle.nudge_phases.specs.Nudged.{AreLegalNudgedLines}
 use Rattle.scene_model.specs.Scene.{Scene}
 use Rattle.scene_model.specs.declared.edit.Command.TheVariants.{Commit}
 use Rattle.scene_model.specs.declared.fault.SessionFault.{SessionFault}
 use Rattle.scene_model.specs.declared.fault.SessionFault.TheVariants.{Memory, NoTransaction}
-use Rattle.session_laws.specs.Calls.{IsCall}
-use Rattle.session_laws.specs.State.{State}
+use Rattle.session_model.specs.Calls.{IsCall}
+use Rattle.session_model.specs.State.{State}
 use Rattle.form_route.specs.Routes.{AreLines}
 
 -- the lines are those of the right answers of the scene, nudged; they are legal, and their separations are met

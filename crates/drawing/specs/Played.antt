@@ -2,7 +2,7 @@
 use Rattle.std.specs.Prelude.{◌≡◌, ℕ, List, ◌∷◌, ◌++◌, map, Option, None, Some, Ok, Err}
 use Rattle.scene_model.specs.declared.edit.Command.{Command}
 use Rattle.scene_model.specs.declared.edit.Command.TheVariants.{Bad}
-use Rattle.session_laws.specs.Calls.{AreCalls, CommandResult}
+use Rattle.session_model.specs.Calls.{AreCalls, CommandResult}
 use Rattle.drawing.specs.declared.script.Why.{Why}
 use Rattle.drawing.specs.declared.script.Why.TheVariants.{NoForm, Refused}
 use Rattle.drawing.specs.declared.script.Stopped.{Stopped}

@@ -3,7 +3,7 @@ ghost use Rattle.std.specs.Prelude.{◌≢◌, ◌≤◌, IfErr};
 ghost use Rattle.drawing.specs.Drawing.{IsDrawingCall, IsRefusable, RollsBack, Searches};
 ghost use Rattle.scene_model.specs.World.{IsDirectedCommand};
 ghost use Rattle.scene_model.specs.declared.edit.Command.TheVariants as commands;
-ghost use Rattle.session_laws.specs.Calls.{IsCall};
+ghost use Rattle.session_model.specs.Calls.{IsCall};
 
 use crate::drawing::Drawing;
 use par_route::Gate;

@@ -6,8 +6,8 @@ use Rattle.std.specs.declared.alloc.Global.{Global}
 use Rattle.std.specs.declared.cmp.Reverse.{Reverse}
 use Rattle.std.proofs.lemmas.Bool.{cases_lt}
 use Rattle.std.proofs.lemmas.List.{get_or_default}
-use Rattle.candidate_queue.specs.declared.queue.Candidate.{Candidate}
-use Rattle.candidate_queue.specs.declared.queue.Queue.{Queue}
+use Rattle.search_problem.specs.declared.queue.Candidate.{Candidate}
+use Rattle.search_problem.specs.declared.queue.Queue.{Queue}
 use Rattle.plane_geom.specs.declared.point.Point.{Point}
 use Rattle.plane_geom.specs.declared.point.Dir.{Dir}
 use Rattle.plane_geom.specs.declared.point.Way.{Way}
@@ -16,9 +16,9 @@ use Rattle.line_arena.specs.Arena.{StandsAt}
 use Rattle.walk_laws.proofs.OnKeptLines.Lines.{chosen}
 use Rattle.line_lists.specs.Lists.{Lists, number_of}
 use Rattle.move_model.specs.Places.{ComesTo}
-use Rattle.search_labels.specs.Problems.{IsReady}
-use Rattle.search_labels.specs.declared.ends.Ending.{Ending}
-use Rattle.search_labels.specs.declared.problem.Problem.{Problem}
+use Rattle.search_problem.specs.Problems.{IsReady}
+use Rattle.search_problem.specs.declared.ends.Ending.{Ending}
+use Rattle.search_problem.specs.declared.problem.Problem.{Problem}
 use Rattle.exit_rows.specs.Exits.{IsLate}
 use Rattle.exit_rows.specs.Rows.{IsClear, exits_in, kept_in, row_of}
 use Rattle.exit_rows.specs.declared.exit.Exit.{Exit}
@@ -32,7 +32,7 @@ use Rattle.exit_spread.specs.Taking.{Grows, IsExit}
 use Rattle.exit_spread.proofs.Sizes.{small_ending}
 use Rattle.exit_spread.proofs.Spreading.Still.{still_late}
 use Rattle.exit_spread.proofs.Taking.Offered.{grows_both, grows_offered, same_searching}
-use Rattle.candidate_queue.proofs.Queues.{none_all, none_has, pop_all, pop_count, pop_one, pop_or_rest}
+use Rattle.search_problem.proofs.Queues.{none_all, none_has, pop_all, pop_count, pop_one, pop_or_rest}
 
 -- ---- without exits
 

@@ -16,10 +16,10 @@ use Rattle.walk_model.specs.Choice.{IsChoice}
 use Rattle.walk_laws.proofs.OnKeptLines.Lines.{chosen}
 use Rattle.move_model.specs.declared.ahead.Ahead.{Ahead}
 use Rattle.move_model.proofs.GoingOn.Rests.{crossing_on_sheet}
-use Rattle.search_labels.specs.Ends.{IsEndingOf}
-use Rattle.search_labels.specs.Problems.{IsReady}
-use Rattle.search_labels.specs.declared.ends.Ending.{Ending}
-use Rattle.search_labels.specs.declared.problem.Problem.{Problem}
+use Rattle.search_problem.specs.Ends.{IsEndingOf}
+use Rattle.search_problem.specs.Problems.{IsReady}
+use Rattle.search_problem.specs.declared.ends.Ending.{Ending}
+use Rattle.search_problem.specs.declared.problem.Problem.{Problem}
 use Rattle.exit_rows.specs.Exits.{CountsAt, IsSmallKept, ahead_at, least_at}
 use Rattle.exit_rows.specs.declared.exit.Kept.{Kept}
 use Rattle.exit_rows.proofs.Least.{attained}

@@ -18,9 +18,9 @@ use Rattle.move_model.specs.declared.place.Place.{Place}
 use Rattle.move_model.specs.declared.ahead.Ahead.{Ahead}
 use Rattle.move_model.specs.declared.ahead.Stretch.{Stretch}
 use Rattle.move_model.specs.Ahead.{nothing, with_stretch}
-use Rattle.search_labels.specs.Problems.{IsReady}
-use Rattle.search_labels.specs.declared.ends.Ending.{Ending}
-use Rattle.search_labels.specs.declared.problem.Problem.{Problem}
+use Rattle.search_problem.specs.Problems.{IsReady}
+use Rattle.search_problem.specs.declared.ends.Ending.{Ending}
+use Rattle.search_problem.specs.declared.problem.Problem.{Problem}
 use Rattle.exit_rows.specs.Exits.{IsSmallKept}
 use Rattle.exit_rows.specs.Rows.{kept_in}
 use Rattle.exit_rows.proofs.Least.{lesser_one}

@@ -9,8 +9,8 @@ use Rattle.plane_geom.specs.Along.{reach, way_of}
 use Rattle.move_model.specs.declared.place.Place.{Place}
 use Rattle.move_model.specs.declared.ahead.Ahead.{Ahead}
 use Rattle.move_model.specs.Ahead.{nothing, with_stretch}
-use Rattle.search_labels.specs.declared.ends.Ending.{Ending}
-use Rattle.search_labels.specs.declared.problem.Problem.{Problem}
+use Rattle.search_problem.specs.declared.ends.Ending.{Ending}
+use Rattle.search_problem.specs.declared.problem.Problem.{Problem}
 use Rattle.exit_rows.specs.Exits.{least_at, lesser}
 use Rattle.exit_rows.specs.Rows.{kept_in}
 use Rattle.exit_spread.specs.declared.spread.Spread.{Spread}

@@ -14,7 +14,7 @@ use Rattle.move_model.specs.declared.place.Place.{Place}
 use Rattle.move_model.specs.declared.ahead.Ahead.{Ahead}
 use Rattle.move_model.specs.Places.{ComesTo}
 use Rattle.move_model.specs.Stations.{line_between}
-use Rattle.search_labels.specs.declared.problem.Problem.{Problem}
+use Rattle.search_problem.specs.declared.problem.Problem.{Problem}
 use Rattle.exit_rows.specs.Exits.{CountsAt, IsLate, IsUndercut, ahead_at}
 use Rattle.exit_rows.specs.Rows.{kept_in}
 use Rattle.exit_rows.specs.declared.exit.Exit.{Exit}

@@ -2,7 +2,7 @@
 use Rattle.std.specs.Prelude.{ℕ, ◌≡◌, ◌+◌, ◌*◌, ◌<◌, ◌≤◌, ◌≤ℤ◌, ℤ, pos, ◌-ℤ◌, unsigned_abs, length, Contains, All, List, None, Some}
 use Rattle.std.specs.BinaryHeap.{heap_items}
 use Rattle.std.specs.declared.cmp.Reverse.{Reverse}
-use Rattle.candidate_queue.specs.declared.queue.Candidate.{Candidate}
+use Rattle.search_problem.specs.declared.queue.Candidate.{Candidate}
 use Rattle.plane_geom.specs.declared.point.Point.{Point}
 use Rattle.plane_geom.specs.declared.point.Dir.{Dir}
 use Rattle.plane_geom.specs.declared.point.Dir.TheVariants.{East, South, West, North}
@@ -14,7 +14,7 @@ use Rattle.line_lists.specs.Lists.{AreListsOf, Lists}
 use Rattle.line_lists.specs.declared.stop.Stop.{Stop}
 use Rattle.move_model.specs.declared.ahead.Ahead.{Ahead}
 use Rattle.move_model.specs.Places.{ComesTo}
-use Rattle.search_labels.specs.declared.problem.Problem.{Problem}
+use Rattle.search_problem.specs.declared.problem.Problem.{Problem}
 use Rattle.side_touches.specs.Touches.{AreTouches, LineTouches}
 use Rattle.exit_rows.specs.Exits.{CountsAt, ahead_at}
 use Rattle.exit_rows.specs.declared.exit.Exit.{Exit}

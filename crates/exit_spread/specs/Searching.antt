@@ -1,7 +1,7 @@
 -- The invariants of exits that are spread, and how much there is still to do.
 use Rattle.std.specs.Prelude.{ℕ, ◌≡◌, ◌≢◌, ◌+◌, ◌*◌, ◌<◌, ◌≤◌, [], length, sum_by, Option, Some, None, Contains, All}
 use Rattle.std.specs.BinaryHeap.{heap_items}
-use Rattle.candidate_queue.specs.declared.queue.Candidate.{Candidate}
+use Rattle.search_problem.specs.declared.queue.Candidate.{Candidate}
 use Rattle.plane_geom.specs.declared.point.Point.{Point}
 use Rattle.plane_geom.specs.declared.point.Dir.{Dir}
 use Rattle.plane_geom.specs.declared.point.Way.{Way}
@@ -10,9 +10,9 @@ use Rattle.line_arena.specs.Arena.{StandsAt}
 use Rattle.line_lists.specs.Lists.{Lists}
 use Rattle.move_model.specs.Ahead.{nothing, with_stretch}
 use Rattle.move_model.specs.Places.{ComesTo}
-use Rattle.search_labels.specs.Bounds.{most_cost}
-use Rattle.search_labels.specs.declared.ends.Ending.{Ending}
-use Rattle.search_labels.specs.declared.problem.Problem.{Problem}
+use Rattle.search_problem.specs.Bounds.{most_cost}
+use Rattle.search_problem.specs.declared.ends.Ending.{Ending}
+use Rattle.search_problem.specs.declared.problem.Problem.{Problem}
 use Rattle.exit_rows.specs.Exits.{IsSmallAhead}
 use Rattle.exit_rows.specs.Rows.{HasRow, IsClear, IsMarked, kept_in}
 use Rattle.exit_rows.specs.Weights.{rows_weight}

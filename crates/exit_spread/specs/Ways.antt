@@ -12,8 +12,8 @@ use Rattle.move_model.specs.declared.place.Place.{Place}
 use Rattle.move_model.specs.declared.ahead.Ahead.{Ahead}
 use Rattle.move_model.specs.Ahead.{ahead, with_stretch}
 use Rattle.move_model.specs.Ways.{IsWay, Leg, steps_of_way}
-use Rattle.search_labels.specs.Bounds.{bound_of, most_cost}
-use Rattle.search_labels.specs.declared.problem.Problem.{Problem}
+use Rattle.search_problem.specs.Bounds.{bound_of, most_cost}
+use Rattle.search_problem.specs.declared.problem.Problem.{Problem}
 
 -- no first walk has more runs
 abbrev pub most_runs : ℕ

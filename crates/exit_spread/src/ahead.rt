@@ -3,7 +3,7 @@ ghost use Rattle.std.specs.Prelude.{◌≡◌, ◌≤◌, None, Contains, length
 ghost use Rattle.line_arena.specs.Arena.{StandsAt};
 ghost use Rattle.line_lists.specs.Lists.{AreListsOf, number_of};
 ghost use Rattle.plane_geom.specs.declared.point.Point.{Point as PointOf};
-ghost use Rattle.search_labels.specs.Problems.{IsReady};
+ghost use Rattle.search_problem.specs.Problems.{IsReady};
 ghost use Rattle.exit_spread.specs.Known.{by_ending, known, known_onwards, known_towards};
 ghost use Rattle.exit_spread.specs.Searching.{IsSearching};
 
@@ -13,7 +13,7 @@ use exit_rows::lesser;
 use line_lists::LineLists;
 use move_model::{Ahead, Place, Stretch};
 use plane_geom::Dir;
-use search_labels::{Ending, NOTHING, Problem};
+use search_problem::{Ending, NOTHING, Problem};
 use side_touches::reach;
 
 /// What is ahead of the place by the stub of the ending, if the walk may end there.

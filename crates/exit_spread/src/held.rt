@@ -8,7 +8,7 @@ ghost use Rattle.plane_geom.specs.Rect.{HasWithin};
 ghost use Rattle.plane_geom.specs.declared.floor.Line.{Line};
 ghost use Rattle.plane_geom.specs.declared.point.Point.{Point as PointOf};
 ghost use Rattle.plane_geom.specs.declared.rect.Solid.{Solid};
-ghost use Rattle.search_labels.specs.Problems.{IsReady};
+ghost use Rattle.search_problem.specs.Problems.{IsReady};
 ghost use Rattle.side_touches.specs.Touches.{AreTouches, IsRunOn, IsTouched};
 ghost use Rattle.walk_laws.specs.Sides.{held_to};
 ghost use Rattle.walk_model.specs.Cost.{turn};
@@ -17,7 +17,7 @@ ghost use Rattle.exit_spread.specs.Offers.{IsHeldUpTo, MayBegin};
 
 use crate::run::{Run, crosswise, lies_up_to};
 use plane_geom::{Dir, Point, Way};
-use search_labels::{Origin, Problem};
+use search_problem::{Origin, Problem};
 use side_touches::{Touches, reach};
 
 /// To which side a run is held, by the directions of the steps before it and behind it.

@@ -12,8 +12,8 @@ ghost use Rattle.move_model.specs.Ways.{GoesAlongWay, HasRest, Leg, steps_of_way
 ghost use Rattle.move_model.specs.declared.ahead.Ahead.{Ahead};
 ghost use Rattle.move_model.specs.declared.place.Place.{Place};
 ghost use Rattle.plane_geom.specs.declared.point.Point.{Point};
-ghost use Rattle.search_labels.specs.Problems.{IsReady};
-ghost use Rattle.search_labels.specs.declared.problem.Problem.{Problem};
+ghost use Rattle.search_problem.specs.Problems.{IsReady};
+ghost use Rattle.search_problem.specs.declared.problem.Problem.{Problem};
 ghost use Rattle.walk_model.specs.Order.{IsFirst, Triple};
 
 /// After a spread, what is known to lie ahead of a place is ahead on some way from it. At each

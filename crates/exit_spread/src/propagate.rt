@@ -6,7 +6,7 @@ ghost use Rattle.move_model.specs.Places.{ComesTo};
 ghost use Rattle.plane_geom.specs.Along.{across, reach, way_of};
 ghost use Rattle.plane_geom.specs.Point.{PointIsOnSheet, opposite};
 ghost use Rattle.plane_geom.specs.declared.point.Point.{Point as PointOf};
-ghost use Rattle.search_labels.specs.Problems.{IsReady};
+ghost use Rattle.search_problem.specs.Problems.{IsReady};
 ghost use Rattle.walk_model.specs.Cost.{turn};
 ghost use Rattle.exit_rows.specs.Exits.{CountsAt, IsSmallKept, ahead_at};
 ghost use Rattle.exit_spread.specs.Propagating.{Adds, AreOf, IsBehind, IsFurtherAhead, IsMetAt, IsRun, IsSound, IsTurnedAt, IsTurnedOff, reach_along};
@@ -21,7 +21,7 @@ use line_arena::CrossId;
 use line_lists::{LineLists, Stop};
 use move_model::{Ahead, Place, Stretch};
 use plane_geom::{Dir, Point};
-use search_labels::{Entry, Problem};
+use search_problem::{Entry, Problem};
 use side_touches::{Touches, reach};
 use std::alloc::AllocError;
 

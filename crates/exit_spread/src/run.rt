@@ -4,7 +4,7 @@ ghost use Rattle.exit_rows.specs.Exits.{IsSmallKept, ahead_at};
 ghost use Rattle.plane_geom.specs.Along.{reach};
 ghost use Rattle.plane_geom.specs.Floor.{point_on};
 ghost use Rattle.plane_geom.specs.Point.{IsCoordinate, PointIsOnSheet};
-ghost use Rattle.search_labels.specs.Bounds.{most_cost};
+ghost use Rattle.search_problem.specs.Bounds.{most_cost};
 ghost use Rattle.exit_spread.specs.Propagating.{LiesUpTo, crosswise, reach_along};
 ghost use Rattle.exit_spread.specs.Offers.{from_after, from_of};
 ghost use Rattle.line_lists.specs.declared.stop.Stop.{Stop as StopOf};

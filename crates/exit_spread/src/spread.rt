@@ -7,9 +7,9 @@ ghost use Rattle.move_model.specs.Places.{ComesTo};
 ghost use Rattle.plane_geom.specs.Along.{way_of};
 ghost use Rattle.plane_geom.specs.declared.point.Point.{Point as PointOf};
 ghost use Rattle.plane_geom.specs.declared.point.Way.{Way};
-ghost use Rattle.search_labels.specs.Bounds.{most_cost};
+ghost use Rattle.search_problem.specs.Bounds.{most_cost};
 ghost use Rattle.side_touches.specs.Touches.{AreTouches};
-ghost use Rattle.search_labels.specs.Problems.{IsReady};
+ghost use Rattle.search_problem.specs.Problems.{IsReady};
 ghost use Rattle.exit_rows.specs.Exits.{IsLate};
 ghost use Rattle.exit_rows.specs.Rows.{IsMarked, kept_in};
 ghost use Rattle.exit_spread.specs.Propagating.{Adds, AreOf, IsOfferable, IsSound};
@@ -19,12 +19,12 @@ ghost use Rattle.exit_spread.specs.Taking.{Grows, IsExit};
 ghost use Rattle.exit_spread.specs.Ways.{IsWayAhead, place_at};
 
 use crate::run::{Run, counts_from};
-use candidate_queue::{Candidate, Queue};
+use search_problem::{Candidate, Queue};
 use exit_rows::{Exit, Kept, Rows};
 use line_lists::LineLists;
 use move_model::{Place, Stretch};
 use plane_geom::{Dir, Point};
-use search_labels::{Ending, MOST_COST, MOST_RUNS, NOTHING, Problem, stage_at};
+use search_problem::{Ending, MOST_COST, MOST_RUNS, NOTHING, Problem, stage_at};
 use side_touches::{Touches, reach};
 use std::alloc::{AllocError, Global};
 

@@ -1,4 +1,8 @@
--- The lemmas on generated scenes, callees first.
+-- The lemmas on what is generated from a seed, callees first.
+pub mod DrawLemmas
+pub mod Nodes
+pub mod Unrefused
+pub mod Steps
 pub mod Bends
 pub mod Summing
 pub mod Script

@@ -5,9 +5,9 @@ use Rattle.walk_model.specs.declared.route.Answer.{Answer}
 use Rattle.scene_model.specs.Scene.{connectors}
 use Rattle.scene_model.specs.World.{opened}
 use Rattle.scene_model.proofs.ForRouting.OneList.{one_list}
-use Rattle.generated_input.specs.declared.summary.Summary.{Summary}
-use Rattle.generated_input.specs.Made.{made_scene}
-use Rattle.generated_input.specs.Summary.{summary_text}
+use Rattle.form_make.specs.declared.summary.Summary.{Summary}
+use Rattle.form_make.specs.Made.{made_scene}
+use Rattle.form_make.specs.Summary.{summary_text}
 use Rattle.script_replay.specs.Replies.{HaveOneListOfReplies, searched_in, world_after}
 use Rattle.form_make.specs.Makes.{SeedsComeToOne, made_script}
 use Rattle.form_make.specs.Sums.{SumsUp}

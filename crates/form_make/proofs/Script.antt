@@ -7,8 +7,8 @@ use Rattle.std.proofs.lemmas.List.Concat.{flat_map-append}
 use Rattle.scene_model.specs.declared.edit.Command.{Command}
 use Rattle.scene_model.specs.declared.edit.Command.TheVariants.{Undo}
 use Rattle.scene_model.specs.World.{IsDirectedCommand}
-use Rattle.generated_input.specs.Draws.{first, state_after}
-use Rattle.generated_input.specs.Made.{made_commands, made_transaction}
+use Rattle.form_make.specs.Draws.{first, state_after}
+use Rattle.form_make.specs.Made.{made_commands, made_transaction}
 use Rattle.script_replay.specs.Replies.{AreDirected}
 use Rattle.form_make.specs.Makes.{made_script, numbered_from}
 

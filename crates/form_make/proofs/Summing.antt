@@ -20,7 +20,7 @@ use Rattle.scene_model.specs.Valid.{IsValid}
 use Rattle.scene_model.proofs.ForRouting.Floors.{floors_fit, floors_hold_tasks}
 use Rattle.nudge_phases.proofs.Answered.{IsAnswered, answered_at}
 use Rattle.nudge_phases.proofs.Zips.{zip_count}
-use Rattle.generated_input.specs.declared.summary.Summary.{Summary}
+use Rattle.form_make.specs.declared.summary.Summary.{Summary}
 use Rattle.form_make.specs.Sums.{SumsUp, cost_of_route}
 use Rattle.form_make.proofs.Bends.{bends_in, few_bends, have_bends}
 

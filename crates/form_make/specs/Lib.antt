@@ -1,3 +1,6 @@
--- The result of the commands that are generated from a seed.
+-- What is generated from a seed, and the result of its commands.
+pub mod Draws
+pub mod Made
+pub mod Summary
 pub mod Sums
 pub mod Makes

@@ -6,9 +6,9 @@ use Rattle.scene_model.specs.Scene.{connectors}
 use Rattle.scene_model.specs.Answers.{AreAnswers}
 use Rattle.scene_model.specs.World.{opened}
 use Rattle.report_text.specs.declared.reply.LineReply.{LineReply}
-use Rattle.generated_input.specs.declared.summary.Summary.{Summary}
-use Rattle.generated_input.specs.Made.{made_scene, made_commands}
-use Rattle.generated_input.specs.Summary.{summary_text}
+use Rattle.form_make.specs.declared.summary.Summary.{Summary}
+use Rattle.form_make.specs.Made.{made_scene, made_commands}
+use Rattle.form_make.specs.Summary.{summary_text}
 use Rattle.script_replay.specs.Replies.{AreReplies, searched_in, world_after}
 use Rattle.form_make.specs.Sums.{SumsUp}
 

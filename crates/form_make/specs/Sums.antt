@@ -6,7 +6,7 @@ use Rattle.walk_model.specs.declared.route.Route.{Route}
 use Rattle.walk_model.specs.Walk.{Walk}
 use Rattle.walk_model.specs.Cost.{bends}
 use Rattle.walk_model.specs.Line.{Draws}
-use Rattle.generated_input.specs.declared.summary.Summary.{Summary}
+use Rattle.form_make.specs.declared.summary.Summary.{Summary}
 
 -- the cost of a route; 0 if there is none
 abbrev pub cost_of_route : Option Route → ℕ

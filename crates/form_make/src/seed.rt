@@ -3,7 +3,8 @@ ghost use Rattle.std.specs.Prelude.{◌≡◌, IfOk, string_bytes};
 ghost use Rattle.form_make.specs.Makes.{Makes, made_script, numbered_from};
 
 use crate::sums::summed;
-use generated_input::{made_commands, made_scene};
+use crate::commands::made_commands;
+use crate::scene::made_scene;
 use par_route::Gate;
 use route_search::Tally;
 use scene_model::Command;

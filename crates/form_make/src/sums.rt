@@ -5,7 +5,7 @@ ghost use Rattle.walk_model.specs.Line.{IsOrthogonal, steps_of};
 ghost use Rattle.scene_model.specs.Answers.{AreAnswers};
 ghost use Rattle.form_make.specs.Sums.{SumsUp};
 
-use generated_input::Summary;
+use crate::summary::Summary;
 use plane_geom::Point;
 use scene_store::Scene;
 use walk_model::{Answer, cost_of};

@@ -4,7 +4,7 @@ use Rattle.gml_text.specs.Tree.{Pairs}
 use Rattle.scene_model.specs.declared.edit.Command.{Command}
 use Rattle.scene_model.specs.Scene.{Scene}
 use Rattle.scene_model.specs.Valid.{IsValid}
-use Rattle.nudge_laws.specs.Apart.{KeepsApart}
+use Rattle.nudge_phases.specs.Apart.{KeepsApart}
 use Rattle.nudge_phases.specs.Nudged.{AreLegalNudgedLines}
 use Rattle.script_replay.specs.Replies.{AreDirected, world_after}
 use Rattle.form_route.specs.declared.report.Unrouted.{Unrouted}

@@ -9,7 +9,7 @@ use Rattle.scene_model.specs.declared.edit.Command.TheVariants.{Begin, Edit, Com
 use Rattle.scene_model.specs.declared.fault.SessionFault.{SessionFault}
 use Rattle.scene_model.specs.declared.fault.SessionFault.TheVariants.{Memory, NoTransaction}
 use Rattle.report_text.specs.declared.refusal.Refusal.TheVariants as refusals
-use Rattle.session_laws.specs.Calls.{IsCall}
+use Rattle.session_model.specs.Calls.{IsCall}
 use Rattle.drawing.specs.Changes.{asked_of}
 use Rattle.drawing.specs.Drawing.{DrawingState, IsWritten, RollsBack, next_edge}
 use Rattle.drawing.specs.Lines.{AreDrawn, AreProposed}

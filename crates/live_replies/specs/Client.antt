@@ -2,7 +2,7 @@
 use Rattle.std.specs.Prelude.{◌≡◌, ℕ, ◌==◌, not, List, [], ◌∷◌, filter}
 use Rattle.walk_model.specs.declared.route.WrittenRoute.{WrittenRoute}
 use Rattle.scene_model.specs.Valid.{IsValid}
-use Rattle.session_laws.specs.State.{State}
+use Rattle.session_model.specs.State.{State}
 use Rattle.drawing.specs.Changes.{asked_of, line_of}
 use Rattle.drawing.specs.Lines.{AreDrawn}
 use Rattle.live_replies.specs.Changes.{Change, gone, drawn, changes}

@@ -2,7 +2,7 @@
 use Rattle.std.specs.Prelude.{◌≡◌, ◌⊎◌, ℕ, List, Ok}
 use Rattle.scene_model.specs.Valid.{IsValid}
 use Rattle.scene_model.specs.declared.edit.Command.TheVariants.{Commit}
-use Rattle.session_laws.specs.Calls.{IsCall}
+use Rattle.session_model.specs.Calls.{IsCall}
 use Rattle.drawing.specs.Drawing.{DrawingState}
 use Rattle.live_replies.specs.Answers.{ReportsChanges, ReportsPreview}
 use Rattle.live_replies.specs.Texts.{unreported_line}

@@ -3,7 +3,7 @@ use Rattle.std.specs.Prelude.{◌≡◌, ℕ, List, ◌++◌, codes, decimal}
 use Rattle.std.specs.Fmt.{signed_decimal}
 use Rattle.std.specs.List.{flat_map}
 use Rattle.report_text.specs.Lines.{line}
-use Rattle.session_laws.specs.State.{State}
+use Rattle.session_model.specs.State.{State}
 use Rattle.route_causes.specs.Unrouted.{AreUnrouted}
 use Rattle.route_causes.specs.declared.cause.Cause.{Cause}
 use Rattle.route_causes.specs.declared.cause.Cause.TheVariants.{ClosedEnd, CoveredCheckpoint, Apart}

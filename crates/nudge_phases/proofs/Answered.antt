@@ -16,7 +16,7 @@ use Rattle.scene_model.specs.Scene.{Scene, connectors, edge_with, is_loop}
 use Rattle.scene_model.specs.Routing.{solids, task_of}
 use Rattle.scene_model.specs.Valid.{IsEdge, IsValid}
 use Rattle.scene_model.proofs.Editing.Entries.{Pairs, pairs_filter, pairs_from}
-use Rattle.nudge_routes.proofs.Routes.{all_read, some_read}
+use Rattle.nudge_phases.proofs.RouteRuns.{all_read, some_read}
 use Rattle.nudge_phases.specs.Raw.{routed, with_number}
 use Rattle.nudge_phases.proofs.Zips.{zip_count, zip_read}
 

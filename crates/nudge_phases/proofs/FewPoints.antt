@@ -14,8 +14,8 @@ use Rattle.walk_model.specs.declared.route.WrittenRoute.{WrittenRoute}
 use Rattle.walk_model.specs.Cost.{runs, runs_after, turn}
 use Rattle.walk_model.proofs.CornerByCorner.Shapes.{new_runs}
 use Rattle.walk_laws.proofs.FewAndSmall.SmallWalks.{few_in_all}
-use Rattle.nudge_laws.specs.LegalRuns.{steps_along, steps_of_run}
-use Rattle.nudge_routes.proofs.Routes.{all_read, some_read}
+use Rattle.nudge_phases.specs.LegalRuns.{steps_along, steps_of_run}
+use Rattle.nudge_phases.proofs.RouteRuns.{all_read, some_read}
 use Rattle.scene_model.specs.Answers.{AreAnswers}
 use Rattle.scene_model.specs.Scene.{Scene}
 use Rattle.scene_model.specs.Routing.{floor_of, task_of}

@@ -1,4 +1,15 @@
--- The lemmas on raw routes and on the lines of a scene, callees first.
+-- The lemmas on both phases of nudging and on the lines of a scene, callees first.
+pub mod AlongRuns
+pub mod MovedRuns
+pub mod EachPhase
+pub mod OneOfEach
+pub mod BothPhases
+pub mod RouteRuns
+pub mod Putting
+pub mod Covering
+pub mod Following
+pub mod Cornering
+pub mod BetweenPhases
 pub mod Zips
 pub mod Turning
 pub mod Answered

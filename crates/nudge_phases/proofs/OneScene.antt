@@ -16,12 +16,12 @@ use Rattle.scene_model.specs.Routing.{solids, task_of}
 use Rattle.scene_model.specs.Scene.{Scene}
 use Rattle.channel_bundles.specs.declared.channel.RunBundle.{RunBundle}
 use Rattle.channel_bundles.specs.declared.route.PhaseRoute.{PhaseRoute}
-use Rattle.nudge_laws.specs.Alike.{AreRoutesAlike, IsRouteAlike}
-use Rattle.nudge_laws.specs.Moved.{IsMoved, IsPutAt, moved_run}
-use Rattle.nudge_laws.specs.Phase.{IsPhase}
-use Rattle.nudge_laws.proofs.BothPhases.OneNudged.{one_nudged}
-use Rattle.nudge_laws.proofs.OneOfEach.RouteTwins.{bundles_alike}
-use Rattle.nudge_routes.proofs.Routes.{some_read}
+use Rattle.nudge_phases.specs.Alike.{AreRoutesAlike, IsRouteAlike}
+use Rattle.nudge_phases.specs.Moved.{IsMoved, IsPutAt, moved_run}
+use Rattle.nudge_phases.specs.Phase.{IsPhase}
+use Rattle.nudge_phases.proofs.BothPhases.OneNudged.{one_nudged}
+use Rattle.nudge_phases.proofs.OneOfEach.RouteTwins.{bundles_alike}
+use Rattle.nudge_phases.proofs.RouteRuns.{some_read}
 use Rattle.nudge_phases.specs.Nudged.{HaveOneNudged}
 use Rattle.nudge_phases.specs.Raw.{AreRawRoutes, IsRawRoute, routed}
 use Rattle.nudge_phases.proofs.SceneLines.{raw_are, raw_few, raw_legal}

@@ -23,15 +23,15 @@ use Rattle.walk_model.specs.Line.{IsOrthogonal}
 use Rattle.walk_model.specs.Order.{IsLegalTriple}
 use Rattle.walk_model.specs.Walk.{Walk}
 use Rattle.walk_laws.proofs.FewAndSmall.SmallWalks.{few_each_way, orthogonal_route}
-use Rattle.nudge_laws.specs.LegalRuns.{walk_along}
+use Rattle.nudge_phases.specs.LegalRuns.{walk_along}
 use Rattle.channel_bundles.specs.declared.route.PhaseRoute.{PhaseRoute}
 use Rattle.channel_bundles.specs.Route.{of_way, runs_of_way}
-use Rattle.nudge_laws.specs.Ready.{AreRaw, IsReady}
-use Rattle.nudge_laws.proofs.Phases.AfterX.{ports_of_walk}
-use Rattle.nudge_laws.proofs.BothPhases.RawRuns.{long_runs, walk_same}
-use Rattle.nudge_laws.specs.Ready.{HasLegalWalk}
-use Rattle.nudge_routes.specs.Rising.{EdgesRise}
-use Rattle.nudge_routes.proofs.Routes.{all_read, some_read}
+use Rattle.nudge_phases.specs.Ready.{AreRaw, IsReady}
+use Rattle.nudge_phases.proofs.EachPhase.AfterX.{ports_of_walk}
+use Rattle.nudge_phases.proofs.BothPhases.RawRuns.{long_runs, walk_same}
+use Rattle.nudge_phases.specs.Ready.{HasLegalWalk}
+use Rattle.nudge_phases.specs.Rising.{EdgesRise}
+use Rattle.nudge_phases.proofs.RouteRuns.{all_read, some_read}
 use Rattle.scene_model.specs.declared.edge.Edge.{Edge}
 use Rattle.scene_model.specs.Floors.{HoldsTask}
 use Rattle.scene_model.specs.Scene.{Scene, edge_with}

@@ -18,14 +18,14 @@ use Rattle.scene_model.specs.Valid.{IsValid}
 use Rattle.scene_model.specs.Routing.{solids}
 use Rattle.channel_bundles.specs.declared.route.PhaseRoute.{PhaseRoute}
 use Rattle.channel_bundles.specs.Route.{runs_of_way}
-use Rattle.nudge_laws.specs.Apart.{KeepsApart}
-use Rattle.nudge_laws.specs.Nudged.{IsNudged, KeepsLegal}
-use Rattle.nudge_laws.specs.Ready.{AreRaw}
-use Rattle.nudge_laws.proofs.BothPhases.NudgedLegal.{nudged_is_apart, nudged_is_legal}
-use Rattle.nudge_routes.specs.declared.nudging.Nudged.{Nudged}
-use Rattle.nudge_laws.specs.Ready.{HasLegalWalk}
-use Rattle.nudge_routes.specs.Rising.{EdgesRise}
-use Rattle.nudge_routes.proofs.Routes.{some_read}
+use Rattle.nudge_phases.specs.Apart.{KeepsApart}
+use Rattle.nudge_phases.specs.Lines.{IsNudged, KeepsLegal}
+use Rattle.nudge_phases.specs.Ready.{AreRaw}
+use Rattle.nudge_phases.proofs.BothPhases.NudgedLegal.{nudged_is_apart, nudged_is_legal}
+use Rattle.nudge_phases.specs.declared.routes.Nudged.{Nudged}
+use Rattle.nudge_phases.specs.Ready.{HasLegalWalk}
+use Rattle.nudge_phases.specs.Rising.{EdgesRise}
+use Rattle.nudge_phases.proofs.RouteRuns.{some_read}
 use Rattle.nudge_phases.specs.Nudged.{AreLegalNudgedLines, IsLegalNudgedLine, IsNudgedScene}
 use Rattle.nudge_phases.specs.Raw.{AreRawRoutes, routed}
 use Rattle.nudge_phases.proofs.Answered.{answered, few_answered, numbers_rise}

@@ -14,8 +14,8 @@ use Rattle.scene_model.specs.Scene.{Scene, edge_with}
 use Rattle.scene_model.specs.Routing.{solids, task_of}
 use Rattle.scene_model.specs.Valid.{IsValid}
 use Rattle.channel_bundles.specs.declared.route.PhaseRoute.{PhaseRoute}
-use Rattle.nudge_laws.specs.Apart.{KeepsApart}
-use Rattle.nudge_laws.specs.Nudged.{IsNudged}
+use Rattle.nudge_phases.specs.Apart.{KeepsApart}
+use Rattle.nudge_phases.specs.Lines.{IsNudged}
 use Rattle.nudge_phases.specs.Raw.{AreRawRoutes, routed}
 
 -- the solutions and lines are those of both phases on the raw routes of the answers

@@ -1,12 +1,12 @@
 //! Both phases of nudging, on the right answers of a scene.
 ghost use Rattle.std.specs.Prelude.{◌≡◌, IfOk, map};
 ghost use Rattle.scene_model.specs.Answers.{AreAnswers};
-ghost use Rattle.nudge_laws.specs.Apart.{KeepsApart};
+ghost use Rattle.nudge_phases.specs.Apart.{KeepsApart};
 ghost use Rattle.nudge_phases.specs.Raw.{routed};
 ghost use Rattle.nudge_phases.specs.Nudged.{AreLegalNudgedLines, IsNudgedScene};
 
 use crate::raw::raw_routes;
-use nudge_routes::{Nudged, nudge_routes};
+use crate::{Nudged, nudge_routes};
 use scene_store::Scene;
 use std::alloc::{AllocError, Global};
 use walk_model::Answer;

@@ -9,8 +9,8 @@ use Rattle.scene_model.specs.World.{World, CommandRefusal, refused, edit_working
 use Rattle.scene_model.specs.Edits.{changed, edited_by, refusal}
 use Rattle.scene_model.specs.Inverses.{redone}
 use Rattle.scene_model.specs.Answers.{AreAnswers}
-use Rattle.session_laws.specs.State.{State}
-use Rattle.session_laws.specs.Calls.{AreCalls, CommandResult}
+use Rattle.session_model.specs.State.{State}
+use Rattle.session_model.specs.Calls.{AreCalls, CommandResult}
 use Rattle.preview.specs.Commits.{CommitsArePreviewed, RefusalsArePreviewed, edit_done}
 use Rattle.preview.specs.Previews.{first_refused, refused_or}
 

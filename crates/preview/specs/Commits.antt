@@ -7,8 +7,8 @@ use Rattle.scene_model.specs.declared.fault.SessionFault.TheVariants as faults
 use Rattle.scene_model.specs.Answers.{AreAnswers}
 use Rattle.line_arena.specs.Count.{counted_by}
 use Rattle.route_book.specs.Exchange.{CountsStale}
-use Rattle.session_laws.specs.State.{State}
-use Rattle.session_laws.specs.Calls.{AreCalls, CommandResult}
+use Rattle.session_model.specs.State.{State}
+use Rattle.session_model.specs.Calls.{AreCalls, CommandResult}
 use Rattle.preview.specs.declared.answer.Previewed.TheVariants.{Committed, Refused}
 use Rattle.preview.specs.Previews.{IsPreview}
 

@@ -4,12 +4,12 @@ ghost use Rattle.line_arena.specs.Arena.{StandsAt};
 ghost use Rattle.move_model.specs.Problems.{IsProblem};
 ghost use Rattle.plane_geom.specs.declared.floor.Floor.{Floor};
 ghost use Rattle.proof_model.specs.Next.{IsNext, IsNoneNext};
-ghost use Rattle.search_labels.specs.Problems.{IsReady};
+ghost use Rattle.search_problem.specs.Problems.{IsReady};
 
 use line_arena::CrossId;
 use move_model::Place;
 use plane_geom::{Dir, Point};
-use search_labels::{Problem, stage_at};
+use search_problem::{Problem, stage_at};
 
 /// The end of a move: the place with its point, and the number of steps that lead to it.
 #[derive(Clone, Copy, Debug)]

@@ -1,4 +1,5 @@
 -- The lemmas on the search for a certificate, callees first.
+pub mod Written
 pub mod Offers
 pub mod Searching
 pub mod RowsInOrder

@@ -14,7 +14,6 @@ use Rattle.proof_model.specs.LeastLabels.{AreLeastLabels, IsRightClaim}
 use Rattle.proof_search.specs.declared.prover.Prover.{Prover}
 use Rattle.proof_search.specs.declared.scope.Scope.{Scope}
 use Rattle.proof_search.specs.declared.scope.Scope.TheVariants.{Below, Every}
-use Rattle.proof_search.specs.Search.{AreNone}
 use Rattle.proof_search.specs.Spots.{AreSpots}
 
 -- below the cost of the route, all walks are labelled; where there is no route, all are
@@ -36,7 +35,6 @@ pub record IsLeastFor (a : Arena) (solids : List Solid) (task : Task) (p : Proof
   pub claim : IsRightClaim solids task p.claim
   pub labels : AreLeastOn a solids task p.claim p.rows
 
--- between two connectors a prover has the crossings of its arena, and no labels
-pub record IsIdle (p : Prover) : Type 0 where
-  pub labels : AreNone p.labels
-  pub spots : AreSpots p.finder.arena.now p.spots.items
+-- a prover has the crossings of its arena
+abbrev pub HasSpots : Prover → Type 0
+HasSpots p = AreSpots p.finder.arena.now p.spots.items

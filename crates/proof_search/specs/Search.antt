@@ -8,12 +8,12 @@ use Rattle.line_arena.specs.Arena.{StandsAt}
 use Rattle.walk_model.specs.Cost.{turn}
 use Rattle.move_model.specs.declared.place.Place.{Place}
 use Rattle.move_model.specs.Problems.{IsProblem}
-use Rattle.search_labels.specs.Tables.{IsClear, IsMarked, label_of}
-use Rattle.search_labels.specs.declared.ends.Entry.{Entry}
-use Rattle.search_labels.specs.declared.label.Label.{Label}
-use Rattle.search_labels.specs.declared.label.Label.TheVariants.{Absent, Open, Closed}
-use Rattle.search_labels.specs.declared.label.Row.{Row}
-use Rattle.search_labels.specs.declared.problem.Problem.{Problem}
+use Rattle.proof_search.specs.Tables.{IsClear, label_of}
+use Rattle.search_problem.specs.declared.ends.Entry.{Entry}
+use Rattle.proof_search.specs.declared.label.Label.{Label}
+use Rattle.proof_search.specs.declared.label.Label.TheVariants.{Absent, Open, Closed}
+use Rattle.proof_search.specs.declared.label.Row.{Row}
+use Rattle.search_problem.specs.declared.problem.Problem.{Problem}
 use Rattle.proof_model.specs.declared.next.Next.{Next}
 use Rattle.proof_model.specs.LeastLabels.{IsLabelReached}
 use Rattle.proof_model.specs.Next.{IsNext, IsNoneNext}
@@ -104,7 +104,6 @@ pub record IsSearching (p : Problem) (s : Scope) (l : Labels) (unqueued unpropag
   pub queued : (x : Place) (v : _) → Some x ≢ unqueued → label_at l x ≡ Open v → IsQueued l x
   pub propagated : (x : Place) (v : _) → Some x ≢ unpropagated → label_at l x ≡ Closed v → IsPropagated p s l x v.cost
   pub candidates : All (λ c. IsPlace p c.0.item) (heap_items l.queue.heap)
-  pub marked : IsMarked l.table
   pub rooms : HasRooms p l
 
 -- labels have not risen
@@ -139,7 +138,7 @@ pub record IsSpread (p : Problem) (s : Scope) (l : Labels) : Type 0 where
   pub entries : All (IsEntryOffered s l) p.entries.items
   pub closed : (x : Place) (v : _) → label_at l x ≡ Open v → ⊥
 
--- between two searches there is no label and no candidate
+-- there is no label and no candidate
 pub record AreNone (l : Labels) : Type 0 where
   pub table : IsClear l.table
   pub queue : heap_items l.queue.heap ≡ []

@@ -1,15 +1,13 @@
 //! The labels of a search, and the queue of those that are open.
-ghost use Rattle.search_labels.specs.Tables.{IsMarked};
+ghost use Rattle.std.specs.Prelude.{◌≡◌, ◌*◌, ◌≤◌, IfOk, length};
 ghost use Rattle.proof_search.specs.Search.{AreNone};
 
-use candidate_queue::Queue;
+use crate::table::Table;
 use move_model::Place;
-use search_labels::Table;
-use std::alloc::Global;
+use search_problem::Queue;
+use std::alloc::{AllocError, Global};
 
-/// The labels of a search, the open ones in a queue.
-///
-/// Between two searches there is no label and no candidate. Of a label only `cost` is used.
+/// The labels of a search, the open ones in a queue. Of a label only `cost` is used.
 #[derive(Drop)]
 pub struct Labels {
     pub table: Table,
@@ -17,22 +15,15 @@ pub struct Labels {
 }
 
 impl Labels {
-    /// No labels. Takes no memory.
-    pub fn new(alloc: Global) -> Labels
-        ensures { AreNone result }
+    /// No labels, with rows for the places of an arena in `stages` stages. The only error is out of memory.
+    pub fn new(alloc: Global, places: usize, stages: usize) -> Result<Labels, AllocError>
+        ensures none { IfOk result AreNone }
+        ensures places { IfOk result (λ l. l.table.places ≡ places) }
+        ensures rows { IfOk result (λ l. stages * places ≤ length l.table.rows.items) }
     {
-        Labels {
-            table: Table::new(alloc),
+        Ok(Labels {
+            table: Table::new(alloc, places, stages)?,
             queue: Queue::new(alloc),
-        }
-    }
-
-    /// Takes all labels and candidates away.
-    pub fn clear(&mut self)
-        requires { IsMarked self.old.table }
-        ensures { AreNone self.new }
-    {
-        self.table.clear();
-        self.queue.clear();
+        })
     }
 }

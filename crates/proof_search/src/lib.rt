@@ -4,6 +4,7 @@
 //! Lengths and costs are in thousandths of a GML unit.
 #![tactic(auto)]
 
+mod label;
 mod labels;
 mod prover;
 mod rows;
@@ -11,5 +12,6 @@ mod scene;
 mod scope;
 mod spots;
 mod spread;
+mod table;
 
 pub use scene::prove;

@@ -2,11 +2,9 @@
 ghost use Rattle.std.specs.Prelude.{◌≡◌, ◌≤◌, IfOk};
 ghost use Rattle.move_model.specs.Problems.{IsProblem};
 ghost use Rattle.plane_geom.specs.declared.floor.Floor.{Floor};
-ghost use Rattle.search_labels.specs.Tables.{IsMarked};
 ghost use Rattle.walk_model.specs.Answers.{IsAnswer};
-ghost use Rattle.proof_search.specs.Provers.{AreLeastOn, IsIdle, IsLeastFor, claim_for, scope_for};
+ghost use Rattle.proof_search.specs.Provers.{AreLeastOn, HasSpots, IsLeastFor, claim_for, scope_for};
 ghost use Rattle.proof_search.specs.Scopes.{claim_of, most_of};
-ghost use Rattle.proof_search.specs.Search.{AreNone};
 ghost use Rattle.proof_search.specs.Spots.{AreSpots};
 
 use crate::labels::Labels;
@@ -16,7 +14,7 @@ use line_arena::LineArena;
 use plane_geom::Solid;
 use proof_model::{Claim, Proof, Rows};
 use route_search::{Finder, Tally};
-use search_labels::Problem;
+use search_problem::Problem;
 use std::alloc::{AllocError, Global};
 use walk_model::{Route, Task};
 
@@ -25,7 +23,6 @@ use walk_model::{Route, Task};
 pub struct Prover<'a> {
     pub alloc: Global,
     pub finder: Finder<'a>,
-    pub labels: Labels,
     pub spots: Vec<Spot>,
 }
 
@@ -70,25 +67,22 @@ fn proof_of(
     })
 }
 
-/// The least labels of a search that begins without labels and leaves some.
+/// The least labels of the task, in rows.
 fn spread_rows(
     alloc: Global,
     arena: &LineArena,
     solids: &[Solid],
     task: &Task,
     scope: Scope,
-    labels: &mut Labels,
     spots: &[Spot],
 ) -> Result<Rows, AllocError>
     requires problem { (floor : Floor) × IsProblem floor arena.now solids.now task.now }
     requires small { most_of scope ≤ 1000000000000000000 }
-    requires none { AreNone labels.old }
     requires spots { AreSpots arena.now spots.now }
-    ensures least { IfOk result (AreLeastOn arena.now solids.now task.now (claim_of scope)) }
-    ensures marked { IsMarked labels.new.table }
+    ensures { IfOk result (AreLeastOn arena.now solids.now task.now (claim_of scope)) }
 {
     let stages = task.via.as_slice().len() + 1;
-    labels.table.fit(arena.places(), stages)?;
+    let mut labels = Labels::new(alloc, arena.places(), stages)?;
     let problem = Problem::new(alloc, arena, solids, task)?;
     labels.spread(scope, &problem)?;
     labels.rows(alloc, &problem, spots)
@@ -103,57 +97,38 @@ impl<'a> Prover<'a> {
     ) -> Result<Prover<'a>, AllocError>
         ensures arena { IfOk result (λ p. p.finder.arena.now ≡ arena.now) }
         ensures solids { IfOk result (λ p. p.finder.solids.now ≡ solids.now) }
-        ensures idle { IfOk result IsIdle }
+        ensures spots { IfOk result HasSpots }
     {
         let spots = crossings_in_order(alloc, arena)?;
         Ok(Prover {
             alloc,
             finder: Finder::new(alloc, arena, solids),
-            labels: Labels::new(alloc),
             spots,
         })
-    }
-
-    /// The least labels of the task, in rows.
-    fn rows(&mut self, task: &Task, scope: Scope) -> Result<Rows, AllocError>
-        requires problem { (floor : Floor) ×
-            IsProblem floor self.old.finder.arena.now self.old.finder.solids.now task.now }
-        requires small { most_of scope ≤ 1000000000000000000 }
-        requires idle { IsIdle self.old }
-        ensures least { IfOk result
-            (AreLeastOn self.old.finder.arena.now self.old.finder.solids.now task.now
-            (claim_of scope)) }
-        ensures finder { self.new.finder ≡ self.old.finder }
-        ensures idle { IsIdle self.new }
-    {
-        let rows = spread_rows(
-            self.alloc,
-            self.finder.arena,
-            self.finder.solids,
-            task,
-            scope,
-            &mut self.labels,
-            &self.spots,
-        );
-        self.labels.clear();
-        rows
     }
 
     /// The proof of the connector with the number, which has this task.
     pub fn proof(&mut self, edge: u32, task: &Task) -> Result<Proof, AllocError>
         requires problem { (floor : Floor) ×
             IsProblem floor self.old.finder.arena.now self.old.finder.solids.now task.now }
-        requires idle { IsIdle self.old }
+        requires spots { HasSpots self.old }
         ensures edge { IfOk result (λ p. p.edge ≡ edge) }
         ensures least { IfOk result
             (IsLeastFor self.old.finder.arena.now self.old.finder.solids.now task.now) }
         ensures arena { self.new.finder.arena.now ≡ self.old.finder.arena.now }
         ensures solids { self.new.finder.solids.now ≡ self.old.finder.solids.now }
-        ensures idle { IsIdle self.new }
+        ensures spots { HasSpots self.new }
     {
         let route = self.finder.find(task, &mut Tally::new())?;
         let scope = scope_for(&route);
-        let rows = self.rows(task, scope);
+        let rows = spread_rows(
+            self.alloc,
+            self.finder.arena,
+            self.finder.solids,
+            task,
+            scope,
+            &self.spots,
+        );
         proof_of(edge, route, rows)
     }
 }

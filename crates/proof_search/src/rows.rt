@@ -1,7 +1,7 @@
 //! The labels of a search, written as rows.
 ghost use Rattle.std.specs.Prelude.{◌≡◌, ◌++◌, ◌+◌, ◌≤◌, All, IfOk, OnOk, length};
 ghost use Rattle.line_arena.specs.Arena.{StandsAt};
-ghost use Rattle.search_labels.specs.Problems.{IsReady};
+ghost use Rattle.search_problem.specs.Problems.{IsReady};
 ghost use Rattle.proof_search.specs.Rows.{has_label, place_of, row_at, rows_in, rows_upto};
 ghost use Rattle.proof_search.specs.Search.{HasRooms, cost_at};
 
@@ -11,7 +11,7 @@ use crate::spread::cost_in;
 use move_model::Place;
 use plane_geom::Dir;
 use proof_model::{LabelRow, Rows};
-use search_labels::Problem;
+use search_problem::Problem;
 use std::alloc::{AllocError, Global};
 
 /// Whether the row has a label.

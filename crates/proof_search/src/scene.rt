@@ -8,7 +8,7 @@ ghost use Rattle.scene_model.specs.Valid.{IsValid};
 ghost use Rattle.proof_model.specs.LeastLabels.{IsLeastProof};
 ghost use Rattle.proof_model.specs.Scenes.{ProveScene};
 ghost use Rattle.proof_text.specs.Text.{AreWritable};
-ghost use Rattle.proof_search.specs.Provers.{IsIdle};
+ghost use Rattle.proof_search.specs.Provers.{HasSpots};
 
 use crate::prover::Prover;
 use proof_model::Proof;
@@ -23,11 +23,11 @@ fn proof_of(scene: &Scene, edge: &Edge, prover: &mut Prover<'_>) -> Result<Proof
     requires connector { edge.now.from ≢ edge.now.to }
     requires stands { StandsFor (floor_of scene.now) prover.old.finder.arena.now }
     requires solids { prover.old.finder.solids.now ≡ solids scene.now }
-    requires idle { IsIdle prover.old }
+    requires spots { HasSpots prover.old }
     ensures least { IfOk result (IsLeastProof scene.now edge.now) }
     ensures arena { prover.new.finder.arena.now ≡ prover.old.finder.arena.now }
     ensures solids { prover.new.finder.solids.now ≡ prover.old.finder.solids.now }
-    ensures idle { IsIdle prover.new }
+    ensures spots { HasSpots prover.new }
 {
     scene.valid();
     let task = scene.task(edge.number)?;
@@ -42,7 +42,7 @@ fn proofs_of(
 ) -> Result<Vec<Proof>, AllocError>
     requires stands { StandsFor (floor_of scene.now) prover.old.finder.arena.now }
     requires solids { prover.old.finder.solids.now ≡ solids scene.now }
-    requires idle { IsIdle prover.old }
+    requires spots { HasSpots prover.old }
     ensures { IfOk result
         (λ proofs. AllZip (IsLeastProof scene.now) (connectors scene.now) proofs.items) }
 {

@@ -10,15 +10,13 @@ ghost use Rattle.std.specs.Prelude.{
   None,
   Some,
   All,
-  OnErr,
   OnOk,
   length,
 };
 ghost use Rattle.line_arena.specs.Arena.{StandsAt};
 ghost use Rattle.move_model.specs.declared.place.Place.{Place};
 ghost use Rattle.plane_geom.specs.declared.point.Dir.{Dir};
-ghost use Rattle.search_labels.specs.Problems.{IsReady};
-ghost use Rattle.search_labels.specs.Tables.{IsMarked};
+ghost use Rattle.search_problem.specs.Problems.{IsReady};
 ghost use Rattle.walk_model.specs.Cost.{turn};
 ghost use Rattle.proof_search.specs.Scopes.{ComesBy, most_of};
 ghost use Rattle.proof_search.specs.Search.{
@@ -41,13 +39,13 @@ ghost use Rattle.proof_search.specs.Search.{
   weight,
 };
 
+use crate::label::Label;
 use crate::labels::Labels;
 use crate::scope::Scope;
-use candidate_queue::Candidate;
 use move_model::{Ahead, Place};
 use plane_geom::{Dir, Point};
 use proof_model::next_place;
-use search_labels::{DIRS, Label, Problem};
+use search_problem::{Candidate, DIRS, Problem};
 use std::alloc::AllocError;
 
 /// The bends between two headings.
@@ -114,7 +112,6 @@ impl Labels {
         ensures spreads { OnOk result (Spreads scope self.old self.new) }
         ensures lighter { OnOk result (weight scope self.new ≤ weight scope self.old) }
         ensures offered { OnOk result (IsOffered scope self.new place.now cost) }
-        ensures err { OnErr result (IsMarked self.new.table) }
     {
         let Some(cost) = scope.label(cost) else {
             return Ok(());
@@ -127,7 +124,7 @@ impl Labels {
             bound: cost,
             item: *place,
         })?;
-        self.table.put(place, number, Label::Open(with_cost(cost)))?;
+        self.table.put(place, number, Label::Open(with_cost(cost)));
         Ok(())
     }
 
@@ -158,7 +155,6 @@ impl Labels {
         ensures lighter { OnOk result (weight scope self.new ≤ weight scope self.old) }
         ensures propagated { OnOk result
             (IsPropagatedIn problem.now scope self.new place.now at cost dir) }
-        ensures err { OnErr result (IsMarked self.new.table) }
     {
         let Some(next) = next_place(problem, place.crossing, at, place.stage, dir) else {
             return Ok(());
@@ -188,7 +184,6 @@ impl Labels {
         ensures spreads { OnOk result (Spreads scope self.old self.new) }
         ensures lighter { OnOk result (weight scope self.new ≤ weight scope self.old) }
         ensures propagated { OnOk result (IsPropagated problem.now scope self.new place.now cost) }
-        ensures err { OnErr result (IsMarked self.new.table) }
     {
         let at = problem.arena.point(place.crossing);
         for dir in DIRS {
@@ -205,13 +200,12 @@ impl Labels {
         ensures searching { OnOk result (IsSearching problem.now scope self.new None None) }
         ensures falls { OnOk result (Falls scope self.old self.new) }
         ensures lighter { OnOk result (weight scope self.new ≤ weight scope self.old) }
-        ensures err { OnErr result (IsMarked self.new.table) }
     {
         let number = problem.arena.index(place.crossing);
         let Label::Open(known) = self.table.label(place, number) else {
             return Ok(());
         };
-        self.table.put(place, number, Label::Closed(known))?;
+        self.table.put(place, number, Label::Closed(known));
         self.propagate(scope, problem, place, known.cost)?;
         Ok(())
     }
@@ -223,7 +217,6 @@ impl Labels {
         ensures searching { OnOk result (IsSearching problem.now scope self.new None None) }
         ensures offered { OnOk result
             (All (IsEntryOffered scope self.new) problem.now.entries.items) }
-        ensures err { OnErr result (IsMarked self.new.table) }
     {
         for entry in &problem.entries {
             self.offer(scope, problem, &entry.place, entry.lead)?;
@@ -238,7 +231,6 @@ impl Labels {
         requires none { AreNone self.old }
         requires rooms { HasRooms problem.now self.old }
         ensures spread { OnOk result (IsSpread problem.now scope self.new) }
-        ensures err { OnErr result (IsMarked self.new.table) }
     {
         self.offer_entries(scope, problem)?;
         while let Some(candidate) = self.queue.pop() {

@@ -5,7 +5,7 @@ use Rattle.host_edge.specs.Note.{Note}
 use Rattle.gml_text.specs.Tree.{Pairs}
 use Rattle.scene_model.specs.Scene.{Scene}
 use Rattle.edit_script.specs.Script.{commands}
-use Rattle.nudge_laws.specs.Apart.{KeepsApart}
+use Rattle.nudge_phases.specs.Apart.{KeepsApart}
 use Rattle.nudge_phases.specs.Nudged.{AreLegalNudgedLines}
 use Rattle.script_replay.specs.Replies.{world_after}
 use Rattle.form_route.specs.declared.report.Unrouted.{Unrouted}

@@ -2,7 +2,7 @@
 use Rattle.std.proofs.Common.{◌≡◌, ◌≢◌, Result, Ok, Err, ap}
 use Rattle.std.specs.Prelude.{IfErr}
 use Rattle.scene_model.specs.declared.fault.SessionFault.{SessionFault}
-use Rattle.session_laws.specs.State.{State}
+use Rattle.session_model.specs.State.{State}
 use Rattle.drawing.specs.Lines.{IsUnproposed}
 use Rattle.reroute_c.specs.declared.fault.Fault.{Fault}
 use Rattle.reroute_c.specs.Codes.{fault_of}

@@ -6,7 +6,7 @@ use Rattle.walk_model.specs.declared.route.Route.{Route}
 use Rattle.walk_model.specs.declared.route.WrittenRoute.{WrittenRoute}
 use Rattle.drawing.specs.Drawing.{DrawingState}
 use Rattle.scene_model.specs.declared.fault.SessionFault.{SessionFault}
-use Rattle.session_laws.specs.State.{State}
+use Rattle.session_model.specs.State.{State}
 use Rattle.drawing.specs.Lines.{IsUnproposed}
 use Rattle.reroute_c.specs.declared.fault.Fault.{Fault}
 use Rattle.reroute_c.specs.Codes.{call_fault}

@@ -16,9 +16,9 @@ use Rattle.move_model.specs.declared.place.Place.{Place as Standing}
 use Rattle.move_model.specs.Places.{ComesTo, IsEntry as Enters}
 use Rattle.move_model.proofs.Moving.Stages.{one_stage}
 use Rattle.route_check.proofs.Collisions.Places.{contains_at}
-use Rattle.search_labels.specs.declared.ends.Ending.{Ending}
-use Rattle.search_labels.specs.declared.ends.Entry.{Entry}
-use Rattle.search_labels.specs.Ends.{AreEndings, AreEntries, IsEndingOf, IsEntryOf}
+use Rattle.search_problem.specs.declared.ends.Ending.{Ending}
+use Rattle.search_problem.specs.declared.ends.Entry.{Entry}
+use Rattle.search_problem.specs.Ends.{AreEndings, AreEntries, IsEndingOf, IsEntryOf}
 use Rattle.proof_model.specs.declared.proof.Claim.{Claim}
 use Rattle.proof_model.specs.declared.proof.LabelRow.{LabelRow}
 use Rattle.proof_model.specs.Labels.{label_of}

@@ -5,8 +5,8 @@ use Rattle.plane_geom.specs.declared.floor.Floor.{Floor}
 use Rattle.line_arena.specs.Arena.{Arena, IsArena, StandsAt}
 use Rattle.line_arena.specs.Stands.{StandsFor}
 use Rattle.walk_model.specs.declared.task.Task.{Task}
-use Rattle.search_labels.specs.declared.problem.Problem.{Problem}
-use Rattle.search_labels.specs.Problems.{IsReady}
+use Rattle.search_problem.specs.declared.problem.Problem.{Problem}
+use Rattle.search_problem.specs.Problems.{IsReady}
 use Rattle.exit_spread.proofs.Sizes.{small_ending}
 use Rattle.proof_model.specs.declared.proof.Claim.{Claim}
 use Rattle.proof_model.specs.declared.proof.LabelRow.{LabelRow}

@@ -4,8 +4,8 @@ use Rattle.plane_geom.specs.declared.point.Dir.{Dir}
 use Rattle.line_arena.specs.Arena.{Arena, StandsAt}
 use Rattle.walk_model.specs.declared.task.Task.{Task}
 use Rattle.walk_model.specs.Cost.{turn}
-use Rattle.search_labels.specs.declared.ends.Ending.{Ending}
-use Rattle.search_labels.specs.declared.ends.Entry.{Entry}
+use Rattle.search_problem.specs.declared.ends.Ending.{Ending}
+use Rattle.search_problem.specs.declared.ends.Entry.{Entry}
 use Rattle.proof_model.specs.declared.proof.Claim.{Claim}
 use Rattle.proof_model.specs.declared.proof.LabelRow.{LabelRow}
 use Rattle.proof_model.specs.Labels.{label_of}

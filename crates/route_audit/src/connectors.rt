@@ -12,7 +12,7 @@ use crate::labels::RowIndex;
 use crate::task::broken_rule;
 use proof_model::{Proof, proved_scenes_hold};
 use scene_store::{Edge, Scene};
-use search_labels::Problem;
+use search_problem::Problem;
 use std::alloc::{AllocError, Global};
 use visibility_graph::Graph;
 

@@ -8,7 +8,7 @@ use crate::labels::Labels;
 use move_model::Place;
 use plane_geom::Dir;
 use proof_model::Claim;
-use search_labels::{DIRS, Ending, Entry, Problem};
+use search_problem::{DIRS, Ending, Entry, Problem};
 
 /// Whether the value of each entry's place is at most the entry's cost.
 pub(crate) fn are_entries_found(

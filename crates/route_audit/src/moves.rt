@@ -8,14 +8,14 @@ ghost use Rattle.proof_model.specs.Labels.{label_in};
 ghost use Rattle.proof_model.specs.Rules.{AreRows};
 ghost use Rattle.route_audit.specs.Index.{AreLabels};
 ghost use Rattle.route_audit.specs.Moves.{AreMovesInFound, ArrivesWell};
-ghost use Rattle.search_labels.specs.Problems.{IsReady};
+ghost use Rattle.search_problem.specs.Problems.{IsReady};
 
 use crate::claim::{bends, suffices};
 use crate::labels::Labels;
 use line_arena::CrossId;
 use plane_geom::Dir;
 use proof_model::{Claim, LabelRow, next_place};
-use search_labels::{DIRS, Problem};
+use search_problem::{DIRS, Problem};
 
 /// Whether the value at the move's end, which has the label `there`, agrees with the row's label of
 /// the heading, if it has one.

@@ -17,7 +17,7 @@ use crate::labels::RowIndex;
 use line_arena::LineArena;
 use plane_geom::Dir;
 use proof_model::{Claim, LabelRow};
-use search_labels::DIRS;
+use search_problem::DIRS;
 use std::alloc::AllocError;
 
 /// Whether the label of the heading is one for the claim, if there is one.

@@ -5,7 +5,7 @@ ghost use Rattle.plane_geom.specs.declared.floor.Floor.{Floor};
 ghost use Rattle.proof_model.specs.Rules.{AreRows, IsShown};
 ghost use Rattle.route_audit.specs.Audits.{IsBroken};
 ghost use Rattle.route_audit.specs.Index.{AreLabels};
-ghost use Rattle.search_labels.specs.Problems.{IsReady};
+ghost use Rattle.search_problem.specs.Problems.{IsReady};
 
 use crate::ends::{are_entries_found, may_all_end};
 use crate::labels::{Labels, RowIndex};
@@ -14,7 +14,7 @@ use crate::line::is_shown;
 use crate::moves::are_moves_found;
 use crate::rows::put_rows;
 use proof_model::{Claim, LabelRow};
-use search_labels::Problem;
+use search_problem::Problem;
 use std::alloc::AllocError;
 
 /// The least of the rules from 4 on that the labels break, if they break one.

@@ -6,8 +6,8 @@ use Rattle.move_model.specs.declared.place.Place.{Place}
 use Rattle.move_model.specs.declared.ahead.Ahead.{Ahead}
 use Rattle.move_model.specs.Ahead.{nothing, with_stretch}
 use Rattle.move_model.specs.Places.{IsMove}
-use Rattle.search_labels.specs.declared.ends.Ending.{Ending}
-use Rattle.search_labels.specs.declared.problem.Problem.{Problem}
+use Rattle.search_problem.specs.declared.ends.Ending.{Ending}
+use Rattle.search_problem.specs.declared.problem.Problem.{Problem}
 use Rattle.route_search.specs.declared.follow.Move.{Move}
 use Rattle.route_search.specs.declared.follow.Next.{Next}
 use Rattle.route_search.specs.declared.follow.Next.TheVariants.{Stop, Go}

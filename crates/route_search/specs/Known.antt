@@ -8,8 +8,8 @@ use Rattle.move_model.specs.declared.place.Place.{Place}
 use Rattle.move_model.specs.declared.ahead.Ahead.{Ahead}
 use Rattle.move_model.specs.Ahead.{ahead}
 use Rattle.move_model.specs.Ways.{GoesAlongWay, HasRest, Leg, steps_of_way}
-use Rattle.search_labels.specs.Problems.{IsReady}
-use Rattle.search_labels.specs.declared.problem.Problem.{Problem}
+use Rattle.search_problem.specs.Problems.{IsReady}
+use Rattle.search_problem.specs.declared.problem.Problem.{Problem}
 use Rattle.line_lists.specs.Lists.{AreListsOf, number_of}
 use Rattle.route_search.specs.Matching.{point_with}
 use Rattle.exit_spread.specs.Known.{known}

@@ -10,8 +10,8 @@ use Rattle.move_model.specs.declared.place.Place.{Place}
 use Rattle.move_model.specs.declared.ahead.Ahead.{Ahead}
 use Rattle.move_model.specs.Ahead.{ahead, ahead_cmp}
 use Rattle.move_model.specs.Ways.{GoesAlongWay, Leads, Leg, steps_of_way}
-use Rattle.search_labels.specs.declared.ends.Entry.{Entry}
-use Rattle.search_labels.specs.declared.problem.Problem.{Problem}
+use Rattle.search_problem.specs.declared.ends.Entry.{Entry}
+use Rattle.search_problem.specs.declared.problem.Problem.{Problem}
 
 -- the key of a whole walk that enters there and has this ahead
 abbrev pub whole_from : Entry → Ahead → Ahead

@@ -16,7 +16,7 @@ use crate::tally::Tally;
 use exit_spread::Spread;
 use line_arena::LineArena;
 use plane_geom::{Point, Solid};
-use search_labels::Problem;
+use search_problem::Problem;
 use std::alloc::{AllocError, Global};
 use walk_model::{Route, Task};
 

@@ -10,11 +10,11 @@ use Rattle.scene_model.specs.declared.fault.SessionFault.TheVariants.{AlreadyOpe
 use Rattle.scene_model.specs.Routing.{floor_of}
 use Rattle.scene_model.specs.Scene.{Scene}
 use Rattle.scene_model.specs.World.{refused, step}
-use Rattle.edit_txn.specs.Txn.{Transaction}
+use Rattle.session_model.specs.Txn.{Transaction}
 use Rattle.undo_log.specs.declared.step.Step.{Step}
 use Rattle.undo_log.specs.Log.{Log}
-use Rattle.session_laws.specs.Calls.{IsFaultOf}
-use Rattle.session_laws.specs.History.{world_of}
+use Rattle.session_model.specs.Calls.{IsFaultOf}
+use Rattle.session_model.specs.History.{world_of}
 use Rattle.route_book.specs.Exchange.{Exchange}
 use Rattle.route_session.specs.declared.turning.Toward.{Toward}
 use Rattle.route_session.specs.declared.turning.Toward.TheVariants.{Future, Past}

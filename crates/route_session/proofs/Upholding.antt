@@ -17,12 +17,12 @@ use Rattle.scene_model.specs.Inverses.{taken_back, redone}
 use Rattle.scene_model.specs.Answers.{AreAnswers}
 use Rattle.scene_model.specs.World.{step, refused}
 use Rattle.scene_model.proofs.ForRouting.OneList.{one_list}
-use Rattle.edit_txn.specs.Txn.{Transaction, BeganOn}
+use Rattle.session_model.specs.Txn.{Transaction, BeganOn}
 use Rattle.undo_log.specs.declared.step.Step.{Step}
 use Rattle.undo_log.specs.Log.{Log}
 use Rattle.undo_log.specs.Lending.{gone_back, gone_forth}
-use Rattle.session_laws.specs.History.{IsStep, IsHistory, IsTurned, LeadBack, LeadOn, world_of, pushed}
-use Rattle.session_laws.proofs.Turning.{extends_past, goes_back, goes_on, step_stays_valid}
+use Rattle.session_model.specs.History.{IsStep, IsHistory, IsTurned, LeadBack, LeadOn, world_of, pushed}
+use Rattle.session_model.proofs.Turning.{extends_past, goes_back, goes_on, step_stays_valid}
 use Rattle.route_book.specs.Exchange.{Exchange, turned}
 use Rattle.route_session.specs.Upheld.{IsUpheld, AreRestorable, AreFree, turned_step}
 use Rattle.route_session.proofs.Steps.{restorable, free}

@@ -11,10 +11,10 @@ use Rattle.scene_model.specs.Routing.{floor_of}
 use Rattle.scene_model.specs.Edits.{refusal, changed, IsDirected}
 use Rattle.scene_model.specs.Inverses.{IsRestorable, taken_back}
 use Rattle.scene_model.specs.Answers.{AreAnswers}
-use Rattle.edit_txn.specs.Txn.{Transaction, BeganOn}
+use Rattle.session_model.specs.Txn.{Transaction, BeganOn}
 use Rattle.undo_log.specs.declared.step.Step.{Step}
 use Rattle.undo_log.specs.Log.{Log}
-use Rattle.session_laws.specs.History.{IsHistory}
+use Rattle.session_model.specs.History.{IsHistory}
 use Rattle.route_book.specs.Exchange.{Exchange, turned}
 
 -- the graph is that of the scene's floor, the book is right for the scene, and the history and the transaction lead from it

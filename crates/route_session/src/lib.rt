@@ -12,4 +12,4 @@ mod turning;
 pub use preview::{MOST_PROPOSALS, Previewed, Proposal};
 pub use scene_model::SessionFault;
 pub use session::Session;
-pub use session_laws::{commits_are_given_back, sessions_are_worlds};
+pub use session_model::{commits_are_given_back, sessions_are_worlds};

@@ -4,16 +4,16 @@ ghost use Rattle.std.specs.FinMap.{len};
 ghost use Rattle.plane_geom.specs.Floor.{IsFloor};
 ghost use Rattle.line_arena.specs.Arena.{Arena};
 ghost use Rattle.line_arena.specs.Stands.{StandsFor};
-ghost use Rattle.edit_txn.specs.Txn.{BeganOn};
+ghost use Rattle.session_model.specs.Txn.{BeganOn};
 ghost use Rattle.graph_repair.specs.Change.{CountsWrites};
-ghost use Rattle.nudge_laws.specs.Apart.{KeepsApart};
+ghost use Rattle.nudge_phases.specs.Apart.{KeepsApart};
 ghost use Rattle.nudge_phases.specs.Nudged.{AreLegalNudgedLines, IsNudgedScene};
 ghost use Rattle.nudge_phases.specs.Raw.{routed};
 ghost use Rattle.preview.specs.Previews.{ArePreviews, IsProposable};
 ghost use Rattle.route_book.specs.Exchange.{CountsStale};
 ghost use Rattle.line_arena.specs.Count.{counted_by};
-ghost use Rattle.session_laws.specs.Calls.{IsCall};
-ghost use Rattle.session_laws.specs.History.{IsHistory, world_of};
+ghost use Rattle.session_model.specs.Calls.{IsCall};
+ghost use Rattle.session_model.specs.History.{IsHistory, world_of};
 ghost use Rattle.route_session.specs.Turning.{turn_command};
 ghost use Rattle.route_session.specs.Upheld.{IsUpheld};
 ghost use Rattle.scene_model.specs.Answers.{AreAnswers};
@@ -29,7 +29,7 @@ ghost use Rattle.scene_model.specs.declared.fault.SessionFault.TheVariants as fa
 use crate::present::Present;
 use crate::start::Start;
 use crate::turning::{Toward, exchange_toward, nearest_step, no_step, scene_toward};
-use edit_txn::{Txn, TxnParts};
+use session_model::{Txn, TxnParts};
 use nudge_phases::{Nudged, nudge};
 use par_route::Gate;
 use preview::{Previewed, Proposal, preview, preview_alone};
@@ -59,9 +59,9 @@ pub struct Session {
 
 impl Model for Session {
     ghost use Rattle.std.specs.Prelude.{option_map};
-    ghost use Rattle.session_laws.specs.State.{State};
+    ghost use Rattle.session_model.specs.State.{State};
     ghost use Rattle.route_session.specs.Upheld.{IsUpheld};
-    ghost use Rattle.session_laws.specs.History.{world_of};
+    ghost use Rattle.session_model.specs.History.{world_of};
 
     ghost Value = { State };
 

@@ -1,6 +1,6 @@
 //! A transaction of many edits, and its parts.
 
-use edit_txn::{Txn, TxnParts};
+use session_model::{Txn, TxnParts};
 use scene_model::{Edit, Inverse, SceneFault};
 use scene_store::Scene;
 

@@ -17,8 +17,8 @@ use Rattle.report_text.specs.declared.refusal.Refusal.TheVariants as reported
 use Rattle.report_text.specs.declared.reply.Reply.{Reply}
 use Rattle.report_text.specs.declared.reply.Reply.TheVariants.{Searched, Refused}
 use Rattle.line_arena.specs.Count.{counted_by}
-use Rattle.session_laws.specs.State.{State}
-use Rattle.session_laws.specs.Calls.{IsCall}
+use Rattle.session_model.specs.State.{State}
+use Rattle.session_model.specs.Calls.{IsCall}
 use Rattle.script_replay.specs.Replies.{IsReplyOf}
 use Rattle.script_replay.specs.Replied.{IsReplied}
 

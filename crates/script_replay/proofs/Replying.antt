@@ -12,7 +12,7 @@ use Rattle.scene_model.proofs.ForRouting.Fresh.{one_stale_list}
 use Rattle.report_text.specs.declared.reply.Reply.{Reply}
 use Rattle.report_text.specs.declared.reply.Reply.TheVariants.{Searched}
 use Rattle.report_text.specs.declared.reply.LineReply.{LineReply}
-use Rattle.session_laws.specs.State.{State}
+use Rattle.session_model.specs.State.{State}
 use Rattle.script_replay.specs.Replied.{IsReplied, AreReplied}
 use Rattle.script_replay.specs.Replies.{SearchesStale, IsReplyOfDone, IsReplyOf, IsReply, AreReplies, searched_by, searched_in, HaveOneListOfReplies}
 

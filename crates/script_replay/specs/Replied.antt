@@ -4,7 +4,7 @@ use Rattle.scene_model.specs.declared.edit.Command.{Command}
 use Rattle.scene_model.specs.World.{next_world, played}
 use Rattle.report_text.specs.declared.reply.Reply.{Reply}
 use Rattle.report_text.specs.declared.reply.LineReply.{LineReply}
-use Rattle.session_laws.specs.State.{State}
+use Rattle.session_model.specs.State.{State}
 use Rattle.script_replay.specs.Replies.{IsReply, AreReplies, searched_by, searched_in}
 
 -- the command was executed or refused, with this reply, and searched the number that the reply gives

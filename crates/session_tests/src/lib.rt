@@ -10,4 +10,6 @@ mod calls;
 #[cfg(test)]
 mod lines;
 #[cfg(test)]
+mod made;
+#[cfg(test)]
 mod previews;

@@ -1,4 +1,5 @@
-//! Tests of the crates that read and write text: rows that use only public calls.
+//! Tests of the crates that read and write text, and of scenes read from diagrams and written back: rows that use only
+//! public calls.
 #![tactic(auto)]
 
 #[cfg(test)]
@@ -12,4 +13,8 @@ mod numbers;
 #[cfg(test)]
 mod outside;
 #[cfg(test)]
+mod reading;
+#[cfg(test)]
 mod scripts;
+#[cfg(test)]
+mod writing;

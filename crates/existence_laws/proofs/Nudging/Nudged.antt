@@ -18,11 +18,11 @@ use Rattle.scene_model.specs.Answers.{AreAnswers}
 use Rattle.scene_model.specs.Routing.{solids, task_of}
 use Rattle.channel_bundles.specs.declared.route.PhaseRoute.{PhaseRoute}
 use Rattle.channel_bundles.specs.Links.{IsNudge}
-use Rattle.nudge_laws.specs.LegalRuns.{walk_along}
-use Rattle.nudge_laws.specs.Nudged.{IsNudged, IsWrittenLine}
-use Rattle.nudge_laws.specs.Ready.{AreRaw, HasLegalWalk, HaveFewRuns}
-use Rattle.nudge_laws.proofs.Phases.Solvable.{as_many}
-use Rattle.nudge_routes.proofs.BetweenPhases.{raw_may_move, x_may_move, x_ready_all}
+use Rattle.nudge_phases.specs.LegalRuns.{walk_along}
+use Rattle.nudge_phases.specs.Lines.{IsNudged, IsWrittenLine}
+use Rattle.nudge_phases.specs.Ready.{AreRaw, HasLegalWalk, HaveFewRuns}
+use Rattle.nudge_phases.proofs.EachPhase.Solvable.{as_many}
+use Rattle.nudge_phases.proofs.BetweenPhases.{raw_may_move, x_may_move, x_ready_all}
 use Rattle.nudge_phases.specs.Raw.{AreRawRoutes, IsRawRoute, routed}
 use Rattle.nudge_phases.proofs.Answered.{IsAnswered, answered}
 use Rattle.nudge_phases.proofs.RawReady.{few_points}

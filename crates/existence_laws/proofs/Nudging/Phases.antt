@@ -26,13 +26,13 @@ use Rattle.channel_bundles.specs.Limits.{MayMove}
 use Rattle.channel_bundles.specs.Links.{IsLink, IsNudge, item_of, link, member_at, rule_if, rules_after, rules_from}
 use Rattle.channel_bundles.specs.Bundles.{AreBundles, IsBundleOf, members_at, members_of}
 use Rattle.channel_bundles.proofs.Bundling.{few_places}
-use Rattle.nudge_laws.specs.Moved.{IsPutAt, moved_run}
-use Rattle.nudge_laws.specs.Phase.{IsPhase, IsSolutionOf}
-use Rattle.nudge_laws.proofs.Phases.Solvable.{solvable}
-use Rattle.nudge_routes.specs.Steps.{AreBundlesIn, AreEach, AreSolutionsOf, HasFollowed, IsPut, IsRunIn, coordinates}
-use Rattle.nudge_routes.proofs.BetweenPhases.{is_phase}
-use Rattle.nudge_routes.proofs.Covering.{bundles_in}
-use Rattle.nudge_routes.proofs.Routes.{some_read}
+use Rattle.nudge_phases.specs.Moved.{IsPutAt, moved_run}
+use Rattle.nudge_phases.specs.Phase.{IsPhase, IsSolutionOf}
+use Rattle.nudge_phases.proofs.EachPhase.Solvable.{solvable}
+use Rattle.nudge_phases.specs.Steps.{AreBundlesIn, AreEach, AreSolutionsOf, HasFollowed, IsPut, IsRunIn, coordinates}
+use Rattle.nudge_phases.proofs.BetweenPhases.{is_phase}
+use Rattle.nudge_phases.proofs.Covering.{bundles_in}
+use Rattle.nudge_phases.proofs.RouteRuns.{some_read}
 use Rattle.nudge_phases.proofs.Zips.{zip_count, zip_read}
 use Rattle.existence_laws.proofs.Answering.Answered.{partners}
 use Rattle.existence_laws.proofs.Deciding.Decided.{both}

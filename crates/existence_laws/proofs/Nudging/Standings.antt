@@ -21,8 +21,8 @@ use Rattle.channel_bundles.specs.declared.route.PhaseRoute.{PhaseRoute}
 use Rattle.channel_bundles.specs.Route.{IsFixed, IsPhaseRoute, is_way, of_way, runs_of_way}
 use Rattle.channel_bundles.specs.Limits.{MayMove, MayStandAt}
 use Rattle.channel_bundles.specs.Bundles.{AreInOrder, IsStanding, Standing}
-use Rattle.nudge_laws.proofs.MovedRuns.Bundled.{IsRunOf, are_runs_of}
-use Rattle.nudge_laws.proofs.Phases.Solvable.{own_way}
+use Rattle.nudge_phases.proofs.MovedRuns.Bundled.{IsRunOf, are_runs_of}
+use Rattle.nudge_phases.proofs.EachPhase.Solvable.{own_way}
 use Rattle.existence_laws.proofs.Answering.Answered.{partners}
 use Rattle.existence_laws.proofs.Nudging.Limits.{fixed_decided, some_limits}
 

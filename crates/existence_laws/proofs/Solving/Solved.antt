@@ -28,7 +28,7 @@ use Rattle.separation_model.proofs.Optimum.Middle.{least_over}
 use Rattle.separation_model.proofs.Optimum.Positions.{MeetsOver, ends_within, int_at-listed, limits_on_sheet, listed, over_product_meets}
 use Rattle.separation_model.proofs.Gaps.WidestExists.{widest_exists}
 use Rattle.separation_model.proofs.Verifying.Accepted.{accepted}
-use Rattle.nudge_laws.specs.Phase.{IsSolutionOf}
+use Rattle.nudge_phases.specs.Phase.{IsSolutionOf}
 use Rattle.existence_laws.specs.Solutions.{HaveSolutions}
 use Rattle.existence_laws.proofs.Solving.Flows.{IsMet, flow_or_cut, gathered, here_sign, touch}
 use Rattle.existence_laws.proofs.Solving.Links.{Link, IsTight, IsTightLink, link, link_of_high, link_of_low, link_of_rule, link_sum, link_count, at_item, at_wall, ends_in, from, supply, supply_even, supply_item, supply_wall, tight_or, to}

@@ -28,12 +28,12 @@ use Rattle.move_model.proofs.Stopping.RunLines.{lie_on_line, way_between}
 use Rattle.walk_model.specs.Cost.{turn}
 use Rattle.walk_laws.proofs.Steps.Shift.{turn_back}
 use Rattle.walk_laws.proofs.Steps.Turns.{across_two}
-use Rattle.search_labels.specs.Bounds.{origins_after}
-use Rattle.search_labels.specs.Origins.{Covers}
-use Rattle.search_labels.specs.declared.ends.Entry.{Entry}
-use Rattle.search_labels.specs.declared.origin.Origin.{Origin}
-use Rattle.search_labels.specs.Problems.{IsReady}
-use Rattle.search_labels.specs.declared.problem.Problem.{Problem}
+use Rattle.search_problem.specs.Bounds.{origins_after}
+use Rattle.search_problem.specs.Origins.{Covers}
+use Rattle.search_problem.specs.declared.ends.Entry.{Entry}
+use Rattle.search_problem.specs.declared.origin.Origin.{Origin}
+use Rattle.search_problem.specs.Problems.{IsReady}
+use Rattle.search_problem.specs.declared.problem.Problem.{Problem}
 use Rattle.side_touches.specs.Touches.{AreLineTouches, IsRunOn, LineTouches}
 use Rattle.exit_spread.specs.Propagating.{AreOf, crosswise}
 use Rattle.exit_spread.proofs.Known.Lines.{further_less}

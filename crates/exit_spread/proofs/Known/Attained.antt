@@ -23,8 +23,8 @@ use Rattle.move_model.proofs.GoingOn.Joined.{steps_behind, way_behind}
 use Rattle.move_model.proofs.Stopping.StraightLegs.{straight_legs}
 use Rattle.move_model.proofs.Stopping.Stops.{one_at_least}
 use Rattle.move_model.proofs.Stopping.WayRuns.{bend_ahead, straight_ahead}
-use Rattle.search_labels.specs.Problems.{IsReady}
-use Rattle.search_labels.specs.declared.problem.Problem.{Problem}
+use Rattle.search_problem.specs.Problems.{IsReady}
+use Rattle.search_problem.specs.declared.problem.Problem.{Problem}
 use Rattle.exit_rows.specs.Exits.{CountsAt, ahead_at}
 use Rattle.exit_rows.specs.declared.exit.Kept.{Kept}
 use Rattle.exit_spread.specs.Offers.{from_after}

@@ -19,8 +19,8 @@ use Rattle.move_model.specs.Ways.{GoesAlongWay, Leads, Leg}
 use Rattle.move_model.proofs.Stopping.HeldLegs.{doubles_at}
 use Rattle.move_model.proofs.Stopping.RunLines.{run_between}
 use Rattle.move_model.proofs.Stopping.StraightLegs.{straight_lies}
-use Rattle.search_labels.specs.Problems.{IsReady}
-use Rattle.search_labels.specs.declared.problem.Problem.{Problem}
+use Rattle.search_problem.specs.Problems.{IsReady}
+use Rattle.search_problem.specs.declared.problem.Problem.{Problem}
 use Rattle.exit_spread.specs.Offers.{MayBegin}
 use Rattle.exit_spread.proofs.Known.Lines.{further_across}
 use Rattle.exit_spread.proofs.Known.Mattering.{some_entry}

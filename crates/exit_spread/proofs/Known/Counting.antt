@@ -21,8 +21,8 @@ use Rattle.move_model.specs.Ways.{GoesAlongWay, HasRest, Leads, Leg}
 use Rattle.move_model.proofs.GoingOn.Rests.{crossing_on_sheet}
 use Rattle.move_model.proofs.Stopping.StraightLegs.{goes_free, goes_lies}
 use Rattle.move_model.proofs.Stopping.WayRuns.{rest_no_more}
-use Rattle.search_labels.specs.Problems.{IsReady}
-use Rattle.search_labels.specs.declared.problem.Problem.{Problem}
+use Rattle.search_problem.specs.Problems.{IsReady}
+use Rattle.search_problem.specs.declared.problem.Problem.{Problem}
 use Rattle.exit_spread.specs.Offers.{from_after, from_of}
 use Rattle.exit_spread.proofs.Known.Attained.{from_cases}
 use Rattle.exit_spread.proofs.Known.Lines.{further_across, lies_between, one_by_reach}

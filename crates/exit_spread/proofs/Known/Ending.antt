@@ -16,10 +16,10 @@ use Rattle.move_model.specs.Ahead.{ahead, nothing, with_stretch}
 use Rattle.move_model.specs.Places.{IsEnding}
 use Rattle.move_model.specs.Ways.{steps_of_way}
 use Rattle.move_model.proofs.GoingOn.Stretching.{stub_ahead}
-use Rattle.search_labels.specs.Ends.{IsEndingOf}
-use Rattle.search_labels.specs.Problems.{IsReady}
-use Rattle.search_labels.specs.declared.ends.Ending.{Ending}
-use Rattle.search_labels.specs.declared.problem.Problem.{Problem}
+use Rattle.search_problem.specs.Ends.{IsEndingOf}
+use Rattle.search_problem.specs.Problems.{IsReady}
+use Rattle.search_problem.specs.declared.ends.Ending.{Ending}
+use Rattle.search_problem.specs.declared.problem.Problem.{Problem}
 
 module _ (p : Problem) (ready : IsReady p) where
   -- what is ahead of a walk that arrives at the place and ends by the stub of the ending

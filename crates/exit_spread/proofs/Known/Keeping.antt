@@ -6,7 +6,7 @@ use Rattle.std.specs.declared.cmp.Ordering.TheVariants.{Greater}
 use Rattle.std.specs.declared.cmp.Reverse.{Reverse}
 use Rattle.std.proofs.lemmas.Int.{ints}
 use Rattle.std.proofs.lemmas.List.Elements.{All-contains}
-use Rattle.candidate_queue.specs.declared.queue.Candidate.{Candidate}
+use Rattle.search_problem.specs.declared.queue.Candidate.{Candidate}
 use Rattle.plane_geom.specs.declared.point.Point.{Point}
 use Rattle.plane_geom.specs.declared.point.Dir.{Dir}
 use Rattle.plane_geom.specs.declared.point.Way.{Way}
@@ -26,8 +26,8 @@ use Rattle.move_model.specs.Ways.{GoesAlongWay, Leads, Leg, steps_along, steps_o
 use Rattle.move_model.proofs.GoingOn.Joined.{steps_behind}
 use Rattle.move_model.proofs.Stopping.Stops.{goes_heading, one_at_least}
 use Rattle.move_model.proofs.Stopping.WayRuns.{straight_ahead}
-use Rattle.search_labels.specs.Problems.{IsReady}
-use Rattle.search_labels.specs.declared.problem.Problem.{Problem}
+use Rattle.search_problem.specs.Problems.{IsReady}
+use Rattle.search_problem.specs.declared.problem.Problem.{Problem}
 use Rattle.exit_rows.specs.Exits.{CountsAt, IsLate, StandsFor, ahead_at}
 use Rattle.exit_rows.specs.Rows.{kept_in}
 use Rattle.exit_rows.specs.declared.exit.Exit.{Exit}

@@ -22,14 +22,14 @@ use Rattle.move_model.proofs.GoingOn.Joined.{way_ahead}
 use Rattle.move_model.proofs.GoingOn.Rivals.{least}
 use Rattle.move_model.proofs.GoingOn.Stretching.{stretch_ahead}
 use Rattle.move_model.proofs.Moving.Stages.{one_stage}
-use Rattle.search_labels.specs.Bounds.{origins_after}
-use Rattle.search_labels.specs.Ends.{IsEntryOf}
-use Rattle.search_labels.specs.Origins.{Covers}
-use Rattle.search_labels.specs.Problems.{IsReady}
-use Rattle.search_labels.specs.declared.ends.Entry.{Entry}
-use Rattle.search_labels.specs.declared.origin.Origin.{Origin}
-use Rattle.search_labels.specs.declared.problem.Problem.{Problem}
-use Rattle.search_labels.proofs.BoundsGrow.{bound_enters, bound_moves}
+use Rattle.search_problem.specs.Bounds.{origins_after}
+use Rattle.search_problem.specs.Ends.{IsEntryOf}
+use Rattle.search_problem.specs.Origins.{Covers}
+use Rattle.search_problem.specs.Problems.{IsReady}
+use Rattle.search_problem.specs.declared.ends.Entry.{Entry}
+use Rattle.search_problem.specs.declared.origin.Origin.{Origin}
+use Rattle.search_problem.specs.declared.problem.Problem.{Problem}
+use Rattle.search_problem.proofs.BoundsGrow.{bound_enters, bound_moves}
 use Rattle.exit_spread.specs.Ways.{IsBest, bound_at, most_runs}
 use Rattle.exit_spread.proofs.Known.AheadOrder.{costs_no_more}
 

@@ -21,9 +21,9 @@ use Rattle.move_model.specs.Places.{ComesTo, IsEnding}
 use Rattle.move_model.specs.Stations.{IsTurn, line_between}
 use Rattle.move_model.specs.Ways.{GoesAlongWay, Leg}
 use Rattle.move_model.proofs.Stopping.RunLines.{ended_later, held_longer, run_between}
-use Rattle.search_labels.specs.Problems.{IsReady}
-use Rattle.search_labels.specs.declared.ends.Ending.{Ending}
-use Rattle.search_labels.specs.declared.problem.Problem.{Problem}
+use Rattle.search_problem.specs.Problems.{IsReady}
+use Rattle.search_problem.specs.declared.ends.Ending.{Ending}
+use Rattle.search_problem.specs.declared.problem.Problem.{Problem}
 use Rattle.exit_rows.specs.Exits.{ahead_at}
 use Rattle.exit_spread.specs.declared.spread.Spread.{Spread}
 use Rattle.exit_spread.specs.Offers.{IsPropagatedAt, IsHeldUpTo, IsOffered, exit_of}

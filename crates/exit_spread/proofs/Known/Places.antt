@@ -23,10 +23,10 @@ use Rattle.move_model.specs.Places.{IsEnding}
 use Rattle.move_model.specs.Ways.{GoesAlongWay, Leg}
 use Rattle.move_model.proofs.GoingOn.Rests.{rest_way}
 use Rattle.move_model.proofs.Stopping.KnownByStations.{known_along_way}
-use Rattle.search_labels.specs.Ends.{IsEndingOf}
-use Rattle.search_labels.specs.Problems.{IsReady}
-use Rattle.search_labels.specs.declared.ends.Ending.{Ending}
-use Rattle.search_labels.specs.declared.problem.Problem.{Problem}
+use Rattle.search_problem.specs.Ends.{IsEndingOf}
+use Rattle.search_problem.specs.Problems.{IsReady}
+use Rattle.search_problem.specs.declared.ends.Ending.{Ending}
+use Rattle.search_problem.specs.declared.problem.Problem.{Problem}
 use Rattle.exit_rows.specs.Exits.{ahead_at, lesser}
 use Rattle.exit_rows.specs.declared.exit.Kept.{Kept}
 use Rattle.exit_rows.proofs.Least.{AtMost, attained as least_attained, least as least_of_row, lesser_keeps, lesser_one, lesser_takes}

@@ -20,8 +20,8 @@ use Rattle.move_model.proofs.GoingOn.Joined.{steps_behind}
 use Rattle.move_model.proofs.GoingOn.Rests.{legs_no_less, rest_least, rest_way}
 use Rattle.move_model.proofs.GoingOn.Stretching.{stretch_order}
 use Rattle.move_model.proofs.Stopping.WayRuns.{bend_ahead}
-use Rattle.search_labels.specs.Problems.{IsReady}
-use Rattle.search_labels.specs.declared.problem.Problem.{Problem}
+use Rattle.search_problem.specs.Problems.{IsReady}
+use Rattle.search_problem.specs.declared.problem.Problem.{Problem}
 use Rattle.exit_spread.specs.Ways.{IsWayAhead, turned}
 use Rattle.exit_spread.proofs.Known.AheadOrder.{costs_no_more}
 use Rattle.exit_spread.proofs.Known.Attained.{IsWayAlong, turned_way}

@@ -4,7 +4,7 @@ use Rattle.plane_geom.specs.declared.point.Point.{Point}
 use Rattle.plane_geom.specs.declared.point.Dir.{Dir}
 use Rattle.plane_geom.specs.declared.point.Way.{Way}
 use Rattle.line_lists.specs.declared.stop.Stop.{Stop}
-use Rattle.search_labels.specs.declared.problem.Problem.{Problem}
+use Rattle.search_problem.specs.declared.problem.Problem.{Problem}
 use Rattle.exit_rows.specs.declared.exit.Exit.{Exit}
 use Rattle.exit_spread.specs.declared.run.Run.{Run}
 use Rattle.exit_spread.specs.declared.spread.Spread.{Spread}

@@ -23,10 +23,10 @@ use Rattle.move_model.proofs.GoingOn.Joined.{way_ahead}
 use Rattle.move_model.proofs.GoingOn.Stretching.{same_ahead}
 use Rattle.move_model.proofs.Moving.LegalWays.{way_is_legal}
 use Rattle.line_lists.specs.Lists.{AreListsOf, Lists, number_of}
-use Rattle.search_labels.specs.Ends.{IsEntryOf}
-use Rattle.search_labels.specs.Problems.{IsReady}
-use Rattle.search_labels.specs.declared.ends.Entry.{Entry}
-use Rattle.search_labels.specs.declared.problem.Problem.{Problem}
+use Rattle.search_problem.specs.Ends.{IsEntryOf}
+use Rattle.search_problem.specs.Problems.{IsReady}
+use Rattle.search_problem.specs.declared.ends.Entry.{Entry}
+use Rattle.search_problem.specs.declared.problem.Problem.{Problem}
 use Rattle.exit_rows.specs.Exits.{CountsAt, IsSmallKept, ahead_at}
 use Rattle.exit_rows.specs.declared.exit.Kept.{Kept}
 use Rattle.exit_spread.specs.declared.run.Run.{Run}

@@ -6,7 +6,7 @@ use Rattle.std.proofs.lemmas.Bool.{cases_lt}
 use Rattle.std.proofs.lemmas.Int.{ints}
 use Rattle.walk_model.specs.Order.{IsLegalTriple, Triple, triple_cost}
 use Rattle.move_model.specs.declared.ahead.Ahead.{Ahead}
-use Rattle.search_labels.specs.declared.problem.Problem.{Problem}
+use Rattle.search_problem.specs.declared.problem.Problem.{Problem}
 use Rattle.exit_rows.specs.Exits.{CountsAt, ahead_at, counted_at}
 use Rattle.exit_rows.specs.declared.exit.Kept.{Kept}
 use Rattle.exit_spread.specs.Ways.{IsBest}

@@ -20,8 +20,8 @@ use Rattle.line_lists.specs.Lists.{AreListsOf, AreStopsOf, HasNumber, IsNumbered
 use Rattle.line_lists.specs.Numbers.{other_way}
 use Rattle.line_lists.specs.declared.stop.Stop.{Stop}
 use Rattle.line_lists.proofs.OnLine.{one_of_both, same_line}
-use Rattle.search_labels.specs.Problems.{IsReady}
-use Rattle.search_labels.specs.declared.problem.Problem.{Problem}
+use Rattle.search_problem.specs.Problems.{IsReady}
+use Rattle.search_problem.specs.declared.problem.Problem.{Problem}
 use Rattle.exit_spread.specs.declared.run.Run.{Run}
 use Rattle.exit_spread.specs.Propagating.{IsRun, reach_along}
 use Rattle.exit_spread.proofs.Known.Numbers.{numbered_line}

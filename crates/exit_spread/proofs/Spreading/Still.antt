@@ -3,10 +3,10 @@ use Rattle.std.proofs.Common.{◌≡◌, ℕ, ◌≤◌, List, Option, sym, subs
 use Rattle.std.specs.Prelude.{Any, Contains}
 use Rattle.std.specs.BinaryHeap.{heap_items}
 use Rattle.std.specs.declared.cmp.Reverse.{Reverse}
-use Rattle.candidate_queue.specs.declared.queue.Candidate.{Candidate}
+use Rattle.search_problem.specs.declared.queue.Candidate.{Candidate}
 use Rattle.plane_geom.specs.declared.point.Point.{Point}
 use Rattle.plane_geom.specs.declared.point.Dir.{Dir}
-use Rattle.search_labels.specs.declared.problem.Problem.{Problem}
+use Rattle.search_problem.specs.declared.problem.Problem.{Problem}
 use Rattle.exit_rows.specs.Exits.{IsLate, StandsFor}
 use Rattle.exit_rows.specs.Rows.{kept_in}
 use Rattle.exit_rows.specs.declared.exit.Exit.{Exit}

@@ -11,7 +11,7 @@ use Rattle.plane_geom.specs.declared.point.Way.{Way}
 use Rattle.plane_geom.specs.Along.{reach}
 use Rattle.line_lists.specs.Lists.{Lists, stops_of}
 use Rattle.line_lists.specs.declared.stop.Stop.{Stop}
-use Rattle.search_labels.specs.declared.problem.Problem.{Problem}
+use Rattle.search_problem.specs.declared.problem.Problem.{Problem}
 use Rattle.exit_rows.specs.Exits.{ahead_at}
 use Rattle.exit_spread.specs.declared.run.Run.{Run}
 use Rattle.exit_spread.specs.declared.spread.Spread.{Spread}

@@ -13,8 +13,8 @@ use Rattle.line_arena.specs.Arena.{StandsAt}
 use Rattle.line_arena.proofs.Arenas.ArenaLaws.{one_point}
 use Rattle.line_lists.specs.Lists.{Lists}
 use Rattle.move_model.specs.Places.{ComesTo}
-use Rattle.search_labels.specs.Problems.{IsReady}
-use Rattle.search_labels.specs.declared.problem.Problem.{Problem}
+use Rattle.search_problem.specs.Problems.{IsReady}
+use Rattle.search_problem.specs.declared.problem.Problem.{Problem}
 use Rattle.exit_rows.specs.Exits.{IsLate, IsSmallAhead, IsSmallKept, IsUndercut}
 use Rattle.exit_rows.specs.Rows.{HasRow, IsMarked, Keeps, SameRooms, kept_in}
 use Rattle.exit_rows.specs.Weights.{CountAlike, rows_weight}

@@ -9,7 +9,7 @@ use Rattle.plane_geom.specs.Along.{reach, way_of}
 use Rattle.plane_geom.specs.Point.{opposite}
 use Rattle.line_arena.specs.Arena.{StandsAt}
 use Rattle.line_lists.specs.Lists.{Lists}
-use Rattle.search_labels.specs.declared.problem.Problem.{Problem}
+use Rattle.search_problem.specs.declared.problem.Problem.{Problem}
 use Rattle.exit_rows.specs.Exits.{IsUndercut, ahead_at}
 use Rattle.exit_rows.specs.Rows.{HasRow, IsMarked, kept_in}
 use Rattle.exit_rows.specs.declared.exit.Exit.{Exit}

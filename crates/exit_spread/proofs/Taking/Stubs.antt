@@ -12,9 +12,9 @@ use Rattle.walk_model.proofs.CornerByCorner.Bends.{turn_bound}
 use Rattle.move_model.specs.declared.ahead.Ahead.{Ahead}
 use Rattle.move_model.specs.Ahead.{nothing, with_stretch}
 use Rattle.move_model.proofs.GoingOn.Stretching.{stub_ahead}
-use Rattle.search_labels.specs.Problems.{IsReady}
-use Rattle.search_labels.specs.declared.ends.Ending.{Ending}
-use Rattle.search_labels.specs.declared.problem.Problem.{Problem}
+use Rattle.search_problem.specs.Problems.{IsReady}
+use Rattle.search_problem.specs.declared.ends.Ending.{Ending}
+use Rattle.search_problem.specs.declared.problem.Problem.{Problem}
 use Rattle.exit_spread.specs.Propagating.{IsOfferable}
 use Rattle.exit_spread.specs.Ways.{IsWayAhead, place_at}
 use Rattle.exit_spread.proofs.Sizes.{IsSmallEnding, across_small}

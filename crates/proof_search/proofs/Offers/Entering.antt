@@ -7,10 +7,10 @@ use Rattle.walk_model.specs.declared.task.Choice.{Choice}
 use Rattle.move_model.specs.Places.{HasFreeStub}
 use Rattle.move_model.specs.Problems.{IsProblem}
 use Rattle.route_check.proofs.Collisions.Places.{contains_at}
-use Rattle.search_labels.specs.Ends.{IsEntryOf}
-use Rattle.search_labels.specs.Problems.{IsReady}
-use Rattle.search_labels.specs.declared.ends.Entry.{Entry}
-use Rattle.search_labels.specs.declared.problem.Problem.{Problem}
+use Rattle.search_problem.specs.Ends.{IsEntryOf}
+use Rattle.search_problem.specs.Problems.{IsReady}
+use Rattle.search_problem.specs.declared.ends.Entry.{Entry}
+use Rattle.search_problem.specs.declared.problem.Problem.{Problem}
 use Rattle.proof_model.specs.Places as floors
 use Rattle.proof_model.proofs.Bridge.{crossing_of}
 use Rattle.proof_search.specs.declared.scope.Scope.{Scope}

@@ -6,10 +6,10 @@ use Rattle.plane_geom.specs.declared.point.Point.{Point}
 use Rattle.plane_geom.specs.declared.point.Dir.{Dir}
 use Rattle.move_model.specs.declared.place.Place.{Place}
 use Rattle.move_model.specs.declared.ahead.Ahead.{Ahead}
-use Rattle.search_labels.specs.Problems.{IsReady}
-use Rattle.search_labels.specs.Tables.{IsMarked, Puts}
-use Rattle.search_labels.specs.declared.label.Label.TheVariants.{Open, Closed}
-use Rattle.search_labels.specs.declared.problem.Problem.{Problem}
+use Rattle.search_problem.specs.Problems.{IsReady}
+use Rattle.proof_search.specs.Tables.{Puts}
+use Rattle.proof_search.specs.declared.label.Label.TheVariants.{Open, Closed}
+use Rattle.search_problem.specs.declared.problem.Problem.{Problem}
 use Rattle.proof_model.specs.declared.next.Next.{Next}
 use Rattle.proof_model.specs.Rules.{Suffices}
 use Rattle.proof_search.proofs.Offers.OnePlace.{one_place}
@@ -48,7 +48,7 @@ spreads_none s l = record { falls = λ x cost h. h; closed = λ x v e. e }
 -- a label is given to a place that is queued
 module _ (p : Problem) (ready : IsReady p) (s : Scope) (old new : Labels) (but : Option Place) (searching : IsSearching p s old None but)
     (x : Place) (v : ℕ) (known : Ahead) (cost : known.cost ≡ v) (reached : IsReachedAt p s x v) (lower : (w : ℕ) → cost_at old x ≡ Some w → v ≤ w)
-    (puts : Puts old.table new.table x (Open known)) (marked : IsMarked new.table)
+    (puts : Puts old.table new.table x (Open known))
     (kept : (c : _) → Contains (heap_items old.queue.heap) c → Contains (heap_items new.queue.heap) c)
     (queued : IsQueued new x) (places : All (λ c. IsPlace p c.0.item) (heap_items new.queue.heap)) where
   here : label_at new x ≡ Open known
@@ -91,7 +91,6 @@ module _ (p : Problem) (ready : IsReady p) (s : Scope) (old new : Labels) (but :
     queued = λ y w not_but e. queued_at y w e (one_place y x);
     propagated = λ y w not_but e. still_propagated p s old new labels_fall y w.cost (searching.propagated y w not_but (none_closed y w e));
     candidates = places;
-    marked = marked;
     rooms = record { places = puts.rooms.places ∙ searching.rooms.places; rows = omega (arith, puts.rooms.rows, searching.rooms.rows) };
   }
     where

@@ -10,8 +10,8 @@ use Rattle.line_arena.proofs.Arenas.ArenaLaws.{one_point}
 use Rattle.walk_model.specs.declared.task.Task.{Task}
 use Rattle.walk_model.specs.Cost.{turn}
 use Rattle.move_model.specs.declared.place.Place.{Place}
-use Rattle.search_labels.specs.Problems.{IsReady}
-use Rattle.search_labels.specs.declared.problem.Problem.{Problem}
+use Rattle.search_problem.specs.Problems.{IsReady}
+use Rattle.search_problem.specs.declared.problem.Problem.{Problem}
 use Rattle.proof_model.specs.declared.next.Next.{Next}
 use Rattle.proof_model.specs.Next.{IsNext, place_of}
 use Rattle.route_search.proofs.Moving.Directions.{directions, each}

@@ -4,8 +4,8 @@ use Rattle.std.proofs.lemmas.Bool.{cases_lt, lt-ltb, le-ltb}
 use Rattle.plane_geom.specs.declared.floor.Floor.{Floor}
 use Rattle.walk_model.specs.declared.task.Task.{Task}
 use Rattle.move_model.specs.declared.place.Place.{Place}
-use Rattle.search_labels.specs.Problems.{IsReady}
-use Rattle.search_labels.specs.declared.problem.Problem.{Problem}
+use Rattle.search_problem.specs.Problems.{IsReady}
+use Rattle.search_problem.specs.declared.problem.Problem.{Problem}
 use Rattle.proof_model.specs.LeastLabels.{IsLabelReached}
 use Rattle.proof_model.specs.Places as floors
 use Rattle.proof_model.specs.Rules.{Suffices}

@@ -5,10 +5,10 @@ use Rattle.std.specs.Prelude.{sum_by}
 use Rattle.std.proofs.lemmas.List.Sums.{sum_by-set}
 use Rattle.plane_geom.specs.declared.point.Dir.{Dir}
 use Rattle.plane_geom.specs.declared.point.Dir.TheVariants.{East, South, West, North}
-use Rattle.search_labels.specs.Labels.{empty_row, label_in, with_label}
-use Rattle.search_labels.specs.declared.label.Label.{Label}
-use Rattle.search_labels.specs.declared.label.Label.TheVariants.{Absent, Open, Closed}
-use Rattle.search_labels.specs.declared.label.Row.{Row}
+use Rattle.proof_search.specs.Labels.{empty_row, label_in, with_label}
+use Rattle.proof_search.specs.declared.label.Label.{Label}
+use Rattle.proof_search.specs.declared.label.Label.TheVariants.{Absent, Open, Closed}
+use Rattle.proof_search.specs.declared.label.Row.{Row}
 use Rattle.proof_search.specs.declared.scope.Scope.{Scope}
 use Rattle.proof_search.specs.Scopes.{most_of}
 use Rattle.proof_search.specs.Search.{cost_in, label_weight, row_weight}

@@ -12,8 +12,8 @@ use Rattle.walk_model.specs.Answers.{IsAnswer}
 use Rattle.walk_model.specs.Order.{IsFirst}
 use Rattle.walk_laws.proofs.FewAndSmall.SmallWalks.{small_cost}
 use Rattle.move_model.specs.Problems.{IsProblem}
-use Rattle.search_labels.specs.Problems.{IsReady}
-use Rattle.search_labels.specs.declared.problem.Problem.{Problem}
+use Rattle.search_problem.specs.Problems.{IsReady}
+use Rattle.search_problem.specs.declared.problem.Problem.{Problem}
 use Rattle.proof_model.specs.declared.proof.Claim.{Claim}
 use Rattle.proof_model.specs.declared.proof.LabelRow.{LabelRow}
 use Rattle.proof_model.specs.declared.proof.Proof.{Proof}

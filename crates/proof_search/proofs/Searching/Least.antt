@@ -14,12 +14,12 @@ use Rattle.move_model.specs.declared.place.Place.{Place}
 use Rattle.move_model.specs.Places.{ComesTo, HasFreeStub, IsEntry as Enters}
 use Rattle.move_model.specs.Problems.{IsProblem}
 use Rattle.move_model.proofs.Moving.Stages.{one_stage}
-use Rattle.search_labels.specs.Ends.{IsEntryOf}
-use Rattle.search_labels.specs.Problems.{IsReady}
-use Rattle.search_labels.specs.declared.ends.Entry.{Entry}
-use Rattle.search_labels.specs.declared.label.Label.{Label}
-use Rattle.search_labels.specs.declared.label.Label.TheVariants.{Absent, Open, Closed}
-use Rattle.search_labels.specs.declared.problem.Problem.{Problem}
+use Rattle.search_problem.specs.Ends.{IsEntryOf}
+use Rattle.search_problem.specs.Problems.{IsReady}
+use Rattle.search_problem.specs.declared.ends.Entry.{Entry}
+use Rattle.proof_search.specs.declared.label.Label.{Label}
+use Rattle.proof_search.specs.declared.label.Label.TheVariants.{Absent, Open, Closed}
+use Rattle.search_problem.specs.declared.problem.Problem.{Problem}
 use Rattle.proof_model.specs.declared.next.Next.{Next}
 use Rattle.proof_model.specs.LeastLabels.{Comes, Step}
 use Rattle.proof_model.specs.Places as floors

@@ -1,53 +1,24 @@
 -- A search begins without labels, takes out one candidate after another, and ends where none is left.
-use Rattle.std.proofs.Common.{
-  ◌≡◌,
-  ◌≢◌,
-  ◌⊎◌,
-  ℕ,
-  ◌+◌,
-  ◌^◌,
-  ◌<◌,
-  ◌≤◌,
-  Bool,
-  true,
-  false,
-  if◌then◌else◌,
-  nat_lt,
-  Option,
-  None,
-  Some,
-  List,
-  [],
-  ◌∷◌,
-  length,
-  get_or,
-  refl,
-  sym,
-  ap,
-  ◌∙◌,
-  inl,
-  inr,
-  arith,
-}
+use Rattle.std.proofs.Common.{◌≡◌, ◌≢◌, ◌⊎◌, ℕ, ◌+◌, ◌^◌, ◌≤◌, Bool, true, false, if◌then◌else◌, nat_lt, Option, None, Some, List, [], ◌∷◌, length, get_or, refl, sym, ap, ◌∙◌, inl, inr, arith}
 use Rattle.std.specs.Prelude.{All, Contains, IsPermutation}
 use Rattle.std.specs.BinaryHeap.{heap_items}
 use Rattle.std.specs.declared.cmp.Reverse.{Reverse}
 use Rattle.std.proofs.lemmas.Bool.{cases_lt}
 use Rattle.std.proofs.lemmas.List.{get_or_past}
-use Rattle.candidate_queue.specs.declared.queue.Candidate.{Candidate}
-use Rattle.candidate_queue.specs.declared.queue.Queue.{Queue}
+use Rattle.search_problem.specs.declared.queue.Candidate.{Candidate}
+use Rattle.search_problem.specs.declared.queue.Queue.{Queue}
 use Rattle.plane_geom.specs.declared.point.Dir.{Dir}
 use Rattle.move_model.specs.declared.ahead.Ahead.{Ahead}
 use Rattle.move_model.specs.declared.place.Place.{Place}
-use Rattle.search_labels.specs.Labels.{empty_row, label_in}
-use Rattle.search_labels.specs.Tables.{row_of}
-use Rattle.search_labels.specs.declared.ends.Entry.{Entry}
-use Rattle.search_labels.specs.declared.label.Label.{Label}
-use Rattle.search_labels.specs.declared.label.Label.TheVariants.{Absent, Open}
-use Rattle.search_labels.specs.declared.label.Row.{Row}
-use Rattle.search_labels.specs.declared.problem.Problem.{Problem}
+use Rattle.proof_search.specs.Labels.{empty_row, label_in}
+use Rattle.proof_search.specs.Tables.{row_of}
+use Rattle.search_problem.specs.declared.ends.Entry.{Entry}
+use Rattle.proof_search.specs.declared.label.Label.{Label}
+use Rattle.proof_search.specs.declared.label.Label.TheVariants.{Absent, Open}
+use Rattle.proof_search.specs.declared.label.Row.{Row}
+use Rattle.search_problem.specs.declared.problem.Problem.{Problem}
 use Rattle.exit_spread.proofs.Taking.Offered.{by_heading}
-use Rattle.candidate_queue.proofs.Queues.{none_all, none_has, pop_all, pop_count, pop_one, pop_or_rest}
+use Rattle.search_problem.proofs.Queues.{none_all, none_has, pop_all, pop_count, pop_one, pop_or_rest}
 use Rattle.proof_search.specs.declared.labels.Labels.{Labels}
 use Rattle.proof_search.specs.declared.scope.Scope.{Scope}
 use Rattle.proof_search.specs.Scopes.{most_of}
@@ -78,7 +49,7 @@ module _ (p : Problem) (s : Scope) (l : Labels) (none : AreNone l) where
   no_label x =
       absent_both (nat_lt x.crossing l.table.places) _ (all_absent _ x.heading
       (elim (cases_lt (row_of l.table x) (length l.table.rows.items)) as (λ _. get_or l.table.rows.items (row_of l.table x) empty_row ≡ empty_row) [
-        | inl lt ↦ none.table.rows (row_of l.table x) empty_row lt
+        | inl lt ↦ none.table (row_of l.table x) empty_row lt
         | inr past ↦ get_or_past l.table.rows.items (row_of l.table x) empty_row past
       ]))
 
@@ -92,10 +63,6 @@ module _ (p : Problem) (s : Scope) (l : Labels) (none : AreNone l) where
     queued = λ x v but e. absurd (nothing_known x v.cost (ap cost_in e));
     propagated = λ x v but e. absurd (nothing_known x v.cost (ap cost_in e));
     candidates = none_all (heap_items l.queue.heap) none.queue (λ c. IsPlace p c.0.item);
-    marked = record {
-      rows = λ k d lt. inl (none.table.rows k d lt);
-      marks = none_all l.table.marked.items none.table.marks (λ k. k < length l.table.rows.items);
-    };
     rooms = rooms;
   }
 
@@ -109,7 +76,6 @@ module _ (p : Problem) (s : Scope) (l : Labels) (q : Queue Place) (searching : I
     queued = queued;
     propagated = λ x v other closed. still_propagated p s l (with_queue l q) (queue_falls s l q) x v.cost (searching.propagated x v other closed);
     candidates = places;
-    marked = searching.marked;
     rooms = record { places = searching.rooms.places; rows = searching.rooms.rows };
   }
 

@@ -2,12 +2,12 @@
 use Rattle.std.proofs.Common.{◌≡◌, ◌≢◌, ℕ, Option, None, Some, sym, ap, subst, ◌∙◌, inl, inr, arith}
 use Rattle.std.specs.Prelude.{All}
 use Rattle.std.specs.BinaryHeap.{heap_items}
-use Rattle.candidate_queue.specs.declared.queue.Queue.{Queue}
+use Rattle.search_problem.specs.declared.queue.Queue.{Queue}
 use Rattle.move_model.specs.declared.ahead.Ahead.{Ahead}
 use Rattle.move_model.specs.declared.place.Place.{Place}
-use Rattle.search_labels.specs.Tables.{IsMarked, Puts}
-use Rattle.search_labels.specs.declared.label.Label.TheVariants.{Open, Closed}
-use Rattle.search_labels.specs.declared.problem.Problem.{Problem}
+use Rattle.proof_search.specs.Tables.{Puts}
+use Rattle.proof_search.specs.declared.label.Label.TheVariants.{Open, Closed}
+use Rattle.search_problem.specs.declared.problem.Problem.{Problem}
 use Rattle.proof_model.specs.Rules.{Suffices}
 use Rattle.proof_search.proofs.Offers.OnePlace.{one_place}
 use Rattle.proof_search.specs.declared.labels.Labels.{Labels}
@@ -28,14 +28,13 @@ none_open p s l x h never = record {
   queued = λ y w but e. h.queued y w (λ (same : ◌≡◌ {A = Option Place} (Some y) (Some x)). never w (ap (label_at l) (sym (same_place y x same)) ∙ e)) e;
   propagated = h.propagated;
   candidates = h.candidates;
-  marked = h.marked;
   rooms = h.rooms;
 }
 
 -- an open label is closed
 module _ (p : Problem) (s : Scope) (old new : Labels) (x : Place) (v : Ahead) (searching : IsSearching p s old (Some x) None)
     (is_open : label_at old x ≡ Open v)
-    (puts : Puts old.table new.table x (Closed v)) (marked : IsMarked new.table) (queue : new.queue ≡ old.queue) where
+    (puts : Puts old.table new.table x (Closed v)) (queue : new.queue ≡ old.queue) where
   still_cost : (y : Place) → cost_at new y ≡ cost_at old y
   still_cost y = elim (one_place y x) as (λ _. cost_at new y ≡ cost_at old y) [
     | inl same ↦ ap (cost_at new) same ∙ ap cost_in puts.changed ∙ sym (ap cost_in is_open) ∙ ap (cost_at old) (sym same)
@@ -64,7 +63,6 @@ module _ (p : Problem) (s : Scope) (old new : Labels) (x : Place) (v : Ahead) (s
       | inr other ↦ still_propagated p s old new closing_falls y w.cost (searching.propagated y w (λ none. cc) (sym (puts.others y other) ∙ e))
     ];
     candidates = subst (λ (q : Queue Place). All (λ c. IsPlace p c.0.item) (heap_items q.heap)) (sym queue) searching.candidates;
-    marked = marked;
     rooms = record { places = puts.rooms.places ∙ searching.rooms.places; rows = omega (arith, puts.rooms.rows, searching.rooms.rows) };
   }
 
@@ -84,6 +82,5 @@ propagated_searching p s mid new x v closed h spreads propagated = record {
     | inr other ↦ h.propagated y w (λ (both : ◌≡◌ {A = Option Place} (Some y) (Some x)). other (same_place y x both)) e
   ];
   candidates = h.candidates;
-  marked = h.marked;
   rooms = h.rooms;
 }

@@ -57,7 +57,7 @@ use Rattle.proof_model.specs.declared.proof.Proof.{Proof}
 use Rattle.proof_model.specs.LeastLabels.{IsLeastProof}
 use Rattle.proof_model.specs.Scenes.{IsProofOf, ProveScene}
 use Rattle.proof_model.proofs.LeastLabels.{prove_claim}
-use Rattle.proof_search.specs.Provers.{IsIdle, IsLeastFor}
+use Rattle.proof_search.specs.Provers.{HasSpots, IsLeastFor}
 use Rattle.proof_search.specs.declared.prover.Prover.{Prover}
 
 -- ---- the edge at a place
@@ -130,7 +130,7 @@ pub record IsProvedUpto (s : Scene) (initial now : Prover) (proofs : List Proof)
   pub within : place ≤ length s.edges
   pub arena : now.finder.arena.now ≡ initial.finder.arena.now
   pub solids : now.finder.solids.now ≡ initial.finder.solids.now
-  pub idle : IsIdle now
+  pub spots : HasSpots now
 
 -- a connector of a valid scene is a problem on the arena of its floor
 pub is_problem : (s : Scene) (e : Edge) (a : Arena) → IsValid s → Contains (connectors s) e → StandsFor (floor_of s) a

@@ -12,12 +12,12 @@ use Rattle.walk_model.specs.declared.task.Choice.{Choice}
 use Rattle.move_model.specs.declared.place.Place.{Place}
 use Rattle.move_model.specs.declared.ahead.Ahead.{Ahead}
 use Rattle.move_model.specs.Ahead.{ahead_cmp}
-use Rattle.search_labels.specs.Ends.{IsEntryOf}
-use Rattle.search_labels.specs.Origins.{IsSmallEntry}
-use Rattle.search_labels.specs.Problems.{IsReady}
-use Rattle.search_labels.specs.declared.ends.Entry.{Entry}
-use Rattle.search_labels.specs.declared.problem.Problem.{Problem}
-use Rattle.search_labels.proofs.Choices.{entries_small}
+use Rattle.search_problem.specs.Ends.{IsEntryOf}
+use Rattle.search_problem.specs.Origins.{IsSmallEntry}
+use Rattle.search_problem.specs.Problems.{IsReady}
+use Rattle.search_problem.specs.declared.ends.Entry.{Entry}
+use Rattle.search_problem.specs.declared.problem.Problem.{Problem}
+use Rattle.search_problem.proofs.Choices.{entries_small}
 use Rattle.exit_spread.specs.Propagating.{IsOfferable}
 use Rattle.route_search.specs.Known.{IsAttained, IsPlace}
 use Rattle.route_search.specs.Starting.{EntersNoLater, IsBetterOf, IsLeastEntry, IsLeastOf, IsLessThan, whole_from}

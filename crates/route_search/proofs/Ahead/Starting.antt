@@ -30,10 +30,10 @@ use Rattle.move_model.proofs.Moving.LegalWays.{way_is_legal}
 use Rattle.move_model.proofs.GoingOn.Rivals.{least, start_no_later}
 use Rattle.move_model.proofs.Moving.Stages.{one_stage}
 use Rattle.move_model.proofs.GoingOn.Stretching.{same_ahead}
-use Rattle.search_labels.specs.Ends.{IsEntryOf}
-use Rattle.search_labels.specs.Problems.{IsReady}
-use Rattle.search_labels.specs.declared.ends.Entry.{Entry}
-use Rattle.search_labels.specs.declared.problem.Problem.{Problem}
+use Rattle.search_problem.specs.Ends.{IsEntryOf}
+use Rattle.search_problem.specs.Problems.{IsReady}
+use Rattle.search_problem.specs.declared.ends.Entry.{Entry}
+use Rattle.search_problem.specs.declared.problem.Problem.{Problem}
 use Rattle.exit_spread.specs.Ways.{IsWayAhead}
 use Rattle.route_search.specs.Known.{IsKnownFirst}
 use Rattle.route_search.specs.Starting.{EntersAt, EntersNoLater, IsLeastEntry, whole_from}

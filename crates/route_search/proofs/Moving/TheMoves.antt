@@ -8,8 +8,8 @@ use Rattle.line_arena.specs.Arena.{IsNearest, StandsAt}
 use Rattle.move_model.specs.declared.place.Place.{Place}
 use Rattle.move_model.specs.Places.{ComesTo, IsMove}
 use Rattle.move_model.proofs.Moving.Crossings.{along_line}
-use Rattle.search_labels.specs.Problems.{IsReady}
-use Rattle.search_labels.specs.declared.problem.Problem.{Problem}
+use Rattle.search_problem.specs.Problems.{IsReady}
+use Rattle.search_problem.specs.declared.problem.Problem.{Problem}
 
 pub the_move : (p : Problem) (x : Place) (d : Dir) (c k n : ℕ) (from at : Point) → n ≡ distance from at → IsReady p → StandsAt p.arena.now x.crossing from → StandsAt p.arena.now c at
     → IsNearest p.arena.now d x.crossing c → ComesTo p.task.now.via x.stage at k

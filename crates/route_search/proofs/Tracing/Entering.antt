@@ -20,10 +20,10 @@ use Rattle.move_model.specs.declared.place.Place.{Place}
 use Rattle.move_model.specs.Ahead.{ahead}
 use Rattle.move_model.specs.Ways.{IsWay, steps_of_way}
 use Rattle.move_model.proofs.GoingOn.Joined.{way_ahead}
-use Rattle.search_labels.specs.Ends.{IsEntryOf}
-use Rattle.search_labels.specs.Problems.{IsReady}
-use Rattle.search_labels.specs.declared.ends.Entry.{Entry}
-use Rattle.search_labels.specs.declared.problem.Problem.{Problem}
+use Rattle.search_problem.specs.Ends.{IsEntryOf}
+use Rattle.search_problem.specs.Problems.{IsReady}
+use Rattle.search_problem.specs.declared.ends.Entry.{Entry}
+use Rattle.search_problem.specs.declared.problem.Problem.{Problem}
 use Rattle.route_search.specs.Starting.{EntersAt}
 use Rattle.route_search.proofs.Tracing.Corners.{corners_from}
 use Rattle.route_search.proofs.Tracing.Following.{IsFollowing}

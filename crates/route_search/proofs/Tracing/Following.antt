@@ -28,8 +28,8 @@ use Rattle.move_model.proofs.GoingOn.Joined.{steps_behind, way_ahead, way_behind
 use Rattle.move_model.proofs.Moving.LegalWays.{way_is_legal}
 use Rattle.move_model.proofs.GoingOn.Rivals.{common_front, steps_no_later}
 use Rattle.move_model.proofs.GoingOn.Stretching.{stretch_ahead, stub_ahead}
-use Rattle.search_labels.specs.Problems.{IsReady}
-use Rattle.search_labels.specs.declared.problem.Problem.{Problem}
+use Rattle.search_problem.specs.Problems.{IsReady}
+use Rattle.search_problem.specs.declared.problem.Problem.{Problem}
 use Rattle.route_search.specs.declared.follow.Move.{Move}
 use Rattle.route_search.specs.declared.follow.Next.{Next}
 use Rattle.route_search.specs.declared.follow.Next.TheVariants.{Stop, Go}

@@ -22,8 +22,8 @@ use Rattle.move_model.specs.declared.ahead.Stretch.{Stretch}
 use Rattle.move_model.specs.Ahead.{ahead, with_stretch}
 use Rattle.move_model.specs.Ways.{IsWay, Leg, steps_along, steps_of_way}
 use Rattle.move_model.proofs.GoingOn.Stretching.{same_ahead, stretch_ahead}
-use Rattle.search_labels.specs.Problems.{IsReady}
-use Rattle.search_labels.specs.declared.problem.Problem.{Problem}
+use Rattle.search_problem.specs.Problems.{IsReady}
+use Rattle.search_problem.specs.declared.problem.Problem.{Problem}
 use Rattle.route_search.specs.declared.follow.Move.{Move}
 use Rattle.route_search.specs.declared.follow.Next.TheVariants.{Stop, Go}
 use Rattle.route_search.specs.declared.follow.Standing.{Standing}

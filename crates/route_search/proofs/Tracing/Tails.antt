@@ -8,8 +8,8 @@ use Rattle.move_model.specs.Places.{IsMove}
 use Rattle.line_arena.specs.Arena.{IsArena}
 use Rattle.line_arena.proofs.Arenas.ArenaLaws.{one_point}
 use Rattle.move_model.proofs.Moving.Moves.{one_move}
-use Rattle.search_labels.specs.declared.ends.Ending.{Ending}
-use Rattle.search_labels.specs.declared.problem.Problem.{Problem}
+use Rattle.search_problem.specs.declared.ends.Ending.{Ending}
+use Rattle.search_problem.specs.declared.problem.Problem.{Problem}
 use Rattle.route_search.specs.declared.follow.Move.{Move}
 use Rattle.route_search.specs.declared.follow.Next.{Next}
 use Rattle.route_search.specs.declared.follow.Next.TheVariants.{Stop, Go}

@@ -5,7 +5,7 @@ use Rattle.std.proofs.lemmas.List.Elements.{All-contains, All-more}
 use Rattle.plane_geom.specs.Along.{across}
 use Rattle.plane_geom.specs.Rect.{HasWithin}
 use Rattle.plane_geom.specs.declared.point.Point.{Point}
-use Rattle.search_labels.specs.declared.origin.Origin.{Origin}
+use Rattle.search_problem.specs.declared.origin.Origin.{Origin}
 use Rattle.exit_spread.proofs.held.has_entry.Goals as goal
 
 pub loop-origin-preserved : goal.loop-origin-preserved

@@ -5,14 +5,14 @@ use Rattle.std.specs.declared.alloc.Global.{Global}
 use Rattle.std.proofs.Math.Logic.{∥∥₁_elim}
 use Rattle.std.proofs.lemmas.Int.{ints}
 use Rattle.std.proofs.lemmas.Option.{slice_get-get_or}
-use Rattle.search_labels.specs.Bounds.{origins_after, origins_in}
+use Rattle.search_problem.specs.Bounds.{origins_after, origins_in}
 use Rattle.plane_geom.specs.Along.{across, reach}
 use Rattle.plane_geom.specs.Point.{opposite}
 use Rattle.plane_geom.specs.Rect.{HasWithin}
 use Rattle.plane_geom.specs.declared.point.Dir.{Dir}
 use Rattle.plane_geom.specs.declared.point.Point.{Point}
 use Rattle.walk_laws.specs.Sides.{held_to}
-use Rattle.search_labels.specs.declared.origin.Origin.{Origin}
+use Rattle.search_problem.specs.declared.origin.Origin.{Origin}
 use Rattle.side_touches.specs.Touches.{IsTouched}
 use Rattle.exit_spread.proofs.Holding.Runs.{entry_in_box, run_on, two_across}
 use Rattle.exit_spread.proofs.held.may_begin.Goals as goal

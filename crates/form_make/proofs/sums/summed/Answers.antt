@@ -2,7 +2,7 @@
 use Rattle.std.proofs.Common.{◌+◌, sym, ap, subst, ◌∙◌, arith}
 use Rattle.walk_model.specs.Cost.{bends}
 use Rattle.walk_model.specs.Line.{IsOrthogonal, steps_of}
-use Rattle.generated_input.specs.declared.summary.Summary.{Summary}
+use Rattle.form_make.specs.declared.summary.Summary.{Summary}
 use Rattle.form_make.proofs.Bends.{few_bends}
 use Rattle.form_make.proofs.Summing.{few_answers, small, sums_up, with_route, without_route}
 use Rattle.form_make.proofs.sums.summed.Goals as goal

@@ -6,7 +6,7 @@ use Rattle.plane_geom.specs.declared.rect.Solid.{Solid}
 use Rattle.plane_geom.specs.Floor.{IsSolid}
 use Rattle.scene_model.specs.declared.settings.Settings.{Settings}
 use Rattle.scene_model.proofs.ForRouting.Floors.{floors_fit}
-use Rattle.nudge_laws.specs.Ready.{HasLegalWalk}
+use Rattle.nudge_phases.specs.Ready.{HasLegalWalk}
 use Rattle.nudge_phases.proofs.SceneLines.{apart, edges, legal, made, raw_are, raw_few, raw_legal, raw_rise}
 use Rattle.nudge_phases.proofs.nudging.nudge.Goals as goal
 

@@ -10,8 +10,8 @@ use Rattle.proof_search.specs.Spots.{AreSpots}
 use Rattle.proof_search.proofs.RowsInOrder.LeastRows.{least_rows, ok_is}
 use Rattle.proof_search.proofs.prover.spread_rows.Goals as goal
 
-pub returns-clause-least : goal.returns-clause-least
-returns-clause-least c =
+pub returns : goal.returns
+returns c =
     let p = c.in_ok-problem.problem in
     let made = c.in_ok-problem.ensures in
     let claim = claim_of c.args.scope in

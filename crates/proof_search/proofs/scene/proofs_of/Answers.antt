@@ -37,7 +37,7 @@ loop-edge-preserved c =
             within = within;
             arena = made.arena ∙ before.arena;
             solids = made.solids ∙ before.solids;
-            idle = made.idle;
+            spots = made.spots;
           }))
       | else-edge w ↦ (
           let same : e.from ≡ e.to = omega (arith, ints, w.if-edge.false) in
@@ -47,7 +47,7 @@ loop-edge-preserved c =
             within = within;
             arena = before.arena;
             solids = before.solids;
-            idle = before.idle;
+            spots = before.spots;
           }))
     ]
 

@@ -2,7 +2,7 @@
 use Rattle.std.proofs.Common.{All, subst, refl}
 use Rattle.std.proofs.lemmas.List.{take_all}
 use Rattle.std.proofs.lemmas.List.Elements.{All-more}
-use Rattle.search_labels.specs.declared.ends.Ending.{Ending}
+use Rattle.search_problem.specs.declared.ends.Ending.{Ending}
 use Rattle.route_audit.specs.Ends.{MayEndAt}
 use Rattle.route_audit.proofs.ends.may_all_end.Goals as goal
 

@@ -1,6 +1,6 @@
 -- The first test that fails, with those before it.
 use Rattle.std.proofs.Common.{◌≡◌, All, true, false, length, sym, subst, refl}
-use Rattle.search_labels.specs.Ends.{AreEndings, AreEntries}
+use Rattle.search_problem.specs.Ends.{AreEndings, AreEntries}
 use Rattle.proof_model.specs.Rules.{by_endings, by_entries, by_moves}
 use Rattle.route_audit.specs.Ends.{IsEndingIn, IsEntryFound, IsEntryIn, MayEndAt}
 use Rattle.route_audit.proofs.MovesByRow.{small_labels}

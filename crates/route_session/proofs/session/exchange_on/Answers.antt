@@ -6,7 +6,7 @@ use Rattle.scene_model.specs.declared.edit.Command.TheVariants.{Commit}
 use Rattle.scene_model.specs.Routing.{floor_of}
 use Rattle.scene_model.specs.World.{step}
 use Rattle.undo_log.specs.declared.step.Step.{Step}
-use Rattle.session_laws.specs.History.{world_of}
+use Rattle.session_model.specs.History.{world_of}
 use Rattle.route_book.specs.Exchange.{Exchange, turned}
 use Rattle.route_session.specs.Upheld.{IsUpheld}
 use Rattle.route_session.proofs.Upholding.{committed}

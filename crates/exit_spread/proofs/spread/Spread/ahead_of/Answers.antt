@@ -1,7 +1,7 @@
 -- One ending more.
 use Rattle.std.proofs.Common.{◌≡◌, ◌<◌, List, fold, take, length, get_or, sym, ap, subst, ◌∙◌}
 use Rattle.std.proofs.lemmas.List.Sums.{fold_more}
-use Rattle.search_labels.specs.declared.ends.Ending.{Ending}
+use Rattle.search_problem.specs.declared.ends.Ending.{Ending}
 use Rattle.line_lists.specs.Lists.{number_of}
 use Rattle.exit_rows.specs.Exits.{lesser}
 use Rattle.exit_spread.specs.Known.{by_ending, known_onwards}

@@ -7,7 +7,7 @@ use Rattle.plane_geom.specs.Along.{reach}
 use Rattle.line_lists.specs.Lists.{number_of}
 use Rattle.move_model.specs.declared.ahead.Ahead.{Ahead}
 use Rattle.move_model.specs.declared.place.Place.{Place}
-use Rattle.search_labels.proofs.Choices.{entries_small}
+use Rattle.search_problem.proofs.Choices.{entries_small}
 use Rattle.exit_rows.specs.Exits.{ahead_at}
 use Rattle.exit_spread.specs.Propagating.{IsBehind, IsFurtherAhead}
 use Rattle.exit_spread.specs.Ways.{IsBest, IsWayAhead, place_at, turned}
@@ -67,7 +67,7 @@ overflow_add-entry c =
     let has = c.requires.entry in
     let entry = entries_small p.solids.now p.arena.now p.task.now (Rattle.std.proofs.Common.length p.task.now.starts) p.entries.items c.requires.ready.problem.is_task c.requires.ready.entries has.0 e has.1 in
     let lead = entry.lead in
-    let same = ap (λ (f : Rattle.search_labels.specs.declared.ends.Entry.Entry). f.lead) has.2 in
+    let same = ap (λ (f : Rattle.search_problem.specs.declared.ends.Entry.Entry). f.lead) has.2 in
     let bound = small.cost in
     omega (arith, cost, bound, lead, same)
 

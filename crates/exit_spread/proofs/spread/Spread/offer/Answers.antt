@@ -3,13 +3,13 @@ use Rattle.std.proofs.Common.{◌≡◌, ◌+◌, ℕ, refl, ap, subst, inl, inr
 use Rattle.std.specs.Prelude.{Contains}
 use Rattle.std.specs.BinaryHeap.{heap_items}
 use Rattle.std.specs.declared.cmp.Reverse.{Reverse}
-use Rattle.candidate_queue.specs.declared.queue.Candidate.{Candidate}
+use Rattle.search_problem.specs.declared.queue.Candidate.{Candidate}
 use Rattle.exit_rows.specs.Exits.{IsSmallAhead}
 use Rattle.exit_rows.specs.declared.exit.Exit.{Exit}
 use Rattle.exit_spread.specs.Searching.{IsCandidate}
 use Rattle.exit_spread.specs.Ways.{bound_at}
 use Rattle.exit_spread.proofs.Sizes.{crossing_within}
-use Rattle.candidate_queue.proofs.Queues.{push_all, push_count, push_has, push_keeps}
+use Rattle.search_problem.proofs.Queues.{push_all, push_count, push_has, push_keeps}
 use Rattle.exit_spread.proofs.spread.Spread.offer.Goals as goal
 
 pub bound-requires-clause-within : goal.bound-requires-clause-within

@@ -4,7 +4,7 @@ use Rattle.std.specs.Prelude.{All}
 use Rattle.std.proofs.lemmas.List.{take_all, take_more}
 use Rattle.std.proofs.lemmas.List.Elements.{All-push}
 use Rattle.line_lists.specs.Lists.{number_of}
-use Rattle.search_labels.specs.declared.ends.Ending.{Ending}
+use Rattle.search_problem.specs.declared.ends.Ending.{Ending}
 use Rattle.exit_spread.specs.Propagating.{Adds}
 use Rattle.exit_spread.specs.Searching.{IsStubOffered}
 use Rattle.exit_spread.proofs.Spreading.Adding.{adds_both, offered_on}

@@ -6,14 +6,14 @@ use Rattle.std.specs.declared.cmp.Reverse.{Reverse}
 use Rattle.std.proofs.lemmas.Bool.{cases_lt, false≢true, lt-ltb}
 use Rattle.std.proofs.lemmas.List.Sorted.{length_permutation}
 use Rattle.std.proofs.lemmas.Nat.{mul-add-lt}
-use Rattle.candidate_queue.specs.declared.queue.Candidate.{Candidate}
+use Rattle.search_problem.specs.declared.queue.Candidate.{Candidate}
 use Rattle.move_model.specs.declared.place.Place.{Place}
-use Rattle.search_labels.specs.Labels.{empty_row, label_in, with_label}
-use Rattle.search_labels.specs.Tables.{HasRow, row_of}
-use Rattle.search_labels.specs.declared.label.Label.TheVariants.{Absent, Open}
-use Rattle.search_labels.specs.declared.label.Label.{Label}
+use Rattle.proof_search.specs.Labels.{empty_row, label_in, with_label}
+use Rattle.proof_search.specs.Tables.{HasRow, row_of}
+use Rattle.proof_search.specs.declared.label.Label.TheVariants.{Absent, Open}
+use Rattle.proof_search.specs.declared.label.Label.{Label}
 use Rattle.proof_model.specs.Rules.{Suffices}
-use Rattle.candidate_queue.proofs.Queues.{push_all, push_has, push_keeps}
+use Rattle.search_problem.proofs.Queues.{push_all, push_has, push_keeps}
 use Rattle.proof_search.specs.Scopes.{claim_of, label_for}
 use Rattle.proof_search.specs.Search.{IsPlace, IsReachedAt, cost_at, cost_in, label_at, label_weight, row_weight}
 use Rattle.proof_search.specs.declared.labels.Labels.{Labels}
@@ -21,7 +21,7 @@ use Rattle.proof_search.proofs.Offers.Offering.{opened, opened_spreads}
 use Rattle.proof_search.proofs.Offers.Scopes.{known_suffices, none_suffices, reached_by, small_label}
 use Rattle.proof_search.proofs.Offers.Weights.{lighter_label, lighter_rows}
 use Rattle.proof_search.proofs.labels.Labels.offer.Goals as goal
-use Rattle.proof_search.proofs.labels.Labels.offer.Goals.{In_ok-put}
+use Rattle.proof_search.proofs.labels.Labels.offer.Goals.{After-put}
 
 pub returns-in_default-clause-offered : goal.returns-in_default-clause-offered
 returns-in_default-clause-offered c =
@@ -40,33 +40,33 @@ returns-then-is_at_most-clause-offered c =
     (known_suffices s c.args.cost c.in-Some.cost known.0 (sym c.label.ensures ∙ c.in-Some.is) known.2)
 
 -- the labels once the label is put
-abbrev after : In_ok-put → Labels
+abbrev after : After-put → Labels
 after c = record { table = c.put.new.self; queue = c.push.new.self }
 
-label_is : (c : In_ok-put) → label_for c.args.scope c.args.cost ≡ Some c.in-Some.cost
+label_is : (c : After-put) → label_for c.args.scope c.args.cost ≡ Some c.in-Some.cost
 label_is c = sym c.label.ensures ∙ c.in-Some.is
 
 -- the place is reached, and had no label or a higher one
-reached : (c : In_ok-put) → IsReachedAt c.args.problem.now c.args.scope c.args.place.now c.in-Some.cost
+reached : (c : After-put) → IsReachedAt c.args.problem.now c.args.scope c.args.place.now c.in-Some.cost
 reached c = reached_by c.args.problem.now c.args.scope c.args.place.now c.args.cost c.in-Some.cost c.requires.coming (label_is c)
 
-higher : (c : In_ok-put) (w : ℕ) → cost_at c.args.self.now c.args.place.now ≡ Some w → c.in-Some.cost < w
+higher : (c : After-put) (w : ℕ) → cost_at c.args.self.now c.args.place.now ≡ Some w → c.in-Some.cost < w
 higher c w e = elim (cases_lt c.in-Some.cost w) as (λ _. c.in-Some.cost < w) [
   | inl less ↦ less
   | inr upto ↦ absurd (false≢true (c.if-is_at_most.ensures.1 (w, ap cost_in c.label-2.ensures ∙ e, upto)))
 ]
 
 -- the queue has the candidate and what it had before
-abbrev candidate : In_ok-put → Reverse (Candidate Place)
+abbrev candidate : After-put → Reverse (Candidate Place)
 candidate c = record { 0 = record { bound = c.in-Some.cost; item = c.args.place.now } }
 
-kept : (c : In_ok-put) (d : Reverse (Candidate Place)) → Contains (heap_items c.args.self.now.queue.heap) d → Contains (heap_items c.push.new.self.heap) d
+kept : (c : After-put) (d : Reverse (Candidate Place)) → Contains (heap_items c.args.self.now.queue.heap) d → Contains (heap_items c.push.new.self.heap) d
 kept c = push_keeps (candidate c) (heap_items c.args.self.now.queue.heap) (heap_items c.push.new.self.heap) c.in_ok-push.ensures.ok
 
-has : (c : In_ok-put) → Contains (heap_items c.push.new.self.heap) (candidate c)
+has : (c : After-put) → Contains (heap_items c.push.new.self.heap) (candidate c)
 has c = push_has (candidate c) (heap_items c.args.self.now.queue.heap) (heap_items c.push.new.self.heap) c.in_ok-push.ensures.ok
 
-places : (c : In_ok-put) → All (λ d. IsPlace c.args.problem.now d.0.item) (heap_items c.push.new.self.heap)
+places : (c : After-put) → All (λ d. IsPlace c.args.problem.now d.0.item) (heap_items c.push.new.self.heap)
 places c =
     let old = heap_items c.args.self.now.queue.heap in
     let new = heap_items c.push.new.self.heap in
@@ -78,20 +78,20 @@ pub returns-clause-searching : goal.returns-clause-searching
 returns-clause-searching c = λ but searching.
     opened c.args.problem.now c.requires.ready c.args.scope c.args.self.now (after c) but searching c.args.place.now c.in-Some.cost c.with_cost.result
     c.with_cost.ensures (reached c)
-    (λ w e. omega (arith, higher c w e)) c.in_ok-put.ensures.ok c.in_ok-put.ensures.marked (kept c) (c.in-Some.cost, has c) (places c)
+    (λ w e. omega (arith, higher c w e)) c.put.ensures (kept c) (c.in-Some.cost, has c) (places c)
 
 pub returns-clause-spreads : goal.returns-clause-spreads
 returns-clause-spreads c =
     let s = c.requires.searching in
     opened_spreads c.args.problem.now c.requires.ready c.args.scope c.args.self.now (after c) s.0 s.1 c.args.place.now c.in-Some.cost c.with_cost.result
     c.with_cost.ensures (reached c)
-    (λ w e. omega (arith, higher c w e)) c.in_ok-put.ensures.ok c.in_ok-put.ensures.marked (kept c) (c.in-Some.cost, has c) (places c)
+    (λ w e. omega (arith, higher c w e)) c.put.ensures (kept c) (c.in-Some.cost, has c) (places c)
 
 pub returns-clause-offered : goal.returns-clause-offered
 returns-clause-offered c =
     let s = c.args.scope in
     let v = c.in-Some.cost in
-    let is : cost_at (after c) c.args.place.now ≡ Some v = ap cost_in c.in_ok-put.ensures.ok.changed ∙ ap Some c.with_cost.ensures in
+    let is : cost_at (after c) c.args.place.now ≡ Some v = ap cost_in c.put.ensures.changed ∙ ap Some c.with_cost.ensures in
     subst (λ (o : Option ℕ). Suffices (claim_of s) o c.args.cost) (sym is) (known_suffices s c.args.cost v v (label_is c) (omega arith))
 
 pub returns-clause-lighter : goal.returns-clause-lighter
@@ -117,6 +117,6 @@ returns-clause-lighter c =
     let lower = subst (λ (l : Label). label_weight s (Open v) + 1 ≤ label_weight s l) known first in
     let all = lighter_rows s rows k x.heading (Open v) 1 row.stage lower in
     let sum : sum_by (row_weight s) c.put.new.self.rows.items ≡ sum_by (row_weight s) (set rows k (with_label (get_or rows k empty_row) x.heading (Open v)))
-    = ap (sum_by (row_weight s)) c.in_ok-put.ensures.ok.written in
+    = ap (sum_by (row_weight s)) c.put.ensures.written in
     let count = length_permutation (candidate c ∷ heap_items old.queue.heap) (heap_items c.push.new.self.heap) c.in_ok-push.ensures.ok in
     omega (arith, all, sum, count)

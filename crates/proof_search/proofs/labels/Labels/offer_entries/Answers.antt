@@ -3,7 +3,7 @@ use Rattle.std.proofs.Common.{◌≡◌, ◌≤◌, ◌+◌, ◌++◌, ◌∷◌
 use Rattle.std.specs.Prelude.{All}
 use Rattle.std.proofs.lemmas.List.{take_all, take_more}
 use Rattle.std.proofs.lemmas.List.Elements.{All-push}
-use Rattle.search_labels.specs.declared.ends.Entry.{Entry}
+use Rattle.search_problem.specs.declared.ends.Entry.{Entry}
 use Rattle.proof_search.specs.Search.{IsEntryOffered}
 use Rattle.proof_search.proofs.Offers.Entering.{entering}
 use Rattle.proof_search.proofs.Searching.Spreading.{entries_still}

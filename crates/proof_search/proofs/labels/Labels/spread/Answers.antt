@@ -33,7 +33,8 @@ loop-candidate-preserved c =
           (entries_still s l mid (queue_falls s l c.pop.new.self) c.args.problem.now.entries.items c.loop-candidate.invariant.1),
     )
 
-pub returns-clause-spread : goal.returns-clause-spread
-returns-clause-spread c =
-    spread_at_end c.args.problem.now c.args.scope c.loop-candidate.self c.pop.new.self c.loop-candidate.invariant.0 c.loop-candidate.invariant.1
-    (c.in_default.ensures.none (search rules)) (c.in_default.ensures.empty (search rules))
+pub returns : goal.returns
+returns c = record {
+  spread = spread_at_end c.args.problem.now c.args.scope c.loop-candidate.self c.pop.new.self c.loop-candidate.invariant.0 c.loop-candidate.invariant.1
+      (c.in_default.ensures.none (search rules)) (c.in_default.ensures.empty (search rules));
+}

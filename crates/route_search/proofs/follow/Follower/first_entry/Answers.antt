@@ -1,6 +1,6 @@
 -- Entry by entry.
 use Rattle.std.proofs.Common.{◌≡◌, ◌<◌, ◌≤◌, List, length, get_or, subst}
-use Rattle.search_labels.specs.declared.ends.Entry.{Entry}
+use Rattle.search_problem.specs.declared.ends.Entry.{Entry}
 use Rattle.route_search.specs.Known.{known_of}
 use Rattle.route_search.proofs.Ahead.LeastEntries.{least_more, none_found}
 use Rattle.route_search.proofs.follow.Follower.first_entry.Goals as goal

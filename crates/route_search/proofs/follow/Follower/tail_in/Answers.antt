@@ -1,7 +1,7 @@
 -- One ending more, and the earlier of its stub and what was found.
 use Rattle.std.proofs.Common.{◌≡◌, ◌+◌, [], ◌∷◌, ◌++◌, rules, take, sym, ap, subst, ◌∙◌}
 use Rattle.std.proofs.lemmas.List.{take_more}
-use Rattle.search_labels.specs.declared.ends.Ending.{Ending}
+use Rattle.search_problem.specs.declared.ends.Ending.{Ending}
 use Rattle.route_search.specs.Following.{IsEarliest, IsTailIn}
 use Rattle.route_search.proofs.Tracing.Tails.{tails_begin, tails_stay, tails_take}
 use Rattle.route_search.proofs.follow.Follower.tail_in.Goals as goal

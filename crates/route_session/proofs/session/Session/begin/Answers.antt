@@ -1,6 +1,6 @@
 -- The transaction is begun on the present scene.
 use Rattle.std.proofs.Common.{◌≡◌, sym, subst, refl}
-use Rattle.edit_txn.specs.Txn.{BeganOn, begun}
+use Rattle.session_model.specs.Txn.{BeganOn, begun}
 use Rattle.route_session.proofs.Upholding.{with_transaction}
 use Rattle.route_session.proofs.session.Session.begin.Goals as goal
 

@@ -8,9 +8,9 @@ use Rattle.scene_model.specs.Routing.{floor_of}
 use Rattle.scene_model.specs.Scene.{Scene}
 use Rattle.scene_model.specs.Valid.{IsValid}
 use Rattle.scene_model.specs.World.{step}
-use Rattle.edit_txn.specs.Txn.{BeganOn}
-use Rattle.session_laws.specs.History.{IsHistory, world_of}
-use Rattle.session_laws.specs.State.{State}
+use Rattle.session_model.specs.Txn.{BeganOn}
+use Rattle.session_model.specs.History.{IsHistory, world_of}
+use Rattle.session_model.specs.State.{State}
 use Rattle.route_book.specs.Exchange.{Exchange}
 use Rattle.route_session.proofs.Upholding.{commit_writes}
 use Rattle.route_session.proofs.session.Session.commit.Goals as goal

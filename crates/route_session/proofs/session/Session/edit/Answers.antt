@@ -1,8 +1,8 @@
 -- The transaction stays one on the present scene.
 use Rattle.std.proofs.Common.{rules, ◌≡◌, false, not, Some, Ok, sym, ap, subst, ◌∙◌}
 use Rattle.scene_model.specs.Edits.{IsEdited}
-use Rattle.edit_txn.specs.Txn.{BeganOn, applied}
-use Rattle.edit_txn.proofs.Begins.{keeps_begin}
+use Rattle.session_model.specs.Txn.{BeganOn, applied}
+use Rattle.session_model.proofs.Begins.{keeps_begin}
 use Rattle.route_session.proofs.Upholding.{done_by, with_transaction}
 use Rattle.route_session.proofs.session.Session.edit.Goals as goal
 

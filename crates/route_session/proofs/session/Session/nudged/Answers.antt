@@ -1,8 +1,8 @@
 -- The clauses of `nudge` hold for the present scene and its book.
 use Rattle.std.proofs.Common.{IfOk, ap, subst₂, ◌∙◌}
-use Rattle.nudge_laws.specs.Apart.{KeepsApart}
+use Rattle.nudge_phases.specs.Apart.{KeepsApart}
 use Rattle.nudge_phases.specs.Nudged.{IsNudgedScene}
-use Rattle.session_laws.specs.State.{State}
+use Rattle.session_model.specs.State.{State}
 use Rattle.route_session.proofs.session.Session.nudged.Goals as goal
 
 pub returns-clause-apart : goal.returns-clause-apart

@@ -5,7 +5,7 @@ use Rattle.plane_geom.specs.Floor.{IsFloor}
 use Rattle.visibility_graph.specs.Drawing.{Drawing}
 use Rattle.scene_model.specs.Routing.{floor_of}
 use Rattle.scene_model.specs.World.{step}
-use Rattle.session_laws.specs.History.{world_of}
+use Rattle.session_model.specs.History.{world_of}
 use Rattle.route_session.specs.Turning.{scene_toward, steps_toward, turn_command}
 use Rattle.route_session.specs.Upheld.{IsUpheld}
 use Rattle.route_session.proofs.Turns.{here_toward, may_go, may_turn, nothing_there, open_refuses, turned}

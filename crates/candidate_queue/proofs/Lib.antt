@@ -1,2 +1,0 @@
--- The lemmas on queues.
-pub mod Queues

@@ -1,2 +1,0 @@
--- The lemmas of transactions.
-pub mod Begins

@@ -1,2 +1,0 @@
--- The definitions of transactions.
-pub mod Txn

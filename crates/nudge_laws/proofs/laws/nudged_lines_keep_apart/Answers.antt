@@ -1,6 +1,0 @@
--- The law is a lemma: `nudged_is_apart`.
-use Rattle.nudge_laws.proofs.BothPhases.NudgedLegal.{nudged_is_apart}
-use Rattle.nudge_laws.proofs.laws.nudged_lines_keep_apart.Goals as goal
-
-pub returns : goal.returns
-returns c = nudged_is_apart

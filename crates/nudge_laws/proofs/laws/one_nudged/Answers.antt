@@ -1,6 +1,0 @@
--- The law is a lemma: `one_nudged`.
-use Rattle.nudge_laws.proofs.BothPhases.OneNudged.{one_nudged}
-use Rattle.nudge_laws.proofs.laws.one_nudged.Goals as goal
-
-pub returns : goal.returns
-returns c = one_nudged

@@ -1,6 +1,0 @@
--- By what a phase keeps of its routes.
-use Rattle.nudge_laws.proofs.Phases.AfterX.{x_ready, x_edges, both_may_move}
-use Rattle.nudge_laws.proofs.laws.phase_y_accepts.Goals as goal
-
-pub returns : goal.returns
-returns c = record { ready = x_ready; edges = x_edges; stay = both_may_move }

@@ -1,0 +1,6 @@
+-- The law is a lemma: `nudged_is_apart`.
+use Rattle.nudge_phases.proofs.BothPhases.NudgedLegal.{nudged_is_apart}
+use Rattle.nudge_phases.proofs.phase_laws.nudged_lines_keep_apart.Goals as goal
+
+pub returns : goal.returns
+returns c = nudged_is_apart

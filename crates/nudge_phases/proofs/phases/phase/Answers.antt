@@ -1,0 +1,58 @@
+-- The steps of a phase make the phase.
+use Rattle.std.proofs.Common.{◌≡◌, ◌≢◌, List, length, arith, sym, ap, subst, subst₂, ◌∙◌, rules, w64, FitsSigned}
+use Rattle.std.specs.Prelude.{All, AllPairs}
+use Rattle.std.proofs.lemmas.Int.{to_z-of_z}
+use Rattle.channel_bundles.specs.declared.route.PhaseRoute.{PhaseRoute}
+use Rattle.channel_bundles.specs.Limits.{MayMove}
+use Rattle.channel_bundles.specs.Bundles.{AreBundles}
+use Rattle.nudge_phases.specs.Phase.{IsPhase}
+use Rattle.nudge_phases.specs.Steps.{AreBundlesIn, AreSolutionsOf}
+use Rattle.nudge_phases.specs.Rising.{EdgesRise}
+use Rattle.nudge_phases.proofs.Covering.{bundles_in}
+use Rattle.nudge_phases.proofs.BetweenPhases.{phase_of, rising_differ}
+use Rattle.nudge_phases.proofs.RouteRuns.{take_whole}
+use Rattle.nudge_phases.proofs.phases.phase.Goals as goal
+
+pub bundles-requires-clause-edges : goal.bundles-requires-clause-edges
+bundles-requires-clause-edges c =
+    subst (λ (rs : List PhaseRoute). AllPairs (λ (r s : PhaseRoute). r.edge ≢ s.edge) rs) (sym c.deref.ensures.value) (rising_differ c.args.routes.items c.requires.edges)
+
+pub bundles-requires-clause-movable : goal.bundles-requires-clause-movable
+bundles-requires-clause-movable c =
+    subst (λ (rs : List PhaseRoute). All (MayMove c.args.solids.now c.args.way) rs) (sym c.deref.ensures.value) c.requires.movable
+
+pub put_all-requires-clause-edges : goal.put_all-requires-clause-edges
+put_all-requires-clause-edges c = subst (λ (rs : List PhaseRoute). EdgesRise rs) (sym c.deref_mut.ensures.value) c.requires.edges
+
+pub put_all-requires-clause-bundles : goal.put_all-requires-clause-bundles
+put_all-requires-clause-bundles c =
+    let fits : FitsSigned w64 c.args.nudge = search rules in
+    let way = c.args.way in
+    let found = c.in_ok-found.found.items in
+    let bundles = simp to_z-of_z at c.in_ok-found.ensures.bundles in
+    let are = bundles_in c.args.solids.now c.deref.result.now way c.args.nudge found bundles c.in_ok-found.ensures.each in
+    (way, subst₂ (λ rs bs. AreBundlesIn rs way bs) (c.deref.ensures.value ∙ sym c.deref_mut.ensures.value) (sym c.deref-3.ensures.value) are)
+
+pub returns : goal.returns
+returns c =
+    let fits : FitsSigned w64 c.args.nudge = search rules in
+    let solids = c.args.solids.now in
+    let routes = c.args.routes.items in
+    let way = c.args.way in
+    let found = c.in_ok-found.found.items in
+    let solutions = c.in_ok-solutions.solutions.items in
+    let read = simp to_z-of_z at c.in_ok-found.ensures.bundles in
+    let bundles = subst (λ (rs : List PhaseRoute). AreBundles solids rs way c.args.nudge found) c.deref.ensures.value read in
+    let are = bundles_in solids routes way c.args.nudge found bundles c.in_ok-found.ensures.each in
+    let settled = subst (λ bs. AreSolutionsOf bs solutions) c.deref-2.ensures.value c.in_ok-solutions.ensures in
+    let count = c.args.routes.ok.0 in
+    let first = c.deref_mut.ensures.value in
+    let put = c.put_all.new.routes in
+    let followed = c.follow_all.new.routes in
+    let puts = c.put_all.ensures way (subst₂ (λ rs bs. AreBundlesIn rs way bs) (sym first) (sym c.deref-3.ensures.value) are) in
+    let put_count : length put ≡ c.args.routes.len = (let n = puts.count in let m = ap length first in omega (arith, n, m, count)) in
+    let second : c.deref_mut-2.result.now ≡ put = c.deref_mut-2.ensures.value ∙ take_whole put _ c.args.routes.len put_count in
+    let whole = phase_of solids routes c.deref_mut.result.now c.deref_mut-2.result.now put followed way c.args.nudge found c.deref-3.result.now solutions c.deref-4.result.now
+    first c.deref-3.ensures.value c.deref-4.ensures.value second bundles are settled c.put_all.ensures c.follow_all.ensures in
+    let followed_count : length followed ≡ c.args.routes.len = (let n = c.follow_all.ensures.count in let m = ap length second in omega (arith, n, m, put_count)) in
+    subst (λ (rs : List PhaseRoute). IsPhase solids routes way c.args.nudge rs solutions) (sym (take_whole followed _ c.args.routes.len followed_count)) whole

@@ -1,0 +1,51 @@
+//! One phase of nudging.
+ghost use Rattle.std.specs.Prelude.{◌≤◌, All, IfOk, length};
+ghost use Rattle.plane_geom.specs.Floor.{IsSolid};
+ghost use Rattle.separation_model.specs.Bundle.{most_items};
+ghost use Rattle.channel_bundles.specs.Route.{IsPhaseRoute, runs_of_way};
+ghost use Rattle.channel_bundles.specs.Limits.{MayMove};
+ghost use Rattle.channel_bundles.specs.Links.{IsNudge};
+ghost use Rattle.nudge_phases.specs.Phase.{IsPhase};
+ghost use Rattle.nudge_phases.specs.Rising.{EdgesRise};
+
+use crate::moves::{follow_all, put_all};
+use crate::solutions::settle_all;
+use channel_bundles::{PhaseRoute, bundles};
+use plane_geom::{Solid, Way};
+use separation_solve::Solution;
+use std::alloc::{AllocError, Global};
+
+/// The routes after a phase, and the solutions of its bundles in their order.
+#[derive(Debug, Drop)]
+pub struct Moved {
+    pub routes: Vec<PhaseRoute>,
+    pub solutions: Vec<Solution>,
+}
+
+/// One phase: the runs of the way go to their least positions, rounded down, and the corners
+/// follow. The only error is out of memory.
+///
+/// The routes are in the order of their edges, which differ. All other conditions are those of
+/// `channel_bundles::bundles`: there are at most 850,000,000 runs of the way, the wanted nudge is
+/// from 0 to 1,000,000 thousandths, and each movable run may stay at its coordinate.
+pub fn phase(
+    alloc: Global,
+    solids: &[Solid],
+    mut routes: Vec<PhaseRoute>,
+    way: Way,
+    nudge: i64,
+) -> Result<Moved, AllocError>
+    requires solids { All IsSolid solids.now }
+    requires routes { All IsPhaseRoute routes.items }
+    requires edges { EdgesRise routes.items }
+    requires movable { All (MayMove solids.now way) routes.items }
+    requires few { length (runs_of_way way routes.items) ≤ most_items }
+    requires nudge { IsNudge nudge }
+    ensures { IfOk result (λ p. IsPhase solids.now routes.items way nudge p.routes.items p.solutions.items) }
+{
+    let found = bundles(alloc, solids, &routes, way, nudge)?;
+    let solutions = settle_all(alloc, &found)?;
+    put_all(&mut routes, &found, &solutions);
+    follow_all(&mut routes, way);
+    Ok(Moved { routes, solutions })
+}

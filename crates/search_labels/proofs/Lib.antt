@@ -1,9 +1,0 @@
--- The lemmas on problems and labels, callees first.
-pub mod Origins
-pub mod Stages
-pub mod BoundsGrow
-pub mod Stubs
-pub mod Headings
-pub mod Choices
-pub mod Least
-pub mod Rows

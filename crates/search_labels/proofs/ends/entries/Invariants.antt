@@ -1,6 +1,0 @@
--- The entries so far are those of the first choices.
-use Rattle.search_labels.specs.Ends.{AreEntries}
-use Rattle.search_labels.proofs.ends.entries.Given as goal
-
-abbrev pub invariant-loop-number : goal.invariant-loop-number
-invariant-loop-number l = AreEntries l.solids l.arena l.task l.number l.entries.items

@@ -1,0 +1,9 @@
+-- The lemmas on problems and queues, callees first.
+pub mod Origins
+pub mod Stages
+pub mod BoundsGrow
+pub mod Stubs
+pub mod Headings
+pub mod Choices
+pub mod Least
+pub mod Queues

@@ -1,0 +1,5 @@
+-- The definitions on the problem of a search.
+pub mod Ends
+pub mod Origins
+pub mod Bounds
+pub mod Problems

@@ -1,6 +1,0 @@
--- The law `sessions_are_worlds` holds.
-use Rattle.session_laws.proofs.Called.{are_worlds}
-use Rattle.session_laws.proofs.calls.sessions_are_worlds.Goals as goal
-
-pub returns : goal.returns
-returns c = are_worlds

@@ -1,6 +1,0 @@
--- The law `undos_go_back` holds.
-use Rattle.session_laws.proofs.Turning.{goes_back}
-use Rattle.session_laws.proofs.history.undos_go_back.Goals as goal
-
-pub returns : goal.returns
-returns g c = goes_back
