@@ -4,10 +4,11 @@
 far_N      N separate boxes (a number up to 256) and 2 N edges between any two of them
 near_N     the same boxes, and 2 N edges between boxes that stand side by side
 channels   256 boxes that leave a net of channels between them, 2 to 6 units wide, and 512 edges between any two
-parallel   512 equal edges between two boxes that stand on both sides of a third one
 pins       64 boxes with four pins each, and 512 edges that name a pin at each end; 256 have a checkpoint
-zigzag     512 equal edges that pass four walls, so that all their routes share nine runs
-serpentine 512 equal edges on one long way round 60 walls, so that each channel has a run of every edge
+serpentine_N
+           512 equal edges on one long way round N walls, so that each channel has a run of every edge (N to 246)
+joined_N   the same with one straight edge more, whose run stands so near all that turn below it that all must keep apart
+fan_N      512 edges on such a way, from and to 40 boxes each, so that their runs change places (N to 160)
 mirrored   a crowd that is its own mirror image in the diagonal, and 512 edges from one end of the diagonal to the other;
            64 have four checkpoints, by turns near its two ends
 greatest   the diagram with the most lines and crossings within the limits: 1280 whole lines each way
@@ -111,11 +112,6 @@ def channels(draws):
     return graph([node(*box) for box in boxes], any_edges(256, 512, draws)), moves_near(boxes, draws, 2)
 
 
-def parallel(draws):
-    boxes = [(1, 0, 0), (2, 100, 0), (3, 50, 0)]
-    return graph([node(*box) for box in boxes], [edge(1, 2)] * 512), moves_near(boxes[2:], draws, 10)
-
-
 def pins(draws):
     boxes, _ = separate_boxes(64, draws)
 
@@ -158,19 +154,42 @@ def certified(_):
     return whole_lines(48, 64, 48)
 
 
-def zigzag(_):
-    """Four walls that stand to the one side and to the other of the straight way, so that each route has nine runs."""
-    walls = [node(k + 3, 150 + 200 * k, -190 if k % 2 == 0 else 190, 40, 400) for k in range(4)]
-    return graph([node(1, 0, 0), node(2, 900, 0), *walls], [edge(1, 2)] * 512), ''
+def walls_of(turns, aside, above):
+    """Walls from below and from above, within a ring so far aside, that leave one way, which turns round each of them. The
+    ring's upper side is given."""
+    walls = [node(k + 10, 50 + k * 50, 550 if k % 2 else -543, 10, 1100 if k % 2 else 1086) for k in range(turns)]
+    sides = [node(k + 4, x, 0, 20, 2300) for k, x in enumerate((20 - aside, turns * 50 + 30 + aside))]
+    return [*walls, *sides, node(3, turns * 25, 1100, turns * 50 + 2 * aside, 20), *above]
 
 
-def serpentine(_):
-    """Walls from the one side and from the other, within a ring, that leave one way, which turns round each of them."""
-    turns = 60
-    walls = [node(k + 10, 50 + k * 50, 550 if k % 2 else -550, 10, 1100) for k in range(turns)]
-    ring = [node(k + 3, turns * 25, y, turns * 50 + 400, 20) for k, y in enumerate((1100, -1100))]
-    ring += [node(k + 5, x, 0, 20, 2300) for k, x in enumerate((-180, turns * 50 + 230))]
-    return graph([node(1, 0, 0), node(2, turns * 50 + 50, 0), *walls, *ring], [edge(1, 2)] * 512), ''
+def whole_above(turns, aside):
+    return [node(6, turns * 25, -1100, turns * 50 + 2 * aside, 20)]
+
+
+def serpentine(turns, _):
+    ends = [node(1, 0, 0), node(2, turns * 50 + 50, 0)]
+    return graph([*ends, *walls_of(turns, 200, whole_above(turns, 200))], [edge(1, 2)] * 512), ''
+
+
+def joined(turns, _):
+    """The upper side of the ring is two boxes, which a wall parts and an edge joins. Its run goes along their lower sides,
+    past all runs that may rise to there: the buffer of 4 keeps these from the boxes, and the gap of 5 from this run."""
+    parted, far = 50 + turns // 4 * 100, turns * 50 + 50
+
+    def half(number, low, high, pin):
+        return node(number, (low + high) / 2, -1100, high - low, 20, f' pin [ class 1 x {pin - (low + high) / 2:g} y 10 ]')
+
+    above = [half(6, -200, parted - 5, 0), half(7, parted + 5, far + 200, far)]
+    nodes = [' router [ nudge 5 ]\n', node(1, 0, 0), node(2, far, 0), *walls_of(turns, 200, above)]
+    return graph(nodes, [edge(6, 7, ' sourcePin 1 targetPin 1'), *[edge(1, 2)] * 511]), ''
+
+
+def fan(turns, draws):
+    columns = [node(first + k, x - k % 2 * 60, k * 50 - 1000)
+               for first, x in ((300, -60), (400, turns * 50 + 120)) for k in range(40)]
+    edges = [edge(300 + draws.below(40), 400 + draws.below(40), f' nudgeWeight {draws.between(1, 4)}')
+             for _ in range(512)]
+    return graph([*columns, *walls_of(turns, 400, whole_above(turns, 400))], edges), ''
 
 
 def mirrored(draws):
@@ -204,16 +223,18 @@ def nodes(_):
     return graph([node(k + 1, k % 16 * 100, k // 16 * 100, rest=own) for k in range(256)], []), ''
 
 
-KINDS = {'far': far, 'near': near}
-NAMES = {made.__name__: made for made in (channels, parallel, pins, zigzag, serpentine, mirrored, greatest, certified,
-                                          pairs, nodes)}
+# The kinds of diagrams of a size, with the greatest.
+KINDS = {'far': (far, 256), 'near': (near, 256), 'serpentine': (serpentine, 246), 'joined': (joined, 246),
+         'fan': (fan, 160)}
+NAMES = {made.__name__: made for made in (channels, pins, mirrored, greatest, certified, pairs, nodes)}
 
 
 def made(name, seed=1):
     """The diagram of that name and its moves, or None if there is no such name."""
     kind, _, count = name.partition('_')
-    if kind in KINDS and count.isdigit() and 2 <= int(count) <= 256:
-        return KINDS[kind](int(count), Draws(name, seed))
+    make, most = KINDS.get(kind, (None, 0))
+    if count.isdigit() and 2 <= int(count) <= most:
+        return make(int(count), Draws(name, seed))
     return NAMES[name](Draws(name, seed)) if name in NAMES else None
 
 
