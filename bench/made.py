@@ -15,10 +15,12 @@ greatest   the diagram with the most lines and crossings within the limits: 1280
 certified  the same within the limits of certificates: 48 boxes, pins and checkpoints, and 64 edges
 pairs      two boxes and an edge, and a list of as many short foreign pairs as 16 MiB leave room for
 nodes      256 boxes, each with as many foreign pairs of the kinds that editors write as 16 MiB leave room for
+nested     16 MiB of empty texts in lists nested 63 deep, each of which has a line of its own in the output, far indented
 
 With --moves it prints a script of 30 transactions, each of which moves a box; the last seven have none.
 """
 import argparse
+import os
 import random
 import sys
 
@@ -223,10 +225,15 @@ def nodes(_):
     return graph([node(k + 1, k % 16 * 100, k // 16 * 100, rest=own) for k in range(256)], []), ''
 
 
+def nested(_):
+    front, end = 'graph [' + 'a[' * 62, ']' * 63
+    return front + 'a""' * ((MOST_BYTES - len(front) - len(end)) // 3) + end, ''
+
+
 # The kinds of diagrams of a size, with the greatest.
 KINDS = {'far': (far, 256), 'near': (near, 256), 'serpentine': (serpentine, 246), 'joined': (joined, 246),
          'fan': (fan, 160)}
-NAMES = {made.__name__: made for made in (channels, pins, mirrored, greatest, certified, pairs, nodes)}
+NAMES = {made.__name__: made for made in (channels, pins, mirrored, greatest, certified, pairs, nodes, nested)}
 
 
 def made(name, seed=1):
@@ -236,6 +243,15 @@ def made(name, seed=1):
     if count.isdigit() and 2 <= int(count) <= most:
         return make(int(count), Draws(name, seed))
     return NAMES[name](Draws(name, seed)) if name in NAMES else None
+
+
+def texts(name):
+    """The diagram of that name and its moves, of the folder `diagrams` or generated; None if there is no such name."""
+    base = f'{os.path.dirname(os.path.realpath(__file__))}/diagrams/{name}'
+    if not os.path.exists(f'{base}.gml'):
+        return made(name)
+    with open(f'{base}.gml') as diagram, open(f'{base}.moves') as moves:
+        return diagram.read(), moves.read()
 
 
 def main():
