@@ -19,12 +19,14 @@ use Rattle.proof_model.specs.LeastLabels.{AreLeastLabels, IsLeastProof, IsRightC
 use Rattle.proof_model.specs.Scenes.{FailsFirst, HoldsClaim, ProveScene}
 use Rattle.proof_text.specs.Text.{IsText, proofs_text}
 use Rattle.proof_text.specs.Fronts.{IsBadLine}
-use Rattle.report_text.specs.Audits.{audit_line_line, audit_rule_line}
+use Rattle.report_text.specs.Audits.{audit_line_line, audit_rule_line, audit_yes_line}
+use Rattle.report_text.specs.Outcome.{Outcome, uncounted}
+use Rattle.report_text.specs.declared.status.Status.TheVariants.{AuditNo}
 use Rattle.route_audit.specs.declared.fault.AuditFault.{AuditFault}
 use Rattle.route_audit.specs.declared.fault.AuditFault.TheVariants.{No, Memory}
 use Rattle.route_audit.specs.Audits.{IsAudited}
 use Rattle.form_certificate.specs.Proving.{HaveOneCertificate}
-use Rattle.form_certificate.specs.Auditing.{Audits, HasTrueClaims, HaveOneAudit, Says}
+use Rattle.form_certificate.specs.Auditing.{Audits, AuditsCertificate, HaveOneAudit, Says}
 use Rattle.form_certificate.specs.Auditing.Audits.{proves, breaks_rule, is_no_text}
 
 -- ---- certificates
@@ -87,14 +89,29 @@ module _ (one_text : (bytes : List ℕ) (proofs others : List Proof) → IsText 
 
 -- ---- what is said of an audit
 
-pub audit_said : (s : Scene) (bytes text : List ℕ) (proved : Bool) (proofs : List Proof) (r : Result (Unit {0}) AuditFault) → IsText bytes proofs → IsAudited s proofs r → Says r text proved
-    → Audits s bytes text proved
-audit_said s bytes text proved proofs (Ok done) is audited said = proves proofs is audited said.0 said.1
-audit_said s bytes text proved proofs (Err (No edge rule)) is audited said = breaks_rule proofs edge rule is audited said.0 said.1
-audit_said s bytes text proved proofs (Err Memory) is audited said = absurd said
+pub audit_said : (s : Scene) (bytes : List ℕ) (o : Outcome) (proofs : List Proof) (r : Result (Unit {0}) AuditFault) → IsText bytes proofs → IsAudited s proofs r
+    → OnOk r (AllZip (HoldsClaim s) (connectors s) proofs) → Says r o → AuditsCertificate s bytes o
+audit_said s bytes o proofs (Ok done) is audited claims said = record {
+  text = audit_yes_line;
+  proved = true;
+  audits = proves proofs is audited refl refl;
+  claims = λ yes. record { proofs = proofs; is_text = is; claims = claims };
+  outcome = said;
+}
+audit_said s bytes o proofs (Err (No edge rule)) is audited claims said = record {
+  text = audit_rule_line edge rule;
+  proved = false;
+  audits = breaks_rule proofs edge rule is audited refl refl;
+  claims = λ yes. absurd (false≢true yes);
+  outcome = said;
+}
+audit_said s bytes o proofs (Err Memory) is audited claims said = absurd said
 
-pub claims_said : (s : Scene) (bytes text : List ℕ) (proved : Bool) (proofs : List Proof) (r : Result (Unit {0}) AuditFault) → IsText bytes proofs
-    → OnOk r (AllZip (HoldsClaim s) (connectors s) proofs) → Says r text proved → proved ≡ true → HasTrueClaims s bytes
-claims_said s bytes text proved proofs (Ok done) is claims said so = record { proofs = proofs; is_text = is; claims = claims }
-claims_said s bytes text proved proofs (Err (No edge rule)) is claims said so = absurd (false≢true (sym said.1 ∙ so))
-claims_said s bytes text proved proofs (Err Memory) is claims said so = absurd said
+pub bad_said : (s : Scene) (bytes : List ℕ) (o : Outcome) (line : ℕ) → IsBadLine bytes line → o ≡ uncounted AuditNo (audit_line_line line) → AuditsCertificate s bytes o
+bad_said s bytes o line bad said = record {
+  text = audit_line_line line;
+  proved = false;
+  audits = is_no_text line bad refl refl;
+  claims = λ yes. absurd (false≢true yes);
+  outcome = said;
+}

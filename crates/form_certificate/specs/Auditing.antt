@@ -7,6 +7,9 @@ use Rattle.proof_model.specs.Scenes.{FailsFirst, HoldsClaim, ProveScene}
 use Rattle.proof_text.specs.Text.{IsText}
 use Rattle.proof_text.specs.Fronts.{IsBadLine}
 use Rattle.report_text.specs.Audits.{audit_line_line, audit_rule_line, audit_yes_line}
+use Rattle.report_text.specs.Outcome.{Outcome, uncounted}
+use Rattle.report_text.specs.declared.status.Status.{Status}
+use Rattle.report_text.specs.declared.status.Status.TheVariants.{AuditNo, Done}
 use Rattle.route_audit.specs.declared.fault.AuditFault.{AuditFault}
 use Rattle.route_audit.specs.declared.fault.AuditFault.TheVariants.{No, Memory}
 
@@ -23,15 +26,24 @@ pub record HasTrueClaims (s : Scene) (bytes : List ℕ) : Type 0 where
   pub is_text : IsText bytes proofs
   pub claims : AllZip (HoldsClaim s) (connectors s) proofs
 
--- what is said of an audit with this answer, out of memory aside
-abbrev pub Says : Result (Unit {0}) AuditFault → List ℕ → Bool → Type 0
-Says (Ok done) text proved = (text ≡ audit_yes_line) × (proved ≡ true)
-Says (Err (No edge rule)) text proved = (text ≡ audit_rule_line edge rule) × (proved ≡ false)
-Says (Err Memory) text proved = ⊥
+-- how an audit ends that says yes, or no
+abbrev pub audit_status : Bool → Status
+audit_status true = Done
+audit_status false = AuditNo
 
--- what is said where this is the first bad line
-abbrev pub IsBad : ℕ → List ℕ → Bool → Type 0
-IsBad line text proved = (text ≡ audit_line_line line) × (proved ≡ false)
+-- the audit of the bytes, which says yes only where they claim what is true
+pub record AuditsCertificate (s : Scene) (bytes : List ℕ) (o : Outcome) : Type 0 where
+  pub text : List ℕ
+  pub proved : Bool
+  pub audits : Audits s bytes text proved
+  pub claims : proved ≡ true → HasTrueClaims s bytes
+  pub outcome : o ≡ uncounted (audit_status proved) text
+
+-- the outcome of an audit with this answer, out of memory aside
+abbrev pub Says : Result (Unit {0}) AuditFault → Outcome → Type 0
+Says (Ok done) o = o ≡ uncounted Done audit_yes_line
+Says (Err (No edge rule)) o = o ≡ uncounted AuditNo (audit_rule_line edge rule)
+Says (Err Memory) o = ⊥
 
 -- the law: of given bytes one thing is said
 pub record IsSameAudit (text other : List ℕ) (proved other_proved : Bool) : Type 0 where

@@ -1,27 +1,22 @@
 //! The audit of a certificate of a scene.
-ghost use Rattle.std.specs.Prelude.{◌≡◌, true, IfOk, OnOk};
+ghost use Rattle.std.specs.Prelude.{◌≡◌, IfOk, OnOk};
 ghost use Rattle.std.specs.List.{AllZip};
 ghost use Rattle.scene_model.specs.Scene.{connectors};
 ghost use Rattle.proof_model.specs.Scenes.{HoldsClaim};
 ghost use Rattle.report_text.specs.Audits.{audit_line_line};
 ghost use Rattle.route_audit.specs.Audits.{IsAudited};
-ghost use Rattle.form_certificate.specs.Auditing.{Audits, HasTrueClaims, IsBad, Says};
+ghost use Rattle.report_text.specs.Outcome.{uncounted};
+ghost use Rattle.form_certificate.specs.Auditing.{AuditsCertificate, Says};
 
 use proof_model::Proof;
 use proof_text::{ProofFault, read_proofs};
-use report_text::{push_audit_line_line, push_audit_rule_line, push_audit_yes_line};
+use report_text::{
+    Outcome, Status, push_audit_line_line, push_audit_rule_line, push_audit_yes_line,
+};
 use route_audit::{AuditFault, audit};
 use scene_store::Scene;
 use std::alloc::{AllocError, Global};
 use visibility_graph::Graph;
-
-/// What is said of a certificate.
-#[derive(Drop)]
-pub struct Audited {
-    pub text: Vec<u8>,
-    /// Whether it proves the scene.
-    pub is_proved: bool,
-}
 
 /// The audit of the proofs, by a graph of the scene's own.
 fn audit_proofs(alloc: Global, scene: &Scene, proofs: &[Proof]) -> Result<(), AuditFault>
@@ -33,40 +28,31 @@ fn audit_proofs(alloc: Global, scene: &Scene, proofs: &[Proof]) -> Result<(), Au
     audit(alloc, scene, &graph, proofs)
 }
 
-/// What is said of an audit with this answer.
-fn answer(alloc: Global, audited: Result<(), AuditFault>) -> Result<Audited, AllocError>
-    ensures { IfOk result (λ a. Says audited a.text.items a.is_proved) }
+/// The outcome of an audit with this answer.
+fn answer(alloc: Global, audited: Result<(), AuditFault>) -> Result<Outcome, AllocError>
+    ensures { IfOk result (Says audited) }
 {
     let mut text = Vec::new(alloc);
     match audited {
         Ok(()) => {
             push_audit_yes_line(&mut text)?;
-            Ok(Audited {
-                text,
-                is_proved: true,
-            })
+            Ok(Outcome::uncounted(Status::Done, text))
         }
         Err(AuditFault::No { edge, rule }) => {
             push_audit_rule_line(&mut text, edge, rule)?;
-            Ok(Audited {
-                text,
-                is_proved: false,
-            })
+            Ok(Outcome::uncounted(Status::AuditNo, text))
         }
         Err(AuditFault::Memory) => Err(AllocError),
     }
 }
 
-/// What is said of a file that is not a certificate.
-fn no_certificate(alloc: Global, line: u64) -> Result<Audited, AllocError>
-    ensures { IfOk result (λ a. IsBad line a.text.items a.is_proved) }
+/// The outcome of an audit of a file that is not a certificate.
+fn no_certificate(alloc: Global, line: u64) -> Result<Outcome, AllocError>
+    ensures { IfOk result (λ o. o ≡ uncounted Status.AuditNo (audit_line_line line)) }
 {
     let mut text = Vec::new(alloc);
     push_audit_line_line(&mut text, line)?;
-    Ok(Audited {
-        text,
-        is_proved: false,
-    })
+    Ok(Outcome::uncounted(Status::AuditNo, text))
 }
 
 /// Whether the bytes are a certificate that proves the scene: each connector, in order, has one proof, and all rules
@@ -78,9 +64,8 @@ pub fn audit_certificate(
     alloc: Global,
     scene: &Scene,
     certificate: &[u8],
-) -> Result<Audited, AllocError>
-    ensures audits { IfOk result (λ a. Audits scene.now certificate.now a.text.items a.is_proved) }
-    ensures claims { IfOk result (λ a. a.is_proved ≡ true → HasTrueClaims scene.now certificate.now) }
+) -> Result<Outcome, AllocError>
+    ensures { IfOk result (AuditsCertificate scene.now certificate.now) }
 {
     match read_proofs(alloc, certificate) {
         Ok(proofs) => answer(alloc, audit_proofs(alloc, scene, &proofs)),

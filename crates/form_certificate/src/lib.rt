@@ -7,7 +7,7 @@ mod laws;
 mod proving;
 mod size;
 
-pub use auditing::{Audited, audit_certificate};
+pub use auditing::audit_certificate;
 pub use laws::certificates_come_to_one;
 pub use proving::certificate_of;
 pub use size::too_large;

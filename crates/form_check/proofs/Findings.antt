@@ -2,7 +2,7 @@
 use Rattle.std.proofs.Common.{◌≡◌, ℕ, zero, suc, ◌+◌, ◌<◌, ◌==◌, Bool, true, false, cond, List, [], ◌∷◌, ◌++◌, length, take, drop, get_or, Option, Some, None, Result, Ok, Err, refl, sym, ap, subst, ◌∙◌, arith, add-one, drop-cons, eq-eqb}
 use Rattle.std.specs.Prelude.{IfErr, IsErrAnd, slice_get, find, if◌then◌else◌}
 use Rattle.std.specs.Result.{result_err}
-use Rattle.std.specs.List.{AllByRecursion as Each, AllZip}
+use Rattle.std.specs.List.{AllByRecursion as Each, AllZip, list_any}
 use Rattle.std.proofs.lemmas.Bool.{false≢true}
 use Rattle.std.proofs.lemmas.Bool.Decides.{nat_tests}
 use Rattle.std.proofs.lemmas.List.{take_more}
@@ -18,7 +18,9 @@ use Rattle.diagram_read.specs.declared.fault.DiagramFault.TheVariants as faults
 use Rattle.diagram_read.specs.Lines.{line_of}
 use Rattle.report_text.specs.declared.finding.Finding.{Finding}
 use Rattle.report_text.specs.declared.finding.EdgeFinding.{EdgeFinding}
-use Rattle.form_check.specs.Checks.{IsFinding, IsFindingOf, IsLineFault, IsLineFinding, line_fault, first_line_fault}
+use Rattle.report_text.specs.Findings.{finding_lines}
+use Rattle.report_text.specs.Outcome.{Outcome, unsearched}
+use Rattle.form_check.specs.Checks.{Checks, ChecksUnless, IsFinding, IsFindingOf, IsLineFault, IsLineFinding, check_status, first_line_fault, is_breach, line_fault}
 
 -- what stands at a place
 pub record IsAt {X : Type 0} (xs : List X) (k : ℕ) (x : X) : Type 0 where
@@ -72,6 +74,16 @@ pub no_faults : (tree : Pairs) (s : Scene) (es : List Edge) (fs : List EdgeFindi
 no_faults tree s [] fs zipped = refl
 no_faults tree s (e ∷ es) [] zipped = absurd zipped
 no_faults tree s (e ∷ es) (f ∷ fs) zipped = rw (no_fault tree s e f zipped.0) (no_faults tree s es fs zipped.1)
+
+-- so what is said of them is the outcome
+pub outcome_found : (tree : Pairs) (s : Scene) (fs : List EdgeFinding) (o : Outcome) → AllZip (IsFinding tree s) s.edges fs
+    → o ≡ unsearched (check_status (list_any (λ f. is_breach f.finding) fs)) (finding_lines fs) → Checks tree s o
+outcome_found tree s fs o found is = subst (λ (first : Option DiagramFault). ChecksUnless tree s first o) (sym (no_faults tree s s.edges fs found)) (record {
+  text = finding_lines fs;
+  breach = list_any (λ f. is_breach f.finding) fs;
+  checks = record { findings = fs; found = found; is_text = refl; verdict = refl };
+  outcome = is;
+})
 
 -- the faults from a place on, where the edge there has one, and where it has none
 pub fault_here : (tree : Pairs) (es : List Edge) (k : ℕ) (e : Edge) (fault : DiagramFault) → IsAt es k e → line_fault tree e ≡ Some fault → first_line_fault tree (drop k es) ≡ Some fault

@@ -18,6 +18,10 @@ use Rattle.report_text.specs.declared.finding.Finding.{Finding}
 use Rattle.report_text.specs.declared.finding.Finding.TheVariants.{Loop, NoLine, Judged}
 use Rattle.report_text.specs.declared.finding.EdgeFinding.{EdgeFinding}
 use Rattle.report_text.specs.Findings.{finding_lines}
+use Rattle.report_text.specs.Faults.{fault_line}
+use Rattle.report_text.specs.Outcome.{Outcome, unsearched}
+use Rattle.report_text.specs.declared.status.Status.{Status}
+use Rattle.report_text.specs.declared.status.Status.TheVariants.{Diagram, BadLine, Done}
 
 -- the fault of an edge's line, if it has one; the line of a loop is not read
 abbrev pub line_fault : Pairs → Edge → Option DiagramFault
@@ -64,6 +68,27 @@ pub record ChecksLines (tree : Pairs) (s : Scene) (text : List ℕ) (breach : Bo
   pub found : AllZip (IsFinding tree s) s.edges findings
   pub is_text : text ≡ finding_lines findings
   pub verdict : breach ≡ list_any (λ f. is_breach f.finding) findings
+
+-- how a check ends in which a line breaks a rule, or none
+abbrev pub check_status : Bool → Status
+check_status true = BadLine
+check_status false = Done
+
+-- there is one line for each edge, in order
+pub record SaysFindings (tree : Pairs) (s : Scene) (o : Outcome) : Type 0 where
+  pub text : List ℕ
+  pub breach : Bool
+  pub checks : ChecksLines tree s text breach
+  pub outcome : o ≡ unsearched (check_status breach) text
+
+-- the outcome if the lines have this first fault, if they have one
+abbrev pub ChecksUnless : Pairs → Scene → Option DiagramFault → Outcome → Type 0
+ChecksUnless tree s None o = SaysFindings tree s o
+ChecksUnless tree s (Some fault) o = o ≡ unsearched Diagram (fault_line fault)
+
+-- the outcome of a check of the diagram
+abbrev pub Checks : Pairs → Scene → Outcome → Type 0
+Checks tree s = ChecksUnless tree s (first_line_fault tree s.edges)
 
 -- the fault is the first of the lines, or out of memory, on which the lines have no influence
 abbrev pub IsLineFault : Option DiagramFault → DiagramFault → Type 0

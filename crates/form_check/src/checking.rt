@@ -6,26 +6,19 @@ ghost use Rattle.gml_text.specs.View.{tree};
 ghost use Rattle.walk_model.specs.Line.{IsPolyline};
 ghost use Rattle.scene_model.specs.Scene.{edge_with};
 ghost use Rattle.scene_model.specs.Routing.{solids as solids_of};
-ghost use Rattle.form_check.specs.Checks.{ChecksLines, IsFinding, IsLineFault, IsLineFinding, first_line_fault, is_breach, line_fault};
+ghost use Rattle.report_text.specs.Findings.{finding_lines};
+ghost use Rattle.report_text.specs.Outcome.{unsearched};
+ghost use Rattle.form_check.specs.Checks.{Checks, IsFinding, IsLineFault, IsLineFinding, check_status, first_line_fault, is_breach, line_fault};
 ghost use Rattle.form_check.specs.Sizes.{HasFewPairs};
 
 use diagram_read::{DiagramFault, line_of};
 use gml_text::Doc;
 use plane_geom::{Points, Solid};
-use report_text::{EdgeFinding, Finding, push_finding_lines};
+use report_text::{EdgeFinding, Finding, Outcome, Status, no_diagram, push_finding_lines};
 use route_check::check;
 use scene_model::Edge;
 use scene_store::Scene;
 use std::alloc::{AllocError, Global};
-
-/// What a check of a diagram writes.
-#[derive(Drop)]
-pub struct Checked {
-    /// One line for each edge, in order.
-    pub text: Vec<u8>,
-    /// Whether the line of an edge breaks a rule.
-    pub has_breach: bool,
-}
 
 /// The result for the line of a connector, if it has one.
 fn line_finding(
@@ -105,19 +98,41 @@ fn has_breach(findings: &[EdgeFinding]) -> bool
     findings.iter().any(|found| is_breach(&found.finding))
 }
 
+/// How a check ends in which a line breaks a rule, or none.
+fn status_of(has_breach: bool) -> Status
+    ensures { result ≡ check_status has_breach }
+{
+    if has_breach {
+        Status::BadLine
+    } else {
+        Status::Done
+    }
+}
+
+/// The outcome of a check with these results.
+fn outcome_of(alloc: Global, findings: &[EdgeFinding]) -> Result<Outcome, AllocError>
+    ensures { IfOk result (λ o. o ≡ unsearched
+        (check_status (list_any (λ f. is_breach f.finding) findings.now)) (finding_lines findings.now)) }
+{
+    let mut text = Vec::new(alloc);
+    push_finding_lines(&mut text, findings)?;
+    let status = status_of(has_breach(findings));
+    Ok(Outcome::unsearched(status, text))
+}
+
 /// Checks the lines that the document draws for the edges of the scene, which has to be the one that
 /// is read from the document.
 ///
 /// The text has one line for each edge: its cost, the first rule that it breaks, that it has no line,
-/// or that it is a loop. The error is the first fault of a line that cannot be read, or out of memory.
-pub fn check_lines(alloc: Global, doc: &Doc, scene: &Scene) -> Result<Checked, DiagramFault>
+/// or that it is a loop. Where a line cannot be read, the text is the fault of the first such line. The only error is
+/// out of memory.
+pub fn check_lines(alloc: Global, doc: &Doc, scene: &Scene) -> Result<Outcome, AllocError>
     requires { HasFewPairs (tree doc.now) }
-    ensures ok { IfOk result (λ c. ChecksLines (tree doc.now) scene.now c.text.items c.has_breach) }
-    ensures err { IfErr result (IsLineFault (first_line_fault (tree doc.now) scene.now.edges)) }
+    ensures { IfOk result (Checks (tree doc.now) scene.now) }
 {
-    let findings = findings_of(alloc, doc, scene)?;
-    let mut text = Vec::new(alloc);
-    push_finding_lines(&mut text, &findings)?;
-    let has_breach = has_breach(&findings);
-    Ok(Checked { text, has_breach })
+    match findings_of(alloc, doc, scene) {
+        Ok(findings) => outcome_of(alloc, &findings),
+        Err(DiagramFault::Memory) => Err(AllocError),
+        Err(fault) => no_diagram(alloc, &fault),
+    }
 }

@@ -4,5 +4,5 @@
 mod checking;
 mod laws;
 
-pub use checking::{Checked, check_lines};
+pub use checking::check_lines;
 pub use laws::checks_come_to_one;

@@ -5,7 +5,9 @@ use Rattle.scene_model.specs.declared.edit.Command.{Command}
 use Rattle.scene_model.specs.Scene.{connectors}
 use Rattle.scene_model.specs.Answers.{AreAnswers}
 use Rattle.scene_model.specs.World.{opened}
+use Rattle.report_text.specs.Outcome.{Outcome, counted}
 use Rattle.report_text.specs.declared.reply.LineReply.{LineReply}
+use Rattle.report_text.specs.declared.status.Status.TheVariants.{Done}
 use Rattle.form_make.specs.declared.summary.Summary.{Summary}
 use Rattle.form_make.specs.Made.{made_scene, made_commands}
 use Rattle.form_make.specs.Summary.{summary_text}
@@ -31,6 +33,13 @@ pub record Makes (seed : ℕ) (output : List ℕ) (searches : ℕ) : Type 0 wher
   pub searched : searches ≡ length (connectors (made_scene seed)) + searched_in replies
   pub sums_up : SumsUp answers searches summary
   pub text : output ≡ summary_text summary
+
+-- the summary of what is generated from the seed is the outcome
+pub record Summarizes (seed : ℕ) (o : Outcome) : Type 0 where
+  pub text : List ℕ
+  pub searched : ℕ
+  pub makes : Makes seed text searched
+  pub outcome : o ≡ counted Done text searched
 
 -- the law: a seed has at most one output and one number of searches
 abbrev pub SeedsComeToOne : Type 0

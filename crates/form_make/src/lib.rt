@@ -14,5 +14,5 @@ mod sums;
 pub use commands::made_commands;
 pub use laws::{first_draw_of_one, seeds_come_to_one};
 pub use scene::made_scene;
-pub use seed::{Made, make};
+pub use seed::make;
 pub use summary::Summary;

@@ -1,25 +1,16 @@
 //! The replay of what is generated from a seed.
-ghost use Rattle.std.specs.Prelude.{◌≡◌, IfOk, string_bytes};
-ghost use Rattle.form_make.specs.Makes.{Makes, made_script, numbered_from};
+ghost use Rattle.std.specs.Prelude.{◌≡◌, IfOk};
+ghost use Rattle.form_make.specs.Makes.{Summarizes, made_script, numbered_from};
 
-use crate::sums::summed;
 use crate::commands::made_commands;
 use crate::scene::made_scene;
+use crate::sums::summed;
 use par_route::Gate;
-use route_search::Tally;
+use report_text::{Outcome, Status};
 use scene_model::Command;
 use script_replay::replay;
 use std::alloc::{AllocError, Global};
 use std::thread::Threads;
-
-/// The result of the replay for a seed.
-#[derive(Drop)]
-pub struct Made {
-    /// The seven lines of the summary.
-    pub text: String,
-    /// The counter of the searches.
-    pub tally: Tally,
-}
 
 /// The commands, numbered from 1. The only error is out of memory.
 fn numbered(alloc: Global, commands: &[Command]) -> Result<Vec<(usize, Command)>, AllocError>
@@ -47,8 +38,8 @@ pub fn make<R: Threads + Sync, G: Gate>(
     alloc: Global,
     seed: u64,
     gate: &G,
-) -> Result<Made, AllocError>
-    ensures { IfOk result (λ m. Makes seed (string_bytes m.text) m.tally) }
+) -> Result<Outcome, AllocError>
+    ensures { IfOk result (Summarizes seed) }
 {
     let script = script(alloc, seed)?;
     let scene = made_scene(alloc, seed)?;
@@ -60,5 +51,5 @@ pub fn make<R: Threads + Sync, G: Gate>(
     );
     let tally = session.into_tally();
     let text = summary.text(alloc)?;
-    Ok(Made { text, tally })
+    Ok(Outcome::counted(Status::Done, text.into_bytes(), tally))
 }

@@ -6,13 +6,14 @@ use Rattle.scene_model.specs.declared.edit.Command.{Command}
 use Rattle.scene_model.specs.Scene.{Scene, connectors}
 use Rattle.scene_model.specs.Answers.{AreAnswers}
 use Rattle.report_text.specs.declared.reply.Reply.TheVariants as replies
+use Rattle.report_text.specs.Outcome.{Outcome, counted}
 use Rattle.report_text.specs.Previews.{preview_lines, refused_preview_line}
 use Rattle.report_text.specs.Replies.{end_line, reply_text}
 use Rattle.preview.specs.declared.answer.Previewed.{Previewed}
 use Rattle.preview.specs.declared.answer.Previewed.TheVariants.{Committed, Refused}
 use Rattle.preview.specs.declared.proposals.Proposal.{Proposal}
 use Rattle.preview.specs.Previews.{ArePreviews}
-use Rattle.form_route.specs.Report.{edges_routed}
+use Rattle.form_route.specs.Report.{edges_routed, script_status}
 use Rattle.form_preview.specs.Blocks.{Blocks, proposals, refused_at, unfinished, blocks_of}
 
 -- the lines of the answer to the proposal with this number
@@ -54,6 +55,17 @@ abbrev pub opening_searches : Scene → Blocks → ℕ
 opening_searches s (proposals asked) = length (connectors s)
 opening_searches s (refused_at line why) = 0
 opening_searches s unfinished = 0
+
+-- the output for these blocks is the outcome
+pub record PreviewsBlocks (s : Scene) (blocks : Blocks) (o : Outcome) : Type 0 where
+  pub text : List ℕ
+  pub refused : Bool
+  pub proposes : ProposesBlocks s blocks text refused
+  pub outcome : o ≡ counted (script_status refused) text (opening_searches s blocks)
+
+-- what each proposal of the commands would give on the scene is the outcome
+abbrev pub Previews : Scene → List (ℕ × Command) → Outcome → Type 0
+Previews s commands = PreviewsBlocks s (blocks_of commands)
 
 -- the law: the proposals of a script have at most one output, and one verdict
 pub record IsSameOutput (text other : List ℕ) (refused other_refused : Bool) : Type 0 where

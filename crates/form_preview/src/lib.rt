@@ -7,4 +7,4 @@ mod report;
 mod script;
 
 pub use laws::proposals_come_to_one;
-pub use script::{Proposed, propose};
+pub use script::propose;

@@ -1,35 +1,24 @@
 //! The proposals of a script, from its commands to the bytes that are written.
 ghost use Rattle.std.specs.Prelude.{◌≡◌, ◌<◌, ◌≤◌, ◌^◌, All, IfOk, false, length, true};
+ghost use Rattle.report_text.specs.Outcome.{unsearched};
 ghost use Rattle.report_text.specs.Replies.{end_line, reply_text};
 ghost use Rattle.report_text.specs.declared.reply.Reply.TheVariants as replies;
-ghost use Rattle.scene_model.specs.Scene.{connectors};
 ghost use Rattle.preview.specs.Previews.{IsProposable};
 ghost use Rattle.script_replay.specs.Replies.{AreDirected};
-ghost use Rattle.form_preview.specs.Blocks.{blocks_of};
-ghost use Rattle.form_preview.specs.Proposes.{Answers, Proposes, opening_searches};
+ghost use Rattle.form_preview.specs.Blocks as blocks;
+ghost use Rattle.form_preview.specs.Proposes.{Answers, Previews, PreviewsBlocks};
 
 use crate::blocks::{Script, read_script};
 use crate::report::{answers_text, is_any_refused};
+use form_route::script_status;
 use par_route::Gate;
 use preview::{Proposal, preview};
-use report_text::{LineReply, Refusal, Reply, push_end_line, push_reply_lines};
-use route_search::Tally;
+use report_text::{LineReply, Outcome, Refusal, Reply, Status, push_end_line, push_reply_lines};
 use route_session::Session;
 use scene_model::Command;
 use scene_store::Scene;
 use std::alloc::{AllocError, Global};
 use std::thread::Threads;
-
-/// The output for the proposals of a script.
-#[derive(Drop)]
-pub struct Proposed {
-    /// The lines of all answers; or the line of what is refused in the script, and nothing else.
-    pub text: Vec<u8>,
-    /// Whether a proposal, a line or the end of the script was refused.
-    pub is_refused: bool,
-    /// The searches that opened the scene. Those of the proposals are not among them.
-    pub tally: Tally,
-}
 
 /// The output on answers, without its tally.
 #[derive(Drop)]
@@ -50,13 +39,12 @@ pub fn propose<R: Threads + Sync, G: Gate>(
     commands: &[(usize, Command)],
     workers: u32,
     gate: &G,
-) -> Result<Proposed, AllocError>
+) -> Result<Outcome, AllocError>
     requires some { 1 ≤ workers }
     requires few_workers { workers ≤ 4 }
     requires few { length commands.now < 2 ^ 32 }
     requires directed { AreDirected commands.now }
-    ensures output { IfOk result (λ p. Proposes scene commands.now p.text.items p.is_refused) }
-    ensures tally { IfOk result (λ p. p.tally ≡ opening_searches scene (blocks_of commands.now)) }
+    ensures { IfOk result (Previews scene commands.now) }
 {
     match read_script(alloc, commands)? {
         Script::Proposals(proposals) => answered(rt, alloc, scene, &proposals, workers, gate),
@@ -73,23 +61,18 @@ fn answered<R: Threads + Sync, G: Gate>(
     proposals: &[Proposal],
     workers: u32,
     gate: &G,
-) -> Result<Proposed, AllocError>
+) -> Result<Outcome, AllocError>
     requires some { 1 ≤ workers }
     requires few_workers { workers ≤ 4 }
     requires few_proposals { length proposals.now ≤ 64 }
     requires edits { All IsProposable proposals.now }
-    ensures output { IfOk result (λ p. Answers scene proposals.now p.text.items p.is_refused) }
-    ensures tally { IfOk result (λ p. p.tally ≡ length (connectors scene)) }
+    ensures { IfOk result (PreviewsBlocks scene (blocks.proposals proposals.now)) }
 {
     let session = Session::open(rt, alloc, scene, workers, gate)?;
     let reported = report(rt, alloc, &session, proposals, workers, gate);
     let tally = session.into_tally();
     let Lines { text, is_refused } = reported?;
-    Ok(Proposed {
-        text,
-        is_refused,
-        tally,
-    })
+    Ok(Outcome::counted(script_status(is_refused), text, tally))
 }
 
 /// The answers to the proposals on the session's present scene.
@@ -122,11 +105,9 @@ fn report<R: Threads + Sync, G: Gate>(
     })
 }
 
-/// The output where the command on the line is refused.
-fn line_refused(alloc: Global, line: u64, why: Refusal) -> Result<Proposed, AllocError>
-    ensures text { IfOk result (λ p. p.text.items ≡ reply_text false line (replies.Refused why)) }
-    ensures refused { IfOk result (λ p. p.is_refused ≡ true) }
-    ensures tally { IfOk result (λ p. p.tally ≡ 0) }
+/// The outcome where the command on the line is refused.
+fn line_refused(alloc: Global, line: u64, why: Refusal) -> Result<Outcome, AllocError>
+    ensures { IfOk result (λ o. o ≡ unsearched Status.Refused (reply_text false line (replies.Refused why))) }
 {
     let reply = LineReply {
         line,
@@ -134,29 +115,14 @@ fn line_refused(alloc: Global, line: u64, why: Refusal) -> Result<Proposed, Allo
     };
     let mut text = Vec::new(alloc);
     push_reply_lines(&mut text, false, &[reply])?;
-    Ok(refused(text))
+    Ok(Outcome::unsearched(Status::Refused, text))
 }
 
-/// The output where the last block has no `commit`.
-fn end_refused(alloc: Global) -> Result<Proposed, AllocError>
-    ensures text { IfOk result (λ p. p.text.items ≡ end_line true) }
-    ensures refused { IfOk result (λ p. p.is_refused ≡ true) }
-    ensures tally { IfOk result (λ p. p.tally ≡ 0) }
+/// The outcome where the last block has no `commit`.
+fn end_refused(alloc: Global) -> Result<Outcome, AllocError>
+    ensures { IfOk result (λ o. o ≡ unsearched Status.Refused (end_line true)) }
 {
     let mut text = Vec::new(alloc);
     push_end_line(&mut text, true)?;
-    Ok(refused(text))
-}
-
-/// The output where the script is refused.
-fn refused(text: Vec<u8>) -> Proposed
-    ensures text { result.text ≡ text }
-    ensures refused { result.is_refused ≡ true }
-    ensures tally { result.tally ≡ 0 }
-{
-    Proposed {
-        text,
-        is_refused: true,
-        tally: Tally::new(),
-    }
+    Ok(Outcome::unsearched(Status::Refused, text))
 }

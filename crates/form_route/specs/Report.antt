@@ -1,5 +1,5 @@
 -- The report of a replay.
-use Rattle.std.specs.Prelude.{ℕ, Bool, true, false, not, ◌||◌, List, ◌++◌, map, Option, Some, None, is_some, option_and_then, if◌then◌else◌}
+use Rattle.std.specs.Prelude.{ℕ, ◌==◌, Bool, true, false, not, ◌||◌, List, ◌++◌, map, Option, Some, None, is_some, option_and_then, if◌then◌else◌}
 use Rattle.std.specs.List.{count_by, list_any}
 use Rattle.walk_model.specs.declared.route.Answer.{Answer}
 use Rattle.walk_model.specs.declared.route.Route.{Route}
@@ -13,7 +13,13 @@ use Rattle.report_text.specs.declared.reply.LineReply.{LineReply}
 use Rattle.report_text.specs.declared.routed.Routed.{Routed}
 use Rattle.report_text.specs.declared.routed.Routed.TheVariants.{Loop, NoRoute, Cost}
 use Rattle.report_text.specs.declared.routed.EdgeRouted.{EdgeRouted}
-use Rattle.form_route.specs.declared.report.Unrouted.{Unrouted}
+use Rattle.report_text.specs.declared.hint.Hint.{Hint}
+use Rattle.report_text.specs.declared.hint.Hint.TheVariants.{Nothing}
+use Rattle.report_text.specs.declared.hint.Hint.TheVariants as hint
+use Rattle.report_text.specs.declared.hint.Unrouted.{Unrouted}
+use Rattle.report_text.specs.declared.status.Status.{Status}
+use Rattle.report_text.specs.declared.status.Status.TheVariants.{Done}
+use Rattle.report_text.specs.declared.status.Status.TheVariants as status
 use Rattle.report_text.specs.Replies.{open_line, reply_lines, end_line}
 use Rattle.report_text.specs.Routed.{routed_lines}
 
@@ -43,6 +49,10 @@ unrouted_in s answers = record {
   all = count_by (λ e. not (is_loop e)) s.edges;
 }
 
+-- of connectors without a route: how many there are, and of how many
+abbrev pub unrouted_hint : Unrouted → Hint
+unrouted_hint unrouted = if unrouted.without == 0 then Nothing else hint.Unrouted unrouted
+
 -- the lines for the opening with this number of searches, for the commands, for the end of the script, and for the edges
 abbrev pub report : Bool → ℕ → List LineReply → World → List Answer → List ℕ
 report count opening replies end answers =
@@ -58,3 +68,8 @@ is_refused (Searched searched) = false
 -- something was refused: a command, or the end of the script in an open transaction
 abbrev pub has_refusal : List LineReply → World → Bool
 has_refusal replies end = list_any (λ r. is_refused r.reply) replies || is_some end.working
+
+-- how a script ends in which something was refused, or nothing was
+abbrev pub script_status : Bool → Status
+script_status true = status.Refused
+script_status false = Done

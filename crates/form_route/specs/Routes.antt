@@ -14,8 +14,9 @@ use Rattle.report_text.specs.declared.reply.LineReply.{LineReply}
 use Rattle.gml_scene.specs.Tree.{tree_of}
 use Rattle.nudge_phases.specs.Nudged.{IsNudgedScene}
 use Rattle.script_replay.specs.Replies.{AreDirected, AreReplies, searched_in, world_after}
-use Rattle.form_route.specs.declared.report.Unrouted.{Unrouted}
-use Rattle.form_route.specs.Report.{report, has_refusal, unrouted_in}
+use Rattle.report_text.specs.Outcome.{Outcome, counted, hinted}
+use Rattle.report_text.specs.declared.hint.Unrouted.{Unrouted}
+use Rattle.form_route.specs.Report.{report, has_refusal, script_status, unrouted_hint, unrouted_in}
 
 -- the scene routed alone: the first legal walks of its connectors, and their nudged lines
 pub record AreLines (s : Scene) (answers : List Answer) (lines : List WrittenRoute) : Type 0 where
@@ -36,6 +37,15 @@ pub record Routes (tree : Pairs) (s : Scene) (commands : List (ℕ × Command)) 
   pub is_refused : refused ≡ has_refusal replies (world_after s commands)
   pub is_searched : searched ≡ length (connectors s) + searched_in replies
   pub is_unrouted : unrouted ≡ unrouted_in (world_after s commands).present answers
+
+-- this is the outcome, with a hint of the connectors without a route
+pub record Replays (tree : Pairs) (s : Scene) (commands : List (ℕ × Command)) (count : Bool) (o : Outcome) : Type 0 where
+  pub text : List ℕ
+  pub refused : Bool
+  pub searched : ℕ
+  pub unrouted : Unrouted
+  pub routes : Routes tree s commands count text refused searched unrouted
+  pub outcome : o ≡ hinted (counted (script_status refused) text searched) (unrouted_hint unrouted)
 
 -- the law: a script on a diagram has at most one output, one verdict, one number of searches, and one of connectors without a route
 pub record IsSameRoutes (text other_text : List ℕ) (refused other_refused : Bool) (searched other_searched : ℕ) (unrouted other_unrouted : Unrouted) : Type 0 where

@@ -7,7 +7,7 @@ use Rattle.scene_model.specs.Valid.{IsValid}
 use Rattle.nudge_phases.specs.Apart.{KeepsApart}
 use Rattle.nudge_phases.specs.Nudged.{AreLegalNudgedLines}
 use Rattle.script_replay.specs.Replies.{AreDirected, world_after}
-use Rattle.form_route.specs.declared.report.Unrouted.{Unrouted}
+use Rattle.report_text.specs.declared.hint.Unrouted.{Unrouted}
 use Rattle.form_route.specs.Routes.{Routes}
 
 -- the law: the lines that a script writes are legal walks of their connectors

@@ -1,12 +1,12 @@
 //! The report of a replay.
 ghost use Rattle.std.specs.Prelude.{◌≡◌, IfOk, not};
 ghost use Rattle.std.specs.List.{count_by, list_any};
-ghost use Rattle.form_route.specs.Report.{edges_routed, has_refusal, is_no_route, is_refused, report, routed_by, unrouted_in};
+ghost use Rattle.form_route.specs.Report.{edges_routed, has_refusal, is_no_route, is_refused, report, routed_by, script_status, unrouted_hint, unrouted_in};
 ghost use Rattle.scene_model.specs.Scene.{is_loop};
 
 use report_text::{
-    EdgeRouted, LineReply, Reply, Routed, push_end_line, push_open_line, push_reply_lines,
-    push_routed_lines,
+    EdgeRouted, Hint, LineReply, Reply, Routed, Status, Unrouted, push_end_line, push_open_line,
+    push_reply_lines, push_routed_lines,
 };
 use route_book::Book;
 use route_session::Session;
@@ -48,13 +48,6 @@ pub fn edges_routed(
     Ok(edges)
 }
 
-/// How many connectors have no route, and how many connectors there are.
-#[derive(Clone, Copy, Debug, PartialEq, Eq)]
-pub struct Unrouted {
-    pub without: usize,
-    pub all: usize,
-}
-
 /// Whether the edge has no route by the answers of the book, though it is no loop.
 fn is_unrouted(book: &Book, edge: &Edge) -> bool
     ensures { result ≡ is_no_route (routed_by book.now edge.now) }
@@ -84,7 +77,7 @@ fn connector_count(edges: &[Edge]) -> usize
 }
 
 /// How many connectors of the session's present scene have no route.
-pub(crate) fn unrouted_of(session: &Session) -> Unrouted
+fn unrouted_of(session: &Session) -> Unrouted
     ensures { result ≡ unrouted_in session.now.world.present session.now.book }
 {
     let edges = session.scene().edges();
@@ -92,6 +85,24 @@ pub(crate) fn unrouted_of(session: &Session) -> Unrouted
         without: unrouted_count(session.book(), edges),
         all: connector_count(edges),
     }
+}
+
+/// What people are told of the connectors that have no route, if there are any.
+fn unrouted_hint(unrouted: Unrouted) -> Hint
+    ensures { result ≡ unrouted_hint unrouted }
+{
+    if unrouted.without == 0 {
+        Hint::Nothing
+    } else {
+        Hint::Unrouted(unrouted)
+    }
+}
+
+/// What people are told of the session's present scene.
+pub(crate) fn hint_of(session: &Session) -> Hint
+    ensures { result ≡ unrouted_hint (unrouted_in session.now.world.present session.now.book) }
+{
+    unrouted_hint(unrouted_of(session))
 }
 
 /// The report on a script whose opening searched `opening` connectors, with these replies, and with
@@ -129,8 +140,26 @@ fn any_is_refused(replies: &[LineReply]) -> bool
 }
 
 /// Whether a command was refused, or the script ended in an open transaction, which is refused too.
-pub(crate) fn has_refusal(replies: &[LineReply], session: &Session) -> bool
+fn has_refusal(replies: &[LineReply], session: &Session) -> bool
     ensures { result ≡ has_refusal replies.now session.now.world }
 {
     any_is_refused(replies) || session.is_open()
+}
+
+/// How a script ends in which something was refused, or nothing was.
+pub fn script_status(is_refused: bool) -> Status
+    ensures { result ≡ script_status is_refused }
+{
+    if is_refused {
+        Status::Refused
+    } else {
+        Status::Done
+    }
+}
+
+/// How the script ends that was replied to like this, with this session at the end.
+pub(crate) fn status_of(replies: &[LineReply], session: &Session) -> Status
+    ensures { result ≡ script_status (has_refusal replies.now session.now.world) }
+{
+    script_status(has_refusal(replies, session))
 }

@@ -6,14 +6,13 @@ ghost use Rattle.gml_scene.specs.Origins.{AreEdgesOf, AreNodesOf, AreRoutesOf};
 ghost use Rattle.diagram_read.specs.Scene.{scene_of};
 ghost use Rattle.script_replay.specs.Replies.{AreDirected};
 ghost use Rattle.form_route.specs.Diagram.{EndsInDiagram, IsDiagram, IsOutput};
-ghost use Rattle.form_route.specs.Routes.{AreLines, Routes};
+ghost use Rattle.form_route.specs.Routes.{AreLines, Replays};
 
-use crate::report::{Unrouted, has_refusal, report, unrouted_of};
+use crate::report::{hint_of, report, status_of};
 use gml_scene::put_routes;
 use gml_text::{Doc, push_printed};
 use par_route::Gate;
-use report_text::LineReply;
-use route_search::Tally;
+use report_text::{LineReply, Outcome};
 use route_session::Session;
 use scene_model::Command;
 use scene_store::Scene;
@@ -31,20 +30,6 @@ pub struct Options {
     pub count: bool,
 }
 
-/// The result of a script on a diagram.
-#[derive(Drop)]
-pub struct Routing {
-    /// The report, followed by the printed diagram.
-    pub text: Vec<u8>,
-    /// Whether a command was refused, or the script ended in an open transaction, which is refused
-    /// too.
-    pub is_refused: bool,
-    /// The counter of the searches.
-    pub tally: Tally,
-    /// The connectors of the scene at the end that have no route.
-    pub unrouted: Unrouted,
-}
-
 /// Replays the commands, each with the number of its line, on the scene of the document. Then it
 /// writes the report and the document of the scene at the end, with its nudged lines.
 ///
@@ -57,14 +42,14 @@ pub fn route<R: Threads + Sync, G: Gate>(
     commands: &[(usize, Command)],
     options: Options,
     gate: &G,
-) -> Result<Routing, AllocError>
+) -> Result<Outcome, AllocError>
     requires some { 1 ≤ options.workers }
     requires few_workers { options.workers ≤ 4 }
     requires few { length commands.now < 2 ^ 32 }
     requires directed { AreDirected commands.now }
     requires source { scene_of (tree doc.now) ≡ Ok scene }
     requires printable { IsPrintable (tree doc.now) }
-    ensures { IfOk result (λ r. Routes (tree doc.now) scene commands.now options.count r.text.items r.is_refused r.tally r.unrouted) }
+    ensures { IfOk result (Replays (tree doc.now) scene commands.now options.count) }
 {
     // For the proof: the scene is valid, so its replay keeps origins.
     scene.valid();
@@ -78,16 +63,11 @@ pub fn route<R: Threads + Sync, G: Gate>(
         &replayed.replies,
         &replayed.session,
     );
-    let is_refused = has_refusal(&replayed.replies, &replayed.session);
-    let unrouted = unrouted_of(&replayed.session);
+    let status = status_of(&replayed.replies, &replayed.session);
+    let hint = hint_of(&replayed.session);
     let tally = replayed.session.into_tally();
     let text = written?;
-    Ok(Routing {
-        text,
-        is_refused,
-        tally,
-        unrouted,
-    })
+    Ok(Outcome::counted(status, text, tally).hinted(hint))
 }
 
 /// The report on a script whose opening searched `opening` connectors, with these replies, and with

@@ -1,5 +1,5 @@
 -- What is written of a scene's shared paths and crossings.
-use Rattle.std.specs.Prelude.{◌≡◌, ℕ, List, ◌++◌, map}
+use Rattle.std.specs.Prelude.{◌≡◌, ℕ, List, ◌++◌, length, map}
 use Rattle.plane_geom.specs.declared.point.Point.{Point}
 use Rattle.separation_model.specs.declared.bundle.Solution.{Solution}
 use Rattle.walk_model.specs.declared.route.Answer.{Answer}
@@ -7,13 +7,15 @@ use Rattle.walk_model.specs.declared.route.Route.{Route}
 use Rattle.walk_model.specs.declared.route.WrittenRoute.{WrittenRoute}
 use Rattle.segment_order.specs.Run.{runs_along}
 use Rattle.scene_model.specs.Answers.{AreAnswers}
-use Rattle.scene_model.specs.Scene.{Scene}
+use Rattle.scene_model.specs.Scene.{Scene, connectors}
 use Rattle.scene_model.specs.Valid.{IsValid}
 use Rattle.shared_paths.specs.declared.path.EdgeRuns.{EdgeRuns}
 use Rattle.shared_paths.specs.declared.path.SharedPath.{SharedPath}
 use Rattle.shared_paths.specs.Listed.{AreSharedPaths}
 use Rattle.shared_paths.specs.Crossings.{crossing_count}
+use Rattle.report_text.specs.Outcome.{Outcome, counted}
 use Rattle.report_text.specs.Shared.{crossings_line, shared_lines}
+use Rattle.report_text.specs.declared.status.Status.TheVariants.{Done}
 use Rattle.nudge_phases.specs.Nudged.{IsNudgedScene}
 use Rattle.nudge_phases.specs.Raw.{routed}
 
@@ -46,6 +48,12 @@ pub record SharesPaths (s : Scene) (text : List ℕ) : Type 0 where
   pub crossings : ℕ
   pub crossed : CountsCrossings s answers crossings
   pub is_text : text ≡ shared_lines paths ++ crossings_line crossings
+
+-- these lines are the outcome, for which each connector is searched once
+pub record ListsPaths (s : Scene) (o : Outcome) : Type 0 where
+  pub text : List ℕ
+  pub shares : SharesPaths s text
+  pub outcome : o ≡ counted Done text (length (connectors s))
 
 -- a valid scene has one such text at most
 abbrev pub HaveOneText : Type 0

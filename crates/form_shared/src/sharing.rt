@@ -1,33 +1,22 @@
 //! The shared paths of a scene's routes, and the crossings of its nudged lines, as text.
 ghost use Rattle.std.specs.Prelude.{◌≡◌, ◌≤◌, ◌<◌, ◌^◌, ◌++◌, All, IfOk, length};
 ghost use Rattle.scene_model.specs.Answers.{AreAnswers};
-ghost use Rattle.scene_model.specs.Scene.{connectors};
 ghost use Rattle.scene_model.specs.Valid.{IsValid};
 ghost use Rattle.shared_paths.specs.Listed.{AreSharedPaths, runs_in};
 ghost use Rattle.shared_paths.specs.Crossings.{crossing_count};
 ghost use Rattle.report_text.specs.Shared.{crossings_line, shared_lines};
-ghost use Rattle.form_shared.specs.Shares.{CountsCrossings, SharesPaths, line_runs, raw_runs};
+ghost use Rattle.form_shared.specs.Shares.{CountsCrossings, ListsPaths, SharesPaths, line_runs, raw_runs};
 
 use crate::runs::{drawn_lines, raw_routes};
 use nudge_phases::nudged_lines_are_short;
 use par_route::Gate;
-use report_text::{push_crossings_line, push_shared_lines};
-use route_search::Tally;
+use report_text::{Outcome, Status, push_crossings_line, push_shared_lines};
 use route_session::Session;
 use scene_store::Scene;
 use shared_paths::{SharedPath, crossings, shared};
 use std::alloc::{AllocError, Global};
 use std::thread::Threads;
 use walk_model::{Answer, WrittenRoute};
-
-/// What is written of a scene's shared paths.
-#[derive(Drop)]
-pub struct Sharing {
-    /// One line for each shared path, and the line on the crossings.
-    pub text: Vec<u8>,
-    /// The searches that were made.
-    pub tally: Tally,
-}
 
 /// The paths that the routes of a scene's right answers share.
 fn paths_of(alloc: Global, scene: &Scene, answers: &[Answer]) -> Result<Vec<SharedPath>, AllocError>
@@ -89,13 +78,12 @@ pub fn share<R: Threads + Sync, G: Gate>(
     alloc: Global,
     scene: Scene,
     gate: &G,
-) -> Result<Sharing, AllocError>
-    ensures text { IfOk result (λ r. SharesPaths scene r.text.items) }
-    ensures searched { IfOk result (λ r. r.tally ≡ length (connectors scene)) }
+) -> Result<Outcome, AllocError>
+    ensures { IfOk result (ListsPaths scene) }
 {
     let session = Session::open(rt, alloc, scene, 1, gate)?;
     let written = session_text(alloc, &session);
     let tally = session.into_tally();
     let text = written?;
-    Ok(Sharing { text, tally })
+    Ok(Outcome::counted(Status::Done, text, tally))
 }

@@ -9,3 +9,5 @@ pub mod Replies
 pub mod Previews
 pub mod Shared
 pub mod Audits
+pub mod Status
+pub mod Outcome

@@ -5,6 +5,15 @@ ghost use Rattle.report_text.specs.Files.{read_fault_line, too_long_line, words_
 use crate::number::push_number;
 use std::alloc::AllocError;
 
+/// The greatest number of bytes of a diagram.
+pub const MOST_BYTES: u64 = 16_777_216;
+
+/// The greatest number of bytes of a script.
+pub const MOST_SCRIPT_BYTES: u64 = 4_194_304;
+
+/// The greatest number of bytes of a certificate.
+pub const MOST_CERTIFICATE_BYTES: u64 = 1_073_741_824;
+
 /// Appends the line for arguments that are not valid.
 pub fn push_words_line(out: &mut Vec<u8>) -> Result<(), AllocError>
     ensures ok { OnOk result (out.new.items ≡ out.old.items ++ words_line) }

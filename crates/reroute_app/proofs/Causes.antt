@@ -26,25 +26,23 @@ use Rattle.report_text.specs.declared.finding.Finding.{Finding}
 use Rattle.report_text.specs.declared.finding.Finding.TheVariants.{Judged}
 use Rattle.report_text.specs.declared.finding.EdgeFinding.{EdgeFinding}
 use Rattle.script_replay.specs.Replies.{AreReplies, HaveOneListOfReplies, world_after}
-use Rattle.form_check.specs.Checks.{IsFinding, IsFindingOf, IsLineFinding, first_line_fault, is_breach}
-use Rattle.form_route.specs.Report.{has_refusal}
-use Rattle.form_preview.specs.Proposes.{ComeToOne, Proposes}
+use Rattle.form_check.specs.Checks.{IsFinding, IsFindingOf, IsLineFinding, first_line_fault, is_breach, SaysFindings, ChecksUnless, Checks, check_status}
+use Rattle.form_route.specs.Report.{has_refusal, script_status}
+use Rattle.form_preview.specs.Proposes.{ComeToOne, Proposes, Previews}
 use Rattle.diagram_read.specs.declared.fault.Part.{Part}
 use Rattle.form_certificate.specs.Sizes.{too_large}
-use Rattle.form_certificate.specs.Auditing.{Audits, HaveOneAudit}
+use Rattle.form_certificate.specs.Auditing.{Audits, HaveOneAudit, AuditsCertificate, audit_status}
 use Rattle.command_words.specs.Words.{Form, check, route, make, preview, shared, prove, audit, form_of}
-use Rattle.reroute_app.specs.declared.status.Status.{Status}
-use Rattle.reroute_app.specs.declared.status.Status.TheVariants as status
-use Rattle.reroute_app.specs.Status.{IsOutputWritten}
-use Rattle.reroute_app.specs.Outcome.{Outcome, Course, Ends}
-use Rattle.reroute_app.specs.Reads.{HasRead, HasFailed, HasMore, ReadsFile}
+use Rattle.report_text.specs.declared.status.Status.{Status}
+use Rattle.report_text.specs.declared.status.Status.TheVariants as status
+use Rattle.report_text.specs.Status.{IsOutputWritten}
+use Rattle.report_text.specs.Outcome.{Outcome}
+use Rattle.reroute_app.specs.Reads.{HasRead, HasFailed, HasMore, ReadsFile, Course, Ends}
 use Rattle.reroute_app.specs.Reads.ReadsFile.{fails, is_too_long, goes_on}
-use Rattle.reroute_app.specs.Diagram.{most_bytes, IsDiagram, HasDiagram, TakesScene, TakesTree, ReadsDiagram}
-use Rattle.reroute_app.specs.Check.{SaysFindings, ChecksUnless, Checks, check_status}
-use Rattle.reroute_app.specs.Replay.{most_script_bytes, replay_status, Replays}
-use Rattle.reroute_app.specs.Preview.{Previews}
-use Rattle.reroute_app.specs.Shared.{ListsPaths}
-use Rattle.reroute_app.specs.Certificate.{most_certificate_bytes, AuditsCertificate, UnlessLarge, WritesCertificate, audit_status}
+use Rattle.reroute_app.specs.Diagram.{most_bytes, IsDiagram, HasDiagram, TakesScene, TakesTree, ReadsDiagram, most_script_bytes, most_certificate_bytes, UnlessLarge}
+use Rattle.form_route.specs.Routes.{Replays}
+use Rattle.form_shared.specs.Shares.{ListsPaths}
+use Rattle.form_certificate.specs.Proving.{WritesCertificate}
 use Rattle.reroute_app.specs.Run.{IsFormOutcome}
 use Rattle.reroute_app.specs.Causes.{GainsLast, LastFailed, LastTookMore, HasReadDiagram, IsNoDiagram, HasNoLine, IsTooLarge, IsRefusedBy, FindsNoDiagram, FindsLines, HasBadLine, HasNoBadLine, FindsBadLine, FindsLegalLines, HasReadBoth, FindsReplay, FindsPreviews, FindsShared, FindsSmall, FindsAudit, FindsNoProof, FindsRefusal, FindsNothing}
 use Rattle.reroute_app.specs.Causes.FindsNothing.{lines_are_legal, nothing_is_refused, is_made, no_proposal_is_refused, is_shared, has_certificate, is_proved}
@@ -287,8 +285,8 @@ module _ (words : List (List ℕ)) (files : Option ExposedFiles) (old new : List
   status_found (no_diagram none) = status.Diagram
   status_found (line_is_bad bad) = status.BadLine
   status_found (legal_lines legal) = status.Done
-  status_found (replay refused found) = replay_status refused
-  status_found (previews refused found) = replay_status refused
+  status_found (replay refused found) = script_status refused
+  status_found (previews refused found) = script_status refused
   status_found (shared_paths found) = status.Done
   status_found (certificate found) = status.Done
   status_found (verdict proved found) = audit_status proved
@@ -444,8 +442,8 @@ module _ (words : List (List ℕ)) (files : Option ExposedFiles) (old new : List
     one_found (line_is_bad a) (legal_lines b) = absurd (bad_not_legal some a b)
     one_found (legal_lines a) (line_is_bad b) = absurd (bad_not_legal some b a)
     one_found (legal_lines a) (legal_lines b) = refl
-    one_found (replay b p) (replay c q) = ap replay_status (one_replay replies some b c p q)
-    one_found (previews b p) (previews c q) = ap replay_status (one_preview proposals some b c p q)
+    one_found (replay b p) (replay c q) = ap script_status (one_replay replies some b c p q)
+    one_found (previews b p) (previews c q) = ap script_status (one_preview proposals some b c p q)
     one_found (shared_paths a) (shared_paths b) = refl
     one_found (certificate a) (certificate b) = refl
     one_found (verdict b p) (verdict c q) = ap audit_status (one_verdict audits some b c p q)

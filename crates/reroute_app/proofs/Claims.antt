@@ -7,12 +7,11 @@ use Rattle.scene_model.specs.Scene.{Scene}
 use Rattle.diagram_read.specs.declared.fault.Part.{Part}
 use Rattle.command_words.specs.Words.{Form, audit}
 use Rattle.form_certificate.specs.Sizes.{too_large}
-use Rattle.form_certificate.specs.Auditing.{HasTrueClaims}
-use Rattle.reroute_app.specs.declared.status.Status.TheVariants as status
-use Rattle.reroute_app.specs.Outcome.{Outcome, Ends}
-use Rattle.reroute_app.specs.Reads.{HasRead, ReadsFile}
-use Rattle.reroute_app.specs.Diagram.{HasDiagram}
-use Rattle.reroute_app.specs.Certificate.{most_certificate_bytes, AuditsCertificate, UnlessLarge, audit_status}
+use Rattle.form_certificate.specs.Auditing.{HasTrueClaims, AuditsCertificate, audit_status}
+use Rattle.report_text.specs.declared.status.Status.TheVariants as status
+use Rattle.report_text.specs.Outcome.{Outcome}
+use Rattle.reroute_app.specs.Reads.{HasRead, ReadsFile, Ends}
+use Rattle.reroute_app.specs.Diagram.{HasDiagram, most_certificate_bytes, UnlessLarge}
 use Rattle.reroute_app.specs.Run.{IsFormOutcome, IsOutcome}
 use Rattle.reroute_app.specs.Causes.{ClaimsAreTrue, FindsTrueClaims}
 use Rattle.reroute_app.proofs.PastReads.{IsPastReads, diagram_read, file_read, past_too}

@@ -12,21 +12,22 @@ use Rattle.diagram_read.specs.declared.fault.DiagramFault.{DiagramFault}
 use Rattle.diagram_read.specs.declared.fault.Part.{Part}
 use Rattle.diagram_read.specs.Scene.{scene_of}
 use Rattle.edit_script.specs.Script.{commands}
-use Rattle.form_check.specs.Checks.{first_line_fault}
+use Rattle.form_check.specs.Checks.{first_line_fault, ChecksUnless, Checks, check_status}
 use Rattle.form_certificate.specs.Sizes.{too_large}
 use Rattle.command_words.specs.Words.{Form, check, route, make, preview, shared, prove, audit, form_of}
-use Rattle.reroute_app.specs.declared.status.Status.{Status}
-use Rattle.reroute_app.specs.declared.status.Status.TheVariants as status
-use Rattle.reroute_app.specs.Status.{IsOutputWritten}
-use Rattle.reroute_app.specs.Outcome.{Outcome, Course, Ends}
-use Rattle.reroute_app.specs.Reads.{ReadsFile}
+use Rattle.report_text.specs.declared.status.Status.{Status}
+use Rattle.report_text.specs.declared.status.Status.TheVariants as status
+use Rattle.report_text.specs.Status.{IsOutputWritten}
+use Rattle.report_text.specs.Outcome.{Outcome}
+use Rattle.reroute_app.specs.Reads.{ReadsFile, Course, Ends}
 use Rattle.reroute_app.specs.Reads.ReadsFile.{fails, is_too_long, goes_on}
-use Rattle.reroute_app.specs.Diagram.{most_bytes, TakesScene, TakesTree, ReadsDiagram}
-use Rattle.reroute_app.specs.Check.{ChecksUnless, Checks, check_status}
-use Rattle.reroute_app.specs.Replay.{most_script_bytes, replay_status, Replays}
-use Rattle.reroute_app.specs.Preview.{Previews}
-use Rattle.reroute_app.specs.Shared.{ListsPaths}
-use Rattle.reroute_app.specs.Certificate.{most_certificate_bytes, AuditsCertificate, UnlessLarge, WritesCertificate, audit_status}
+use Rattle.reroute_app.specs.Diagram.{most_bytes, TakesScene, TakesTree, ReadsDiagram, most_script_bytes, most_certificate_bytes, UnlessLarge}
+use Rattle.form_route.specs.Report.{script_status}
+use Rattle.form_route.specs.Routes.{Replays}
+use Rattle.form_preview.specs.Proposes.{Previews}
+use Rattle.form_shared.specs.Shares.{ListsPaths}
+use Rattle.form_certificate.specs.Auditing.{AuditsCertificate, audit_status}
+use Rattle.form_certificate.specs.Proving.{WritesCertificate}
 use Rattle.reroute_app.specs.Run.{IsFormOutcome, Writes, files_of}
 use Rattle.reroute_app.specs.Causes.{LastFailed, HasReadDiagram, FindsNoDiagram, FindsBadLine, FindsNoProof, FindsRefusal, FindsNothing}
 use Rattle.reroute_app.specs.Complete.{AreSound, CompletesUnlessFault, EndsBy, IsComplete, IsWithin}
@@ -50,7 +51,7 @@ never_checks : (b : Bool) → check_status b ≡ status.TooLong → ⊥
 never_checks true e = absurd cc
 never_checks false e = absurd cc
 
-never_replays : (b : Bool) → replay_status b ≡ status.TooLong → ⊥
+never_replays : (b : Bool) → script_status b ≡ status.TooLong → ⊥
 never_replays true e = absurd cc
 never_replays false e = absurd cc
 

@@ -11,8 +11,8 @@ use Rattle.gml_text.proofs.Parsing.{reads_once}
 use Rattle.scene_model.specs.Scene.{Scene}
 use Rattle.diagram_read.specs.declared.fault.DiagramFault.{DiagramFault}
 use Rattle.diagram_read.specs.Scene.{scene_of}
-use Rattle.reroute_app.specs.Outcome.{Outcome, Course, Ends, EndsWith}
-use Rattle.reroute_app.specs.Reads.{ReadsFile}
+use Rattle.report_text.specs.Outcome.{Outcome}
+use Rattle.reroute_app.specs.Reads.{ReadsFile, Course, Ends, EndsWith}
 use Rattle.reroute_app.specs.Reads.ReadsFile.{fails, is_too_long, goes_on}
 use Rattle.reroute_app.specs.Diagram.{most_bytes, TakesScene, TakesTree, TakesDiagram, ReadsDiagram}
 

@@ -4,14 +4,14 @@ use Rattle.host_edge.specs.Folder.{ExposedFiles}
 use Rattle.host_edge.specs.Note.{Note}
 use Rattle.edit_script.specs.Script.{commands}
 use Rattle.edit_script.proofs.Directed.{have_directions}
-use Rattle.form_route.specs.Routes.{Routes}
+use Rattle.form_route.specs.Routes.{Routes, Replays}
 use Rattle.form_route.specs.Written.{WrittenLinesAreLegal, WrittenLinesKeepApart}
 use Rattle.command_words.specs.Words.{Form, route}
-use Rattle.reroute_app.specs.declared.status.Status.{Status}
-use Rattle.reroute_app.specs.declared.status.Status.TheVariants.{Done, Refused}
-use Rattle.reroute_app.specs.Outcome.{Outcome, Ends}
-use Rattle.reroute_app.specs.Reads.{HasRead, ReadsFile}
-use Rattle.reroute_app.specs.Replay.{most_script_bytes, Replays}
+use Rattle.report_text.specs.declared.status.Status.{Status}
+use Rattle.report_text.specs.declared.status.Status.TheVariants.{Done, Refused}
+use Rattle.report_text.specs.Outcome.{Outcome}
+use Rattle.reroute_app.specs.Reads.{HasRead, ReadsFile, Ends}
+use Rattle.reroute_app.specs.Diagram.{most_script_bytes}
 use Rattle.reroute_app.specs.Run.{IsFormOutcome}
 use Rattle.reroute_app.specs.Lines.{RunsWriteGoodLines, WritesLines}
 use Rattle.reroute_app.proofs.PastReads.{IsPastReads, diagram_read, file_read}

@@ -1,35 +1,30 @@
 -- For given arguments, exposed files and notes there is one outcome.
-use Rattle.std.proofs.Common.{◌≡◌, ℕ, Bool, List, Option, Some, None, Ok, sym, ap, ◌∙◌}
+use Rattle.std.proofs.Common.{◌≡◌, ℕ, Bool, List, length, Option, Some, None, Ok, sym, ap, ◌∙◌}
 use Rattle.std.specs.Prelude.{IsSome}
 use Rattle.host_edge.specs.Folder.{ExposedFiles}
 use Rattle.host_edge.specs.Note.{Note}
 use Rattle.gml_text.specs.Tree.{Pairs}
-use Rattle.scene_model.specs.Scene.{Scene}
+use Rattle.scene_model.specs.Scene.{Scene, connectors}
 use Rattle.diagram_read.specs.declared.fault.DiagramFault.{DiagramFault}
 use Rattle.diagram_read.specs.Scene.{scene_of}
 use Rattle.edit_script.specs.Script.{commands}
 use Rattle.edit_script.proofs.Directed.{have_directions}
-use Rattle.form_check.specs.Checks.{HaveOneCheck, first_line_fault}
-use Rattle.form_route.specs.Routes.{ComesToOne}
-use Rattle.form_make.specs.Makes.{SeedsComeToOne}
-use Rattle.form_preview.specs.Proposes.{ComeToOne}
-use Rattle.form_shared.specs.Shares.{HaveOneText}
+use Rattle.form_check.specs.Checks.{HaveOneCheck, first_line_fault, ChecksUnless, Checks, check_status}
+use Rattle.form_route.specs.Routes.{ComesToOne, Replays}
+use Rattle.form_make.specs.Makes.{SeedsComeToOne, Summarizes}
+use Rattle.form_preview.specs.Proposes.{ComeToOne, Previews, opening_searches}
+use Rattle.form_preview.specs.Blocks.{blocks_of}
+use Rattle.form_shared.specs.Shares.{HaveOneText, ListsPaths}
 use Rattle.diagram_read.specs.declared.fault.Part.{Part}
 use Rattle.form_certificate.specs.Sizes.{too_large}
-use Rattle.form_certificate.specs.Proving.{HaveOneCertificate}
-use Rattle.form_certificate.specs.Auditing.{HaveOneAudit}
+use Rattle.form_certificate.specs.Proving.{HaveOneCertificate, WritesCertificate}
+use Rattle.form_certificate.specs.Auditing.{HaveOneAudit, AuditsCertificate, audit_status}
 use Rattle.command_words.specs.Words.{Form, check, route, make, preview, shared, prove, audit, form_of}
-use Rattle.reroute_app.specs.declared.hint.Hint.TheVariants.{Nothing}
-use Rattle.reroute_app.specs.declared.status.Status.TheVariants.{Done}
-use Rattle.reroute_app.specs.Hint.{unrouted_hint}
-use Rattle.reroute_app.specs.Outcome.{Outcome, Course, Ends, uncounted, unsearched}
-use Rattle.reroute_app.specs.Reads.{ReadsFile}
-use Rattle.reroute_app.specs.Check.{ChecksUnless, Checks, check_status}
-use Rattle.reroute_app.specs.Replay.{most_script_bytes, replay_status, Replays}
-use Rattle.reroute_app.specs.Make.{Summarizes}
-use Rattle.reroute_app.specs.Preview.{Previews}
-use Rattle.reroute_app.specs.Shared.{ListsPaths}
-use Rattle.reroute_app.specs.Certificate.{most_certificate_bytes, AuditsCertificate, UnlessLarge, WritesCertificate, audit_status}
+use Rattle.report_text.specs.declared.status.Status.TheVariants.{Done}
+use Rattle.report_text.specs.Outcome.{Outcome, counted, hinted, uncounted, unsearched}
+use Rattle.reroute_app.specs.Reads.{ReadsFile, Course, Ends}
+use Rattle.reroute_app.specs.Diagram.{most_script_bytes, most_certificate_bytes, UnlessLarge}
+use Rattle.form_route.specs.Report.{script_status, unrouted_hint}
 use Rattle.reroute_app.specs.Run.{IsFormOutcome, HasOneOutcome}
 use Rattle.reroute_app.proofs.Courses.{IsCourse, course_ends, course_ends_with, course_file, course_diagram}
 use Rattle.reroute_app.proofs.ReadScenes.{scene_valid}
@@ -44,20 +39,20 @@ module _ (checks : HaveOneCheck) (replays : ComesToOne) (seeds : SeedsComeToOne)
   one_replay : (tree : Pairs) (s : Scene) (bytes : List ℕ) (count : Bool) → scene_of tree ≡ Ok s → (a b : Outcome) → Replays tree s (commands bytes) count a → Replays tree s (commands bytes) count b → a ≡ b
   one_replay tree s bytes count is a b p q =
       let same = replays tree s (commands bytes) count p.text q.text p.refused q.refused p.searched q.searched p.unrouted q.unrouted (scene_valid tree s is) (have_directions bytes) p.routes q.routes in
-      p.outcome ∙ (λ i. record { status = replay_status (same.same_verdict i); text = same.same_text i; searched = Some (same.same_count i); hint = unrouted_hint (same.same_unrouted i) }) ∙ sym q.outcome
+      p.outcome ∙ (λ i. hinted (counted (script_status (same.same_verdict i)) (same.same_text i) (same.same_count i)) (unrouted_hint (same.same_unrouted i))) ∙ sym q.outcome
 
   one_summary : (seed : ℕ) (a b : Outcome) → Summarizes seed a → Summarizes seed b → a ≡ b
   one_summary seed a b p q =
       let same = seeds seed p.text q.text p.searched q.searched p.makes q.makes in
-      p.outcome ∙ (λ i. record { status = Done; text = same.0 i; searched = Some (same.1 i); hint = Nothing }) ∙ sym q.outcome
+      p.outcome ∙ (λ i. counted Done (same.0 i) (same.1 i)) ∙ sym q.outcome
 
   one_preview : (s : Scene) (bytes : List ℕ) → (a b : Outcome) → Previews s (commands bytes) a → Previews s (commands bytes) b → a ≡ b
   one_preview s bytes a b p q =
       let same = proposals s (commands bytes) p.text q.text p.refused q.refused p.proposes q.proposes in
-      p.outcome ∙ (λ i. uncounted (replay_status (same.same_verdict i)) (same.same_text i)) ∙ sym q.outcome
+      p.outcome ∙ (λ i. counted (script_status (same.same_verdict i)) (same.same_text i) (opening_searches s (blocks_of (commands bytes)))) ∙ sym q.outcome
 
   one_sharing : (tree : Pairs) (s : Scene) → scene_of tree ≡ Ok s → (a b : Outcome) → ListsPaths s a → ListsPaths s b → a ≡ b
-  one_sharing tree s is a b p q = p.outcome ∙ ap (uncounted Done) (paths s p.text q.text (scene_valid tree s is) p.shares q.shares) ∙ sym q.outcome
+  one_sharing tree s is a b p q = p.outcome ∙ ap (λ text. counted Done text (length (connectors s))) (paths s p.text q.text (scene_valid tree s is) p.shares q.shares) ∙ sym q.outcome
 
   one_certificate : (s : Scene) (a b : Outcome) → WritesCertificate s a → WritesCertificate s b → a ≡ b
   one_certificate s a b p q = p.outcome ∙ ap (uncounted Done) (certificates s p.text q.text p.is_certificate q.is_certificate) ∙ sym q.outcome

@@ -8,10 +8,10 @@ use Rattle.gml_text.specs.declared.fault.GmlFault.{GmlFault}
 use Rattle.scene_model.specs.Scene.{Scene}
 use Rattle.diagram_read.specs.declared.fault.DiagramFault.{DiagramFault}
 use Rattle.diagram_read.specs.Scene.{scene_of}
-use Rattle.reroute_app.specs.declared.status.Status.{Status}
-use Rattle.reroute_app.specs.declared.status.Status.TheVariants.{Diagram, ReadFault, TooLong}
-use Rattle.reroute_app.specs.Outcome.{Outcome, Course}
-use Rattle.reroute_app.specs.Reads.{HasRead, ReadsFile}
+use Rattle.report_text.specs.declared.status.Status.{Status}
+use Rattle.report_text.specs.declared.status.Status.TheVariants.{Diagram, ReadFault, TooLong}
+use Rattle.report_text.specs.Outcome.{Outcome}
+use Rattle.reroute_app.specs.Reads.{HasRead, ReadsFile, Course}
 use Rattle.reroute_app.specs.Reads.ReadsFile.{fails, is_too_long, goes_on}
 use Rattle.reroute_app.specs.Diagram.{most_bytes, HasDiagram, ReadsDiagram, TakesDiagram, TakesScene, TakesTree}
 

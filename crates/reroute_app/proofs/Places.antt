@@ -1,7 +1,7 @@
 -- The place that follows the bytes that were seen.
 use Rattle.std.proofs.Common.{◌≡◌, ℕ, ◌+◌, ◌<◌, ◌≤◌, ◌==◌, true, false, if◌then◌else◌, List, [], ◌∷◌, ◌++◌, length, take, get_or, refl, ap, ◌∙◌, arith}
 use Rattle.std.proofs.lemmas.List.{take_more}
-use Rattle.reroute_app.specs.declared.hint.Place.{Place}
+use Rattle.report_text.specs.declared.hint.Place.{Place}
 use Rattle.reroute_app.specs.Hint.{first_place, next_place, place_after}
 
 after_one : (p : Place) (bytes : List ℕ) (b : ℕ) → place_after p (bytes ++ b ∷ []) ≡ next_place (place_after p bytes) b

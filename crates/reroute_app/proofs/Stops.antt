@@ -16,27 +16,24 @@ use Rattle.diagram_read.specs.declared.fault.DiagramFault.{DiagramFault}
 use Rattle.diagram_read.specs.Scene.{scene_of}
 use Rattle.edit_script.specs.Script.{commands}
 use Rattle.report_text.specs.Faults.{gml_fault_line}
-use Rattle.reroute_app.specs.declared.outcome.Outcome.{Outcome as Made}
-use Rattle.reroute_app.specs.declared.outcome.Stop.{Stop}
-use Rattle.reroute_app.specs.declared.outcome.Stop.TheVariants.{Ended, Memory}
-use Rattle.reroute_app.specs.declared.status.Status.TheVariants.{Diagram}
+use Rattle.reroute_app.specs.declared.stop.Stop.{Stop}
+use Rattle.reroute_app.specs.declared.stop.Stop.TheVariants.{Ended, Memory}
+use Rattle.report_text.specs.declared.status.Status.TheVariants.{Diagram}
 use Rattle.command_words.specs.Words.{Form, form_of}
 use Rattle.reroute_app.specs.Hint.{gml_hint}
-use Rattle.reroute_app.specs.Outcome.{Outcome, Course, Ends, hinted, unsearched}
-use Rattle.reroute_app.specs.Reads.{HasRead, ReadsFile}
+use Rattle.report_text.specs.Outcome.{Outcome, hinted, unsearched}
+use Rattle.reroute_app.specs.Reads.{HasRead, ReadsFile, Course, Ends}
 use Rattle.reroute_app.specs.Reads.ReadsFile.{fails, is_too_long, goes_on}
-use Rattle.reroute_app.specs.Diagram.{most_bytes, HasDiagram, TakesScene, TakesTree, TakesDiagram, ReadsDiagram}
-use Rattle.reroute_app.specs.Replay.{most_script_bytes, ReadsScript}
+use Rattle.reroute_app.specs.Diagram.{most_bytes, HasDiagram, TakesScene, TakesTree, TakesDiagram, ReadsDiagram, most_script_bytes, ReadsScript, ReadsSmall, UnlessLarge}
 use Rattle.form_certificate.specs.Sizes.{too_large}
 use Rattle.diagram_read.specs.declared.fault.Part.{Part}
-use Rattle.reroute_app.specs.Certificate.{ReadsSmall, UnlessLarge}
 use Rattle.reroute_app.specs.Run.{IsFormOutcome, IsOutcome, files_of, AreNotesOf, ReadsFirstAsDiagram, ReadsInOrder, ReadsOnWith}
 use Rattle.reroute_app.proofs.Courses.{note}
-use Rattle.reroute_app.specs.View.{view, StopsAt, Comes, NotesOne, NotesTwo, answer_in, never, never_two, never_three, HasBoth, HasSmall}
+use Rattle.reroute_app.specs.View.{StopsAt, Comes, NotesOne, NotesTwo, answer_in, never, never_two, never_three, HasBoth, HasSmall}
 use Rattle.reroute_app.specs.View.NotesTwo.{of_diagram, of_both}
 
 pub stops_as : (P Q : Outcome → Type 0) → ((o : Outcome) → P o → Q o) → (s : Stop) → StopsAt P s → StopsAt Q s
-stops_as P Q weaker (Ended made) is = weaker (view made) is
+stops_as P Q weaker (Ended made) is = weaker made is
 stops_as P Q weaker Memory is = tt
 
 -- the fault of bytes that are not valid GML is that of their reading
@@ -102,36 +99,14 @@ diagram_goes_on files name next old middle new o tree scene has later =
     goes_on has.bytes middle has.read
     (Ok tree, has.diagram.document, subst (λ (r : Result Scene DiagramFault). TakesScene (next tree) r middle new o) (sym has.diagram.is_scene) later)
 
--- the outcome of the continuation is the outcome of the whole
-pub comes_as : (P Q : Outcome → Type 0) → ((o : Outcome) → P o → Q o) → (r : Result Made Stop) → Comes P r → Comes Q r
-comes_as P Q weaker (Ok made) is = weaker (view made) is
-comes_as P Q weaker (Err s) is = stops_as P Q weaker s is
-
--- the result at the end
-pub end_comes : (P : Outcome → Type 0) (notes : List Note) (r : Result Made Stop) → Comes P r → Comes (Ends P notes notes) r
-end_comes P notes r is = comes_as P (Ends P notes notes) (λ o said. (refl, said)) r is
-
--- the result of a diagram that is read
-pub diagram_comes : (files : Option ExposedFiles) (name : List ℕ) (next : Pairs → Scene → Course) (old middle new : List Note) (tree : Pairs) (scene : Scene) (r : Result Made Stop)
-    → HasDiagram files name old middle tree scene → Comes (next tree scene middle new) r → Comes (ReadsDiagram files name next old new) r
-diagram_comes files name next old middle new tree scene r has is =
-    comes_as (next tree scene middle new) (ReadsDiagram files name next old new) (λ o later. diagram_goes_on files name next old middle new o tree scene has later) r is
-
--- the result of a second file that is read
-pub file_comes : (files : Option ExposedFiles) (name : List ℕ) (limit : ℕ) (next : List ℕ → Course) (old middle new : List Note) (bytes : List ℕ) (r : Result Made Stop)
-    → HasRead files name limit old middle bytes → Comes (next bytes middle new) r → Comes (ReadsFile files name limit next old new) r
-file_comes files name limit next old middle new bytes r read is =
-    comes_as (next bytes middle new) (ReadsFile files name limit next old new) (λ o later. goes_on bytes middle read later) r is
-
--- the result of a diagram and a script that are read
-pub script_comes : (files : Option ExposedFiles) (diagram script : List ℕ) (P : Pairs → Scene → List (ℕ × Command) → Outcome → Type 0) (old new : List Note) (tree : Pairs) (scene : Scene)
-    (list : List (ℕ × Command)) (r : Result Made Stop) → HasBoth files diagram script old new tree scene list → Comes (P tree scene list) r
-    → Comes (ReadsScript files diagram script (λ tree s commands. Ends (P tree s commands)) old new) r
-script_comes files diagram script P old new tree scene list r has is =
+-- diagram and script that are read go on
+pub script_goes_on : (files : Option ExposedFiles) (diagram script : List ℕ) (P : Pairs → Scene → List (ℕ × Command) → Outcome → Type 0) (old new : List Note) (tree : Pairs) (scene : Scene)
+    (list given : List (ℕ × Command)) (o : Outcome) → HasBoth files diagram script old new tree scene list → given ≡ list → P tree scene given o
+    → ReadsScript files diagram script (λ tree s commands. Ends (P tree s commands)) old new o
+script_goes_on files diagram script P old new tree scene list given o has same is =
     let read = has.has_commands in
-    diagram_comes files diagram (λ tree s. ReadsFile files script most_script_bytes (λ bytes. Ends (P tree s (commands bytes)))) old has.middle new tree scene r has.has_diagram
-    (file_comes files script most_script_bytes (λ bytes. Ends (P tree scene (commands bytes))) has.middle new new read.bytes r read.read
-    (end_comes (P tree scene (commands read.bytes)) new r (subst (λ (cs : List (ℕ × Command)). Comes (P tree scene cs) r) read.are_commands is)))
+    diagram_goes_on files diagram (λ tree s. ReadsFile files script most_script_bytes (λ bytes. Ends (P tree s (commands bytes)))) old has.middle new o tree scene has.has_diagram
+    (goes_on read.bytes new read.read (refl, subst (λ (cs : List (ℕ × Command)). P tree scene cs o) (same ∙ read.are_commands) is))
 
 -- a stop that is passed
 pub stop_on : {T : Type 0} (P : Outcome → Type 0) (s : Stop) (r : Result T Stop) → StopsAt P s → IsErrAnd r (λ e. e ≡ s) → IfErr r (StopsAt P)
@@ -139,7 +114,7 @@ stop_on P s (Ok x) is passed = tt
 stop_on P s (Err e) is passed = subst (StopsAt P) (sym passed) is
 
 -- the same where what is answered is a whole outcome
-pub comes_on : (P : Outcome → Type 0) (s : Stop) (r : Result Made Stop) → StopsAt P s → IsErrAnd r (λ e. e ≡ s) → Comes P r
+pub comes_on : (P : Outcome → Type 0) (s : Stop) (r : Result Outcome Stop) → StopsAt P s → IsErrAnd r (λ e. e ≡ s) → Comes P r
 comes_on P s (Ok x) is passed = absurd passed
 comes_on P s (Err e) is passed = subst (StopsAt P) (sym passed) is
 
@@ -171,21 +146,15 @@ small_ends files name next =
     diagram_as (λ tree s. UnlessLarge (too_large s) (never s)) (λ tree s. UnlessLarge (too_large s) (next s))
     (λ tree s old new o is. large_as (too_large s) (never s) (next s) old new o (λ gone. absurd gone) is) files name
 
--- the result of a small scene that is read
-pub small_comes : (files : Option ExposedFiles) (name : List ℕ) (next : Scene → Course) (old middle new : List Note) (tree : Pairs) (scene : Scene) (r : Result Made Stop)
-    → HasSmall files name old middle tree scene → Comes (next scene middle new) r → Comes (ReadsSmall files name next old new) r
-small_comes files name next old middle new tree scene r is comes =
-    comes_as (next scene middle new) (ReadsSmall files name next old new) (λ o later. small_goes_on files name next old middle new o tree scene is later) r comes
-
 -- where the diagram is not read, or too large, the run stops
-pub small_stops : (files : Option ExposedFiles) (name : List ℕ) (next : Scene → Course) (old new : List Note) (s : Stop) (r : Result Made Stop)
+pub small_stops : (files : Option ExposedFiles) (name : List ℕ) (next : Scene → Course) (old new : List Note) (s : Stop) (r : Result Outcome Stop)
     → StopsAt (ReadsSmall files name never old new) s → IsErrAnd r (λ e. e ≡ s) → Comes (ReadsSmall files name next old new) r
 small_stops files name next old new s r stopped passed =
     comes_on (ReadsSmall files name next old new) s r
     (stops_as (ReadsSmall files name never old new) (ReadsSmall files name next old new) (small_ends files name next old new) s stopped) passed
 
 -- and so it does where the second file is not read
-pub second_stops : (files : Option ExposedFiles) (name second : List ℕ) (limit : ℕ) (next : Scene → List ℕ → Course) (old middle new : List Note) (tree : Pairs) (scene : Scene) (s : Stop) (r : Result Made Stop)
+pub second_stops : (files : Option ExposedFiles) (name second : List ℕ) (limit : ℕ) (next : Scene → List ℕ → Course) (old middle new : List Note) (tree : Pairs) (scene : Scene) (s : Stop) (r : Result Outcome Stop)
     → HasSmall files name old middle tree scene → StopsAt (ReadsFile files second limit never middle new) s → IsErrAnd r (λ e. e ≡ s)
     → Comes (ReadsSmall files name (λ s. ReadsFile files second limit (next s)) old new) r
 second_stops files name second limit next old middle new tree scene s r is stopped passed =
@@ -206,14 +175,14 @@ unread_stops files name old new s is =
     stops_as (ReadsDiagram files name never_two old new) (ReadsSmall files name never old new) (diagram_ends files name (λ tree s. UnlessLarge (too_large s) (never s)) old new) s is
 
 -- where the diagram is not read, the run stops
-pub diagram_stops : (files : Option ExposedFiles) (name : List ℕ) (next : Pairs → Scene → Course) (old new : List Note) (s : Stop) (r : Result Made Stop)
+pub diagram_stops : (files : Option ExposedFiles) (name : List ℕ) (next : Pairs → Scene → Course) (old new : List Note) (s : Stop) (r : Result Outcome Stop)
     → StopsAt (ReadsDiagram files name never_two old new) s → IsErrAnd r (λ e. e ≡ s) → Comes (ReadsDiagram files name next old new) r
 diagram_stops files name next old new s r stopped passed =
     comes_on (ReadsDiagram files name next old new) s r
     (stops_as (ReadsDiagram files name never_two old new) (ReadsDiagram files name next old new) (diagram_ends files name next old new) s stopped) passed
 
 -- and so it does where diagram and script are not both read
-pub script_stops : (files : Option ExposedFiles) (diagram script : List ℕ) (next : Pairs → Scene → List (ℕ × Command) → Course) (old new : List Note) (s : Stop) (r : Result Made Stop)
+pub script_stops : (files : Option ExposedFiles) (diagram script : List ℕ) (next : Pairs → Scene → List (ℕ × Command) → Course) (old new : List Note) (s : Stop) (r : Result Outcome Stop)
     → StopsAt (ReadsScript files diagram script never_three old new) s → IsErrAnd r (λ e. e ≡ s) → Comes (ReadsScript files diagram script next old new) r
 script_stops files diagram script next old new s r stopped passed =
     comes_on (ReadsScript files diagram script next old new) s r
@@ -229,17 +198,17 @@ pub bytes_stop : {T : Type 0} (files : Option ExposedFiles) (name bytes : List �
 bytes_stop files name bytes old new (Ok x) read is = tt
 bytes_stop files name bytes old new (Err s) read is = stops_as (TakesDiagram never_two bytes new new) (ReadsDiagram files name never_two old new) (λ o later. goes_on bytes new read later) s is
 
-answer_comes : (P : Outcome → Type 0) (r : Result Made Stop) (made : Made) → Comes P r → answer_in r ≡ Some made → P (view made)
-answer_comes P (Ok m) made comes is = subst (λ (n : Made). P (view n)) (same_Some m made is) comes
-answer_comes P (Err (Ended m)) made comes is = subst (λ (n : Made). P (view n)) (same_Some m made is) comes
+answer_comes : (P : Outcome → Type 0) (r : Result Outcome Stop) (made : Outcome) → Comes P r → answer_in r ≡ Some made → P made
+answer_comes P (Ok m) made comes is = subst P (same_Some m made is) comes
+answer_comes P (Err (Ended m)) made comes is = subst P (same_Some m made is) comes
 answer_comes P (Err Memory) made comes is = absurd (none-some made is)
 
 -- the outcome of the subcommand is the outcome of the arguments that ask for it
-pub words_come : (words : List (List ℕ)) (form : Option Form) (files : Option ExposedFiles) (old new : List Note) (r : Result Made Stop) (a : Result Made AllocError) → form ≡ form_of words
-    → Comes (IsFormOutcome form files old new) r → IfOk a (λ o. answer_in r ≡ Some o) → IfOk a (λ o. IsOutcome words files old new (view o))
+pub words_come : (words : List (List ℕ)) (form : Option Form) (files : Option ExposedFiles) (old new : List Note) (r : Result Outcome Stop) (a : Result Outcome AllocError) → form ≡ form_of words
+    → Comes (IsFormOutcome form files old new) r → IfOk a (λ o. answer_in r ≡ Some o) → IfOk a (λ o. IsOutcome words files old new o)
 words_come words form files old new r (Err e) same comes is = tt
 words_come words form files old new r (Ok made) same comes is =
-    subst (λ (f : Option Form). IsFormOutcome f files old new (view made)) same (answer_comes (IsFormOutcome form files old new) r made comes is)
+    subst (λ (f : Option Form). IsFormOutcome f files old new made) same (answer_comes (IsFormOutcome form files old new) r made comes is)
 
 -- where no file is named, none is read
 pub none_in_order : (words : List (List ℕ)) (files : Option ExposedFiles) (old : List Note) → ReadsInOrder words files old old

@@ -20,9 +20,7 @@ use Rattle.form_preview.specs.Proposes.{Proposes}
 use Rattle.form_certificate.specs.Sizes.{too_large}
 use Rattle.form_certificate.specs.Auditing.{Audits, HasTrueClaims}
 use Rattle.reroute_app.specs.Reads.{HasRead}
-use Rattle.reroute_app.specs.Diagram.{most_bytes, IsDiagram, HasDiagram}
-use Rattle.reroute_app.specs.Replay.{most_script_bytes}
-use Rattle.reroute_app.specs.Certificate.{most_certificate_bytes}
+use Rattle.reroute_app.specs.Diagram.{most_bytes, IsDiagram, HasDiagram, most_script_bytes, most_certificate_bytes}
 
 -- this is the last note that was added
 pub record GainsLast (old new : List Note) (last : Note) : Type 0 where

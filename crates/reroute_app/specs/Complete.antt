@@ -4,8 +4,8 @@ use Rattle.host_edge.specs.Count.{Rose}
 use Rattle.host_edge.specs.Folder.{ExposedFiles, file_named}
 use Rattle.host_edge.specs.Note.{Note, fault_count}
 use Rattle.command_words.specs.Words.{Form, form_of}
-use Rattle.reroute_app.specs.declared.status.Status.{Status}
-use Rattle.reroute_app.specs.declared.status.Status.TheVariants.{NoMemory, Done, Refused, BadLine, AuditNo}
+use Rattle.report_text.specs.declared.status.Status.{Status}
+use Rattle.report_text.specs.declared.status.Status.TheVariants.{NoMemory, Done, Refused, BadLine, AuditNo}
 use Rattle.reroute_app.specs.Causes.{IsRefusedBy, FindsBadLine, FindsNoProof, FindsNothing, FindsRefusal}
 use Rattle.reroute_app.specs.Run.{Writes, files_of}
 

@@ -2,10 +2,10 @@
 use Rattle.std.specs.Prelude.{◌≡◌, ℕ, List, Option}
 use Rattle.host_edge.specs.Folder.{ExposedFiles}
 use Rattle.host_edge.specs.Note.{Note}
-use Rattle.reroute_app.specs.declared.hint.Hint.{Hint}
-use Rattle.reroute_app.specs.declared.hint.Hint.TheVariants.{Nothing}
-use Rattle.reroute_app.specs.declared.status.Status.{Status}
-use Rattle.reroute_app.specs.declared.status.Status.TheVariants.{Done, Refused, Words, Diagram, ReadFault, WriteFault, NoMemory, TooLong, BadLine, AuditNo}
+use Rattle.report_text.specs.declared.hint.Hint.{Hint}
+use Rattle.report_text.specs.declared.hint.Hint.TheVariants.{Nothing}
+use Rattle.report_text.specs.declared.status.Status.{Status}
+use Rattle.report_text.specs.declared.status.Status.TheVariants.{Done, Refused, Words, Diagram, ReadFault, WriteFault, NoMemory, TooLong, BadLine, AuditNo}
 use Rattle.reroute_app.specs.Hint.{words_hint}
 use Rattle.reroute_app.specs.Run.{Writes}
 

@@ -1,12 +1,10 @@
 -- What people are told besides the output.
 use Rattle.std.specs.Prelude.{ℕ, ◌+◌, ◌==◌, ◌||◌, Bool, List, [], ◌∷◌, take, codes, bytes_eq, if◌then◌else◌}
-use Rattle.form_route.specs.declared.report.Unrouted.{Unrouted}
 use Rattle.gml_text.specs.declared.fault.GmlFault.{GmlFault}
 use Rattle.gml_text.specs.declared.fault.GmlFault.TheVariants.{Syntax, TooDeep, Memory}
-use Rattle.reroute_app.specs.declared.hint.Hint.{Hint}
-use Rattle.reroute_app.specs.declared.hint.Hint.TheVariants.{Nothing, NoCommand, At}
-use Rattle.reroute_app.specs.declared.hint.Hint.TheVariants as hint
-use Rattle.reroute_app.specs.declared.hint.Place.{Place}
+use Rattle.report_text.specs.declared.hint.Hint.{Hint}
+use Rattle.report_text.specs.declared.hint.Hint.TheVariants.{Nothing, NoCommand, At}
+use Rattle.report_text.specs.declared.hint.Place.{Place}
 
 -- the place of the first byte of a text
 abbrev pub first_place : Place
@@ -32,10 +30,6 @@ abbrev pub gml_hint : List ℕ → GmlFault → Hint
 gml_hint bytes (Syntax at) = At (place_at bytes at)
 gml_hint bytes (TooDeep at) = At (place_at bytes at)
 gml_hint bytes Memory = Nothing
-
--- of connectors without a route: how many there are, and of how many
-abbrev pub unrouted_hint : Unrouted → Hint
-unrouted_hint unrouted = if unrouted.without == 0 then Nothing else hint.Unrouted unrouted
 
 -- the argument is the name of a subcommand
 abbrev pub names_command : List ℕ → Bool

@@ -8,12 +8,12 @@ use Rattle.edit_script.specs.Script.{commands}
 use Rattle.nudge_phases.specs.Apart.{KeepsApart}
 use Rattle.nudge_phases.specs.Nudged.{AreLegalNudgedLines}
 use Rattle.script_replay.specs.Replies.{world_after}
-use Rattle.form_route.specs.declared.report.Unrouted.{Unrouted}
+use Rattle.report_text.specs.declared.hint.Unrouted.{Unrouted}
 use Rattle.form_route.specs.Routes.{Routes}
 use Rattle.command_words.specs.Words.{route, form_of}
-use Rattle.reroute_app.specs.declared.status.Status.TheVariants.{Done, Refused}
-use Rattle.reroute_app.specs.Outcome.{Outcome}
-use Rattle.reroute_app.specs.Replay.{most_script_bytes}
+use Rattle.report_text.specs.declared.status.Status.TheVariants.{Done, Refused}
+use Rattle.report_text.specs.Outcome.{Outcome}
+use Rattle.reroute_app.specs.Diagram.{most_script_bytes}
 use Rattle.reroute_app.specs.Run.{IsOutcome}
 use Rattle.reroute_app.specs.Causes.{HasReadBoth}
 

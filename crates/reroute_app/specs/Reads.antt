@@ -1,10 +1,22 @@
--- The read of a file.
+-- Courses, and the read of a file.
 use Rattle.std.specs.Prelude.{◌≡◌, ℕ, ◌<◌, ◌≤◌, true, false, List, length, Option, Some, IfSome, IsSomeAnd}
 use Rattle.host_edge.specs.Folder.{ExposedFiles, file_named, GainsNote}
 use Rattle.host_edge.specs.Note.{Note}
 use Rattle.report_text.specs.Files.{read_fault_line, too_long_line}
-use Rattle.reroute_app.specs.declared.status.Status.TheVariants as status
-use Rattle.reroute_app.specs.Outcome.{Outcome, Course, unsearched}
+use Rattle.report_text.specs.declared.status.Status.TheVariants as status
+use Rattle.report_text.specs.Outcome.{Outcome, unsearched}
+
+-- a course relates the notes before it and those after it to an outcome
+abbrev pub Course : Type 1
+Course = List Note → List Note → Outcome → Type 0
+
+-- nothing more is read, and this holds of the outcome
+abbrev pub Ends : (Outcome → Type 0) → Course
+Ends P old new o = (new ≡ old) × P o
+
+-- nothing more is read, and this is the outcome
+abbrev pub EndsWith : Outcome → Course
+EndsWith outcome = Ends (λ o. o ≡ outcome)
 
 -- the file with the name was read, and has these bytes
 pub record HasRead (files : Option ExposedFiles) (name : List ℕ) (limit : ℕ) (old new : List Note) (bytes : List ℕ) : Type 0 where

@@ -7,20 +7,21 @@ use Rattle.host_edge.specs.Sink.{AppendsPart}
 use Rattle.gml_text.specs.Tree.{Pairs}
 use Rattle.scene_model.specs.Scene.{Scene}
 use Rattle.report_text.specs.Files.{words_line}
-use Rattle.reroute_app.specs.declared.status.Status.{Status}
-use Rattle.reroute_app.specs.declared.status.Status.TheVariants.{Words}
+use Rattle.report_text.specs.declared.status.Status.{Status}
+use Rattle.report_text.specs.declared.status.Status.TheVariants.{Words}
 use Rattle.command_words.specs.Words.{Form, check, route, make, preview, shared, prove, audit, form_of}
 use Rattle.line_arena.specs.Count.{counted_by}
-use Rattle.reroute_app.specs.Outcome.{Outcome, Course, Ends, EndsWith, unsearched}
-use Rattle.reroute_app.specs.Reads.{HasRead, ReadsFile}
-use Rattle.reroute_app.specs.Diagram.{most_bytes, IsDiagram, ReadsDiagram}
-use Rattle.reroute_app.specs.Check.{Checks}
-use Rattle.reroute_app.specs.Replay.{most_script_bytes, ReadsScript, Replays}
-use Rattle.reroute_app.specs.Make.{Summarizes}
-use Rattle.reroute_app.specs.Preview.{Previews}
-use Rattle.reroute_app.specs.Shared.{ListsPaths}
+use Rattle.report_text.specs.Outcome.{Outcome, unsearched}
+use Rattle.reroute_app.specs.Reads.{HasRead, ReadsFile, Course, Ends, EndsWith}
+use Rattle.reroute_app.specs.Diagram.{most_bytes, IsDiagram, ReadsDiagram, most_script_bytes, ReadsScript, most_certificate_bytes, ReadsSmall}
+use Rattle.form_check.specs.Checks.{Checks}
+use Rattle.form_route.specs.Routes.{Replays}
+use Rattle.form_make.specs.Makes.{Summarizes}
+use Rattle.form_preview.specs.Proposes.{Previews}
+use Rattle.form_shared.specs.Shares.{ListsPaths}
 use Rattle.form_certificate.specs.Sizes.{too_large}
-use Rattle.reroute_app.specs.Certificate.{most_certificate_bytes, AuditsCertificate, ReadsSmall, WritesCertificate}
+use Rattle.form_certificate.specs.Auditing.{AuditsCertificate}
+use Rattle.form_certificate.specs.Proving.{WritesCertificate}
 
 -- the course of a subcommand, whether the files are exposed or not
 abbrev pub IsFormOutcome : Option Form → Option ExposedFiles → Course

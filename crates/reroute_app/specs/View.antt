@@ -6,31 +6,25 @@ use Rattle.gml_text.specs.Tree.{Pairs}
 use Rattle.scene_model.specs.declared.edit.Command.{Command}
 use Rattle.scene_model.specs.Scene.{Scene}
 use Rattle.edit_script.specs.Script.{commands}
-use Rattle.reroute_app.specs.declared.outcome.Outcome.{Outcome as Made}
-use Rattle.reroute_app.specs.declared.outcome.Stop.{Stop}
-use Rattle.reroute_app.specs.declared.outcome.Stop.TheVariants.{Ended, Memory}
+use Rattle.reroute_app.specs.declared.stop.Stop.{Stop}
+use Rattle.reroute_app.specs.declared.stop.Stop.TheVariants.{Ended, Memory}
 use Rattle.form_certificate.specs.Sizes.{too_large}
-use Rattle.reroute_app.specs.Outcome.{Outcome, Course}
-use Rattle.reroute_app.specs.Reads.{HasRead}
-use Rattle.reroute_app.specs.Diagram.{most_bytes, HasDiagram}
-use Rattle.reroute_app.specs.Replay.{most_script_bytes}
-
--- an outcome of the code as an outcome of the definitions
-abbrev pub view : Made → Outcome
-view made = record { status = made.status; text = made.text.items; searched = made.tally; hint = made.hint }
+use Rattle.report_text.specs.Outcome.{Outcome}
+use Rattle.reroute_app.specs.Reads.{HasRead, Course}
+use Rattle.reroute_app.specs.Diagram.{most_bytes, HasDiagram, most_script_bytes}
 
 -- a run that stops early ends with this, unless out of memory
 abbrev pub StopsAt : (Outcome → Type 0) → Stop → Type 0
-StopsAt P (Ended made) = P (view made)
+StopsAt P (Ended made) = P made
 StopsAt P Memory = Unit {0}
 
 -- the outcome of the course, unless out of memory
-abbrev pub Comes : (Outcome → Type 0) → Result Made Stop → Type 0
-Comes P (Ok made) = P (view made)
+abbrev pub Comes : (Outcome → Type 0) → Result Outcome Stop → Type 0
+Comes P (Ok made) = P made
 Comes P (Err stop) = StopsAt P stop
 
 -- the result of a run, unless out of memory
-abbrev pub answer_in : Result Made Stop → Option Made
+abbrev pub answer_in : Result Outcome Stop → Option Outcome
 answer_in (Ok made) = Some made
 answer_in (Err (Ended made)) = Some made
 answer_in (Err Memory) = None

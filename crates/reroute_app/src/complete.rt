@@ -3,8 +3,8 @@ ghost use Rattle.std.specs.Prelude.{map, string_bytes};
 ghost use Rattle.reroute_app.specs.Complete.{CompletesUnlessFault};
 
 use crate::run;
-use crate::status::Status;
 use host_edge::{Folder, Sink};
+use report_text::Status;
 use route_search::Tally;
 use std::alloc::Global;
 use std::thread::Threads;

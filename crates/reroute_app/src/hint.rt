@@ -1,29 +1,9 @@
-//! What people are told besides the output: how many connectors have no route, or where a diagram stops to be GML.
+//! What people are told besides the output: where a diagram stops to be GML, or whether a subcommand is named.
 ghost use Rattle.std.specs.Prelude.{◌≡◌, ◌<◌, ◌-◌, ◌^◌, map, string_bytes};
-ghost use Rattle.reroute_app.specs.Hint.{first_place, gml_hint, names_command, next_place, place_after, place_at, unrouted_hint, words_hint};
+ghost use Rattle.reroute_app.specs.Hint.{first_place, gml_hint, names_command, next_place, place_after, place_at, words_hint};
 
-use form_route::Unrouted;
 use gml_text::GmlFault;
-
-/// A place in a text. Line and column count from 1, and a column is a byte.
-#[derive(Clone, Copy, Debug, PartialEq, Eq)]
-pub struct Place {
-    pub line: usize,
-    pub column: usize,
-}
-
-/// What people are told besides the status and the output.
-#[derive(Clone, Copy, Debug, PartialEq, Eq)]
-pub enum Hint {
-    /// Nothing more.
-    Nothing,
-    /// There is no argument, or the first one names no subcommand.
-    NoCommand,
-    /// The diagram is no GML, or too deep, at this place.
-    At(Place),
-    /// Some connectors of the scene at the end of the script have no route.
-    Unrouted(Unrouted),
-}
+use report_text::{Hint, Place};
 
 /// The place of the byte that follows this byte at this place.
 fn next_place(place: Place, byte: u8) -> Place
@@ -70,17 +50,6 @@ pub(crate) fn gml_hint(bytes: &[u8], fault: &GmlFault) -> Hint
         GmlFault::Syntax { at } => Hint::At(place_at(bytes, at)),
         GmlFault::TooDeep { at } => Hint::At(place_at(bytes, at)),
         GmlFault::Memory => Hint::Nothing,
-    }
-}
-
-/// What people are told of the connectors that have no route, if there are any.
-pub(crate) fn unrouted_hint(unrouted: Unrouted) -> Hint
-    ensures { result ≡ unrouted_hint unrouted }
-{
-    if unrouted.without == 0 {
-        Hint::Nothing
-    } else {
-        Hint::Unrouted(unrouted)
     }
 }
 

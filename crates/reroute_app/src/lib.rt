@@ -9,39 +9,29 @@ ghost use Rattle.command_words.specs.Words.{form_of};
 ghost use Rattle.reroute_app.specs.Causes.{ClaimsAreTrue, FindsBadLine, FindsNoDiagram, FindsNoProof, FindsNothing, FindsRefusal, LastFailed, LastTookMore};
 ghost use Rattle.reroute_app.specs.Lines.{RunsWriteGoodLines};
 ghost use Rattle.reroute_app.specs.Run.{HasOneOutcome, ReadsInOrder, Tallies, Writes, WritesPart};
-ghost use Rattle.reroute_app.specs.Status.{IsOutputWritten};
+ghost use Rattle.report_text.specs.Status.{IsOutputWritten};
 
-mod certificate;
-mod check;
 mod complete;
 mod exit;
 mod form;
 mod hint;
-mod make;
-mod outcome;
-mod proposals;
 mod read;
-mod replay;
-mod shared;
-mod status;
+mod stop;
 
 use crate::form::outcome_of;
-use crate::outcome::Outcome;
 pub use complete::run_to_completion;
 pub use exit::{Exit, exit_of};
 use form_certificate::certificates_come_to_one;
 use form_check::checks_come_to_one;
 use form_make::seeds_come_to_one;
 use form_preview::proposals_come_to_one;
-pub use form_route::Unrouted;
 use form_route::{replays_come_to_one, written_lines_are_legal_and_apart};
 use form_shared::shares_come_to_one;
-pub use hint::{Hint, Place};
 use host_edge::{Folder, Sink, WriteFailed, write_all_to};
 use par_route::{Gate, OpenGate};
-pub use read::{MOST_BYTES, MOST_CERTIFICATE_BYTES, MOST_SCRIPT_BYTES};
+use report_text::Outcome;
+pub use report_text::{Hint, Place, Status, Unrouted};
 use route_search::Tally;
-pub use status::Status;
 use std::alloc::Global;
 use std::thread::Threads;
 
@@ -65,8 +55,8 @@ use std::thread::Threads;
 /// - `audit FILE FILE` reads a diagram and a certificate, and says whether the certificate proves
 ///   the costs.
 ///
-/// The whole output is made first, and then written. `tally` counts the searches that `route` and
-/// `make` made.
+/// The whole output is made first, and then written. `tally` counts the searches that `route`,
+/// `make` and `shared` made, and those that opened the scene of `preview`.
 pub fn run_gated<R: Threads + Sync, F: Folder, O: Sink, G: Gate>(
     rt: &R,
     alloc: Global,
@@ -144,7 +134,7 @@ pub fn run_gated<R: Threads + Sync, F: Folder, O: Sink, G: Gate>(
 ///
 /// The subcommands are those of `run_gated`, and `routed_lines_are_legal_and_apart` is the law of
 /// the lines that `route` writes. The whole output is made first, and then written. `tally` counts
-/// the searches that `route` and `make` made.
+/// the searches that `route`, `make` and `shared` made, and those that opened the scene of `preview`.
 pub fn run<R: Threads + Sync, F: Folder, O: Sink>(
     rt: &R,
     alloc: Global,

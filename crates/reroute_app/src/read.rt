@@ -1,30 +1,24 @@
-//! The reads of files and of diagrams.
-ghost use Rattle.std.specs.Prelude.{◌≡◌, IfOk, IfErr, List, Ok};
+//! The reads of files: of diagrams, and of scripts and certificates after them.
+ghost use Rattle.std.specs.Prelude.{◌≡◌, IfOk, IfErr, List, None, Ok, OnOk};
 ghost use Rattle.host_edge.specs.Note.{Note};
 ghost use Rattle.gml_text.specs.Parse.{IsDocument};
 ghost use Rattle.gml_text.specs.View.{tree};
 ghost use Rattle.diagram_read.specs.Scene.{scene_of};
-ghost use Rattle.reroute_app.specs.Diagram.{HasDiagram, IsDiagram, ReadsDiagram, TakesDiagram, TakesScene, most_bytes};
+ghost use Rattle.form_certificate.specs.Sizes.{too_large};
+ghost use Rattle.reroute_app.specs.Diagram.{HasDiagram, IsDiagram, ReadsDiagram, ReadsScript, ReadsSmall, TakesDiagram, TakesScene, UnlessLarge, most_bytes, most_certificate_bytes, most_script_bytes};
 ghost use Rattle.reroute_app.specs.Reads.{HasRead, ReadsFile};
-ghost use Rattle.reroute_app.specs.Certificate.{most_certificate_bytes};
-ghost use Rattle.reroute_app.specs.Replay.{most_script_bytes};
-ghost use Rattle.reroute_app.specs.View.{NotesOne, StopsAt, never, never_two};
+ghost use Rattle.reroute_app.specs.View.{AnyScene, HasBoth, HasCommands, HasSmall, NotesOne, NotesTwo, StopsAt, never, never_three, never_two};
 
-use crate::outcome::{Stop, no_diagram, no_document, read_fault, too_long};
+use crate::stop::{Stop, no_document, read_fault, too_long};
 use diagram_read::{DiagramFault, scene_of};
+use edit_script::commands;
+use form_certificate::too_large;
 use gml_text::{Doc, GmlFault, parse};
 use host_edge::{Folder, FolderFault};
+use report_text::{MOST_BYTES, MOST_CERTIFICATE_BYTES, MOST_SCRIPT_BYTES, no_diagram};
+use scene_model::Command;
 use scene_store::Scene;
 use std::alloc::Global;
-
-/// The greatest number of bytes of a diagram.
-pub const MOST_BYTES: u64 = 16_777_216;
-
-/// The greatest number of bytes of a script.
-pub const MOST_SCRIPT_BYTES: u64 = 4_194_304;
-
-/// The greatest number of bytes of a certificate.
-pub const MOST_CERTIFICATE_BYTES: u64 = 1_073_741_824;
 
 /// A document and its scene.
 #[derive(Drop)]
@@ -106,20 +100,77 @@ pub(crate) fn read_diagram<F: Folder>(
     diagram_of(alloc, &bytes)
 }
 
-/// The bytes of the script in the file with this name.
-pub(crate) fn read_script<F: Folder>(
+/// The commands of the script in the file with this name.
+fn read_commands<F: Folder>(
     alloc: Global,
     folder: &mut F,
     name: &str,
-) -> Result<Vec<u8>, Stop>
-    ensures read { IfOk result (λ bytes. HasRead (F.files folder.old) name.now most_script_bytes
-        (F.notes folder.old) (F.notes folder.new) bytes.items) }
+) -> Result<Vec<(usize, Command)>, Stop>
+    ensures read { IfOk result (λ list. HasCommands (F.files folder.old) name.now
+        (F.notes folder.old) (F.notes folder.new) list.items) }
     ensures stopped { IfErr result (StopsAt (ReadsFile (F.files folder.old) name.now most_script_bytes never
         (F.notes folder.old) (F.notes folder.new))) }
     ensures notes { NotesOne name.now most_script_bytes (F.notes folder.old) (F.notes folder.new) }
     ensures files_kept { F.files folder.new ≡ F.files folder.old }
 {
-    read_file(alloc, folder, name, MOST_SCRIPT_BYTES)
+    let bytes = read_file(alloc, folder, name, MOST_SCRIPT_BYTES)?;
+    Ok(commands(alloc, &bytes)?)
+}
+
+/// A diagram, and the commands of a script.
+#[derive(Drop)]
+pub(crate) struct Scripted {
+    pub(crate) diagram: Diagram,
+    pub(crate) commands: Vec<(usize, Command)>,
+}
+
+/// The diagram and the commands of the script in the files with these names.
+pub(crate) fn read_both<F: Folder>(
+    alloc: Global,
+    folder: &mut F,
+    diagram: &str,
+    script: &str,
+) -> Result<Scripted, Stop>
+    ensures read { IfOk result (λ both. HasBoth (F.files folder.old) diagram.now script.now
+        (F.notes folder.old) (F.notes folder.new) (tree both.diagram.doc) both.diagram.scene both.commands.items) }
+    ensures stopped { IfErr result (StopsAt (ReadsScript (F.files folder.old) diagram.now script.now never_three
+        (F.notes folder.old) (F.notes folder.new))) }
+    ensures notes { NotesTwo (F.files folder.old) diagram.now script.now most_script_bytes AnyScene
+        (F.notes folder.old) (F.notes folder.new) }
+    ensures files_kept { F.files folder.new ≡ F.files folder.old }
+{
+    let diagram = read_diagram(alloc, folder, diagram)?;
+    let commands = read_commands(alloc, folder, script)?;
+    Ok(Scripted { diagram, commands })
+}
+
+/// That the scene is small enough to have a certificate.
+fn check_size(alloc: Global, scene: &Scene) -> Result<(), Stop>
+    ensures ok { OnOk result (too_large scene.now ≡ None) }
+    ensures stopped { (notes : List Note) → IfErr result (StopsAt (UnlessLarge (too_large scene.now) (never scene.now) notes notes)) }
+{
+    match too_large(scene) {
+        None => Ok(()),
+        Some(part) => Err(Stop::Ended(no_diagram(alloc, &DiagramFault::TooMany { part })?)),
+    }
+}
+
+/// The diagram in the file with this name, if its scene is small enough to have a certificate.
+pub(crate) fn read_small<F: Folder>(
+    alloc: Global,
+    folder: &mut F,
+    name: &str,
+) -> Result<Diagram, Stop>
+    ensures read { IfOk result (λ d. HasSmall (F.files folder.old) name.now
+        (F.notes folder.old) (F.notes folder.new) (tree d.doc) d.scene) }
+    ensures stopped { IfErr result (StopsAt (ReadsSmall (F.files folder.old) name.now never
+        (F.notes folder.old) (F.notes folder.new))) }
+    ensures notes { NotesOne name.now most_bytes (F.notes folder.old) (F.notes folder.new) }
+    ensures files_kept { F.files folder.new ≡ F.files folder.old }
+{
+    let diagram = read_diagram(alloc, folder, name)?;
+    check_size(alloc, &diagram.scene)?;
+    Ok(diagram)
 }
 
 /// The bytes of the certificate in the file with this name.

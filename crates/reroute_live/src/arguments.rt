@@ -3,7 +3,7 @@ ghost use Rattle.std.specs.Prelude.{◌≤◌, IfOk};
 
 use clap::error::{Error, ErrorKind};
 use clap::{Arg, ArgAction, ArgMatches, Command, value_parser};
-use reroute_app::Status;
+use report_text::Status;
 use std::alloc::{AllocError, Global};
 use std::{env, io};
 

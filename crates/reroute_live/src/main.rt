@@ -11,7 +11,7 @@ use diagram::live_on;
 use host_edge::{ReaderLines, StdSink};
 use live_replies::{Live, ServeFault, serve};
 use par_route::OpenGate;
-use reroute_app::Status;
+use report_text::Status;
 use std::io::BufReader;
 use std::process::ExitCode;
 use std::thread::Threads;

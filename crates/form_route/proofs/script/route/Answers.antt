@@ -7,7 +7,8 @@ use Rattle.report_text.specs.declared.reply.LineReply.{LineReply}
 use Rattle.gml_scene.specs.Origins.{AreEdgesOf, AreNodesOf}
 use Rattle.script_replay.specs.Replies.{world_after}
 use Rattle.form_route.specs.Diagram.{IsOutput}
-use Rattle.form_route.specs.Report.{has_refusal}
+use Rattle.report_text.specs.Outcome.{hinted}
+use Rattle.form_route.specs.Report.{has_refusal, script_status}
 use Rattle.form_route.proofs.Made.{made, of_ok, so_of}
 use Rattle.form_route.proofs.script.route.Goals as goal
 
@@ -33,13 +34,14 @@ returns g c =
     let replies = c.in_ok-replayed.replayed.replies.items in
     let w = c.in_ok-replayed.replayed.session.world in
     let answers = c.in_ok-replayed.replayed.session.book in
-    made t c.args.scene c.args.commands.now count replies w answers opening c.into_tally-tally.result c.in_ok-text.text.items c.has_refusal-is_refused.result c.unrouted_of-unrouted.result
+    made t c.args.scene c.args.commands.now count replies w answers opening c.into_tally-tally.result c.in_ok-text.text.items c.status_of-status.result c.hint_of-hint.result c.hinted.result
     c.in_ok-replayed.ensures.world
     c.in_ok-replayed.ensures.replies
     c.in_ok-replayed.ensures.opening
     (subst (λ (rs : List LineReply). IsOutput t c.args.scene count opening rs w answers c.in_ok-text.text.items) c.deref.ensures.value
     (of_ok (λ was. IsOutput t was count opening c.deref.result.now w answers c.in_ok-text.text.items) (scene_of t) c.args.scene c.requires.source
     (of_ok (λ text. IfOk (scene_of t) (λ was. IsOutput t was count opening c.deref.result.now w answers text.items)) c.output-written.result c.in_ok-text.text c.in_ok-text.was c.output-written.ensures)))
-    (c.has_refusal-is_refused.ensures ∙ ap (λ rs. has_refusal rs w) c.deref-2.ensures.value)
+    (c.status_of-status.ensures ∙ ap (λ rs. script_status (has_refusal rs w)) c.deref-2.ensures.value)
     (c.into_tally-tally.ensures ∙ c.in_ok-replayed.ensures.searched)
-    c.unrouted_of-unrouted.ensures
+    c.hint_of-hint.ensures
+    (c.hinted.ensures ∙ ap (λ o. hinted o c.hint_of-hint.result) c.counted.ensures)

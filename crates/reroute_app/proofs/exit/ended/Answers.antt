@@ -4,23 +4,22 @@ use Rattle.std.specs.Io.KnownBytes.{append_known}
 use Rattle.std.specs.Prelude.{map, string_bytes}
 use Rattle.host_edge.specs.Sink.{AppendsPart}
 use Rattle.script_replay.proofs.Replying.{one_list_of_replies}
-use Rattle.reroute_app.specs.View.{view}
 use Rattle.reroute_app.proofs.Causes.{outcome_written}
 use Rattle.reroute_app.proofs.exit.ended.Goals as goal
 
 pub returns-in-Ok-write_all_to-clause-part : goal.returns-in-Ok-write_all_to-clause-part
-returns-in-Ok-write_all_to-clause-part g c = λ is. absurd ((outcome_written (map string_bytes c.args.words.now) _ _ _ one_list_of_replies c.proposals_come_to_one.ensures c.certificates_come_to_one.ensures.audit (view c.in-Ok.outcome) c.in-Ok.ensures.outcome).0 is)
+returns-in-Ok-write_all_to-clause-part g c = λ is. absurd ((outcome_written (map string_bytes c.args.words.now) _ _ _ one_list_of_replies c.proposals_come_to_one.ensures c.certificates_come_to_one.ensures.audit c.in-Ok.outcome c.in-Ok.ensures.outcome).0 is)
 
 pub returns-in-Ok-write_all_to-clause-nothing : goal.returns-in-Ok-write_all_to-clause-nothing
-returns-in-Ok-write_all_to-clause-nothing g c = λ is. absurd ((outcome_written (map string_bytes c.args.words.now) _ _ _ one_list_of_replies c.proposals_come_to_one.ensures c.certificates_come_to_one.ensures.audit (view c.in-Ok.outcome) c.in-Ok.ensures.outcome).1 is)
+returns-in-Ok-write_all_to-clause-nothing g c = λ is. absurd ((outcome_written (map string_bytes c.args.words.now) _ _ _ one_list_of_replies c.proposals_come_to_one.ensures c.certificates_come_to_one.ensures.audit c.in-Ok.outcome c.in-Ok.ensures.outcome).1 is)
 
 pub returns-in-Ok-write_all_to-clause-silent : goal.returns-in-Ok-write_all_to-clause-silent
-returns-in-Ok-write_all_to-clause-silent g c = λ failed. absurd (failed (outcome_written (map string_bytes c.args.words.now) _ _ _ one_list_of_replies c.proposals_come_to_one.ensures c.certificates_come_to_one.ensures.audit (view c.in-Ok.outcome) c.in-Ok.ensures.outcome))
+returns-in-Ok-write_all_to-clause-silent g c = λ failed. absurd (failed (outcome_written (map string_bytes c.args.words.now) _ _ _ one_list_of_replies c.proposals_come_to_one.ensures c.certificates_come_to_one.ensures.audit c.in-Ok.outcome c.in-Ok.ensures.outcome))
 
 pub returns-in-Ok-write_all_to-clause-whole : goal.returns-in-Ok-write_all_to-clause-whole
 returns-in-Ok-write_all_to-clause-whole g c = λ written. record {
   writes = record {
-    outcome = view c.in-Ok.outcome;
+    outcome = c.in-Ok.outcome;
     is_outcome = c.in-Ok.ensures.outcome;
     status = refl;
     written = c.in-Ok-write_all_to.ensures.put ∙ ap (append_known (g.O.Sink.held c.args.out.now)) c.deref.ensures.value;
@@ -30,7 +29,7 @@ returns-in-Ok-write_all_to-clause-whole g c = λ written. record {
 
 pub returns-clause-part : goal.returns-clause-part
 returns-clause-part g c = λ failed. record {
-  outcome = view c.in-Ok.outcome;
+  outcome = c.in-Ok.outcome;
   is_outcome = c.in-Ok.ensures.outcome;
   part = subst (AppendsPart (g.O.Sink.held c.args.out.now) (g.O.Sink.held c.write_all_to.new.out)) c.deref.ensures.value c.in-Err.ensures.part;
 }

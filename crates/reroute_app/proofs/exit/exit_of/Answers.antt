@@ -1,7 +1,7 @@
 -- The arguments that were collected are those that the run ended with.
 use Rattle.std.proofs.Common.{IfOk, map, string_bytes, subst, sym}
 use Rattle.reroute_app.specs.Exit.{WritesAndTells}
-use Rattle.reroute_app.specs.Status.{IsOutputWritten}
+use Rattle.report_text.specs.Status.{IsOutputWritten}
 use Rattle.reroute_app.proofs.exit.exit_of.Goals as goal
 
 pub returns-in-Ok-clause-whole : goal.returns-in-Ok-clause-whole

@@ -1,10 +1,10 @@
 -- A diagram that is not read is the end, and one that is read is checked.
-use Rattle.std.proofs.Common.{arith}
+use Rattle.std.proofs.Common.{arith, refl}
 use Rattle.gml_text.specs.View.{tree}
 use Rattle.form_check.proofs.Counts.{document_few}
-use Rattle.reroute_app.specs.Outcome.{Ends}
-use Rattle.reroute_app.specs.Check.{Checks}
-use Rattle.reroute_app.proofs.Stops.{diagram_comes, diagram_stops, end_comes}
+use Rattle.reroute_app.specs.Reads.{Ends}
+use Rattle.form_check.specs.Checks.{Checks}
+use Rattle.reroute_app.proofs.Stops.{diagram_goes_on, diagram_stops}
 use Rattle.reroute_app.proofs.form.check_file.Goals as goal
 
 pub returns-in_err-diagram-clause-outcome : goal.returns-in_err-diagram-clause-outcome
@@ -12,8 +12,8 @@ returns-in_err-diagram-clause-outcome g c =
     diagram_stops (g.F.Folder.files c.args.folder.now) c.args.name.now (λ tree s. Ends (Checks tree s)) (g.F.Folder.notes c.args.folder.now) (g.F.Folder.notes c.read_diagram.new.folder)
     c.in_err-diagram.field-0.0 c.from_residual.result c.in_err-diagram.ensures.stopped c.from_residual.ensures.1
 
-pub check_diagram-requires : goal.check_diagram-requires
-check_diagram-requires g c =
+pub check_lines-requires : goal.check_lines-requires
+check_lines-requires g c =
     let has = c.in_ok-diagram.ensures.read in
     let short = has.read.short in
     document_few (tree c.in_ok-diagram.diagram.doc) has.bytes has.diagram.document (omega (arith, short))
@@ -21,7 +21,6 @@ check_diagram-requires g c =
 pub returns-clause-outcome : goal.returns-clause-outcome
 returns-clause-outcome g c =
     let new = g.F.Folder.notes c.read_diagram.new.folder in
-    let t = tree c.in_ok-diagram.diagram.doc in
-    let s = c.in_ok-diagram.diagram.scene in
-    diagram_comes (g.F.Folder.files c.args.folder.now) c.args.name.now (λ tree s. Ends (Checks tree s)) (g.F.Folder.notes c.args.folder.now) new new t s
-    c.check_diagram.result c.in_ok-diagram.ensures.read (end_comes (Checks t s) new c.check_diagram.result c.check_diagram.ensures)
+    let d = c.in_ok-diagram.diagram in
+    diagram_goes_on (g.F.Folder.files c.args.folder.now) c.args.name.now (λ tree s. Ends (Checks tree s)) (g.F.Folder.notes c.args.folder.now) new new c.in_ok-check_lines.field-0 (tree d.doc) d.scene
+    c.in_ok-diagram.ensures.read (refl, c.in_ok-check_lines.ensures)

@@ -2,8 +2,7 @@
 use Rattle.std.proofs.Common.{◌≡◌, [], refl, Some}
 use Rattle.std.specs.Prelude.{map, string_bytes}
 use Rattle.command_words.specs.Words.{audit, check, form_of, preview, prove, route, shared}
-use Rattle.reroute_app.specs.Replay.{most_script_bytes}
-use Rattle.reroute_app.specs.Certificate.{most_certificate_bytes}
+use Rattle.reroute_app.specs.Diagram.{most_script_bytes, most_certificate_bytes}
 use Rattle.reroute_app.specs.View.{AnyScene, IsSmall}
 use Rattle.reroute_app.proofs.Crews.{IsCrew, crew_of, same_form}
 use Rattle.reroute_app.proofs.Stops.{words_come, one_in_order, two_in_order}
