@@ -4,11 +4,12 @@
 //! Coordinates are whole thousandths of a GML unit. East is +x and South is +y.
 #![tactic(auto)]
 
+mod columns;
 mod laws;
 mod lists;
 mod parts;
+mod rows;
 mod stop;
-mod walk;
 
 pub use laws::{further_is_later, one_number, stops_in_order};
 pub use lists::LineLists;

@@ -56,7 +56,8 @@ impl LineLists {
         ensures { result.now ≡ stops_of self.now line }
     {
         let parts = &self.parts;
-        &parts.stops[parts.starts[line]..parts.starts[line + 1]]
+        let run = parts.runs[line];
+        &parts.stops[run.begin..run.end]
     }
 
     /// The number of the line of this way through the crossing with the number that

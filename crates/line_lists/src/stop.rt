@@ -1,6 +1,6 @@
 //! A crossing in the list of a line, and the numbers of a crossing's two lines.
 ghost use Rattle.std.specs.Prelude.{◌≡◌};
-ghost use Rattle.line_lists.specs.Numbers.{number_in, other_number, with_number};
+ghost use Rattle.line_lists.specs.Numbers.{number_in};
 
 use line_arena::CrossId;
 use plane_geom::Way;
@@ -15,12 +15,22 @@ pub struct Stop {
     pub across: usize,
 }
 
+/// Where the stops of a line stand: from `begin` up to, and not with, `end`.
+#[derive(Clone, Copy, Debug)]
+pub struct Run {
+    pub begin: usize,
+    pub end: usize,
+}
+
 /// The numbers of the two lines of a crossing.
 #[derive(Clone, Copy, Debug)]
 pub struct Numbers {
     pub vertical: usize,
     pub horizontal: usize,
 }
+
+/// Where no stops stand.
+pub const NO_RUN: Run = Run { begin: 0, end: 0 };
 
 /// The numbers of a crossing before it is given any.
 pub const NO_NUMBERS: Numbers = Numbers {
@@ -36,27 +46,6 @@ impl Numbers {
         match way {
             Way::Vertical => self.vertical,
             Way::Horizontal => self.horizontal,
-        }
-    }
-
-    /// Sets the number of the line that lies this way.
-    pub fn set(&mut self, way: Way, number: usize)
-        ensures { self.new ≡ with_number way number self.old }
-    {
-        match way {
-            Way::Vertical => self.vertical = number,
-            Way::Horizontal => self.horizontal = number,
-        }
-    }
-
-    /// The one of the two numbers that is not this one.
-    pub fn other(&self, number: usize) -> usize
-        ensures { result ≡ other_number self.now number }
-    {
-        if self.vertical == number {
-            self.horizontal
-        } else {
-            self.vertical
         }
     }
 }

@@ -1,6 +1,6 @@
 -- The line is listed up to the next stop, and less of it is left each time.
 use Rattle.line_lists.proofs.Walking.{Walking, left_on}
-use Rattle.line_lists.proofs.walk.push_stops.Given as goal
+use Rattle.line_lists.proofs.rows.push_stops.Given as goal
 
 abbrev pub invariant-loop-next : goal.invariant-loop-next
 invariant-loop-next l = Walking l.arena l.id l.line l.number l.initial.stops.items l.stops.items l.initial.numbers l.numbers l.next

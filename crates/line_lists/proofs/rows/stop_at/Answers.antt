@@ -2,7 +2,7 @@
 use Rattle.std.proofs.Common.{arith}
 use Rattle.std.proofs.lemmas.Int.{ints}
 use Rattle.line_lists.proofs.OnLine.{stop_here}
-use Rattle.line_lists.proofs.walk.stop_at.Goals as goal
+use Rattle.line_lists.proofs.rows.stop_at.Goals as goal
 
 pub returns-clause-stop : goal.returns-clause-stop
 returns-clause-stop c =
