@@ -1,6 +1,7 @@
 -- Rays, which follow a route away from one of its runs.
 use Rattle.std.specs.Prelude.{◌≡◌, ◌≢◌, ℕ, ◌-◌, ℤ, pos, ◌-ℤ◌, Bool, true, false, Option, Some, None, List, [], ◌∷◌, take, drop, ◌++◌, map, reverse, All, if◌then◌else◌}
 use Rattle.std.specs.declared.cmp.Ordering.{Ordering}
+use Rattle.std.specs.Cmp.Lexicographic.{slice_cmp}
 use Rattle.std.specs.Ordering.{nat_cmp, int_cmp, ordering_then}
 use Rattle.plane_geom.specs.declared.point.Dir.{Dir}
 use Rattle.plane_geom.specs.declared.point.Dir.TheVariants.{East, South, West, North}
@@ -66,6 +67,11 @@ abbrev pub entries_left : Option Ray → List Entry
 entries_left None = []
 entries_left (Some ray) = entries_of ray
 
+-- the run as one goes along it who follows its route onward, or back
+abbrev pub travelled : Bool → Run → Run
+travelled true r = r
+travelled false r = turned_round r
+
 -- the kind of an entry, from 0 to 2, and its rank within the kind
 abbrev pub rank_of : Entry → ℕ
 rank_of (Near p) = 0
@@ -80,6 +86,10 @@ value_of (Far p) = pos 0 -ℤ p
 -- turns to the near side by rising numbers, then a stop, then turns to the far side by falling numbers
 abbrev pub entry_cmp : Entry → Entry → Ordering
 entry_cmp a b = ordering_then (nat_cmp (rank_of a) (rank_of b)) (int_cmp (value_of a) (value_of b))
+
+-- the order of two rays that have come in one direction as far as z, with these runs to come
+abbrev pub compare_abreast : Bool → Side → Dir → ℤ → List Run → List Run → Ordering
+compare_abreast onward near d z a b = slice_cmp entry_cmp (entries near d z (trail onward a)) (entries near d z (trail onward b))
 
 -- a ray ends with a stop, and has no other one
 pub record EndsAtOnlyStop (ray : List Entry) : Type 0 where

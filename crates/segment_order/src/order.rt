@@ -14,12 +14,12 @@ use crate::run::Run;
 use plane_geom::{Dir, Way};
 use std::cmp::Ordering;
 
-/// Compares two rays by the first entries that differ; later ones are not read.
+/// Compares two rays by the first entries that differ; later ones are not read. What they have in
+/// common at their start is passed first, which is faster than entry by entry.
 fn compare_rays(a: Ray<'_>, b: Ray<'_>) -> Ordering
     ensures { result ≡ slice_cmp entry_cmp (entries_of a.entry) (entries_of b.entry) }
 {
-    let mut a = a;
-    let mut b = b;
+    let (mut a, mut b) = a.past_common(b);
     loop {
         let (x, a_next) = a.split();
         let (y, b_next) = b.split();

@@ -12,12 +12,12 @@ loop-a_next-init c = refl
 pub returns-then-ne : goal.returns-then-ne
 returns-then-ne c =
     let differ : c.compare-order.result ≢ Equal = λ e. search rules in
-    decided _ _ _ _ _ _ _ c.split-x.ensures.entries c.split-y.ensures.entries c.compare-order.ensures differ ∙ sym c.loop-a_next.invariant
+    decided _ _ _ _ _ _ _ c.split-x.ensures.entries c.split-y.ensures.entries c.compare-order.ensures differ ∙ sym c.loop-a_next.invariant ∙ sym c.past_common.ensures
 
 pub returns-in_default-2 : goal.returns-in_default-2
 returns-in_default-2 c =
     let tie : c.compare-order.result ≡ Equal = search rules in
-    ended _ _ _ _ _ _ _ c.split-x.ensures.entries c.split-y.ensures.entries c.split-x.ensures.stop c.split-y.ensures.stop c.compare-order.ensures tie (inl c.in_default.is-0) ∙ sym c.loop-a_next.invariant
+    ended _ _ _ _ _ _ _ c.split-x.ensures.entries c.split-y.ensures.entries c.split-x.ensures.stop c.split-y.ensures.stop c.compare-order.ensures tie (inl c.in_default.is-0) ∙ sym c.loop-a_next.invariant ∙ sym c.past_common.ensures
 
 pub loop-a_next-smaller : goal.loop-a_next-smaller
 loop-a_next-smaller c =
