@@ -7,7 +7,7 @@ channels   256 boxes that leave a net of channels between them, 2 to 6 units wid
 pins       64 boxes with four pins each, and 512 edges that name a pin at each end; 256 have a checkpoint
 serpentine_N
            512 equal edges on one long way round N walls, so that each channel has a run of every edge (N to 246)
-joined_N   the same with one straight edge more, whose run stands so near all that turn below it that all must keep apart
+joined_N   the same with one straight edge along it, whose run has to keep apart from all that turn below it
 fan_N      512 edges on such a way, from and to 40 boxes each, so that their runs change places (N to 160)
 mirrored   a crowd that is its own mirror image in the diagonal, and 512 edges from one end of the diagonal to the other;
            64 have four checkpoints, by turns near its two ends
@@ -15,9 +15,9 @@ greatest   the diagram with the most lines and crossings within the limits: 1280
 certified  the same within the limits of certificates: 48 boxes, pins and checkpoints, and 64 edges
 pairs      two boxes and an edge, and a list of as many short foreign pairs as 16 MiB leave room for
 nodes      256 boxes, each with as many foreign pairs of the kinds that editors write as 16 MiB leave room for
-nested     16 MiB of empty texts in lists nested 63 deep, each of which has a line of its own in the output, far indented
+nested     16 MiB of empty texts in lists nested 63 deep, each of which has a far indented line in the output
 
-With --moves it prints a script of 30 transactions, each of which moves a box; the last seven have none.
+With --moves it prints a script of 30 transactions, each of which moves a box; from serpentine_N on there are none.
 """
 import argparse
 import os
@@ -157,8 +157,8 @@ def certified(_):
 
 
 def walls_of(turns, aside, above):
-    """Walls from below and from above, within a ring so far aside, that leave one way, which turns round each of them. The
-    ring's upper side is given."""
+    """Walls from below and from above, within a ring so far aside, that leave one way, which turns round each of them.
+    The ring's upper side is given."""
     walls = [node(k + 10, 50 + k * 50, 550 if k % 2 else -543, 10, 1100 if k % 2 else 1086) for k in range(turns)]
     sides = [node(k + 4, x, 0, 20, 2300) for k, x in enumerate((20 - aside, turns * 50 + 30 + aside))]
     return [*walls, *sides, node(3, turns * 25, 1100, turns * 50 + 2 * aside, 20), *above]
@@ -174,12 +174,13 @@ def serpentine(turns, _):
 
 
 def joined(turns, _):
-    """The upper side of the ring is two boxes, which a wall parts and an edge joins. Its run goes along their lower sides,
-    past all runs that may rise to there: the buffer of 4 keeps these from the boxes, and the gap of 5 from this run."""
+    """The upper side of the ring is two boxes, which a wall parts and an edge joins. Its run goes along their lower
+    sides, past all runs that may rise to there: the buffer of 4 keeps these from the boxes, the gap of 5 from it."""
     parted, far = 50 + turns // 4 * 100, turns * 50 + 50
 
     def half(number, low, high, pin):
-        return node(number, (low + high) / 2, -1100, high - low, 20, f' pin [ class 1 x {pin - (low + high) / 2:g} y 10 ]')
+        middle = (low + high) / 2
+        return node(number, middle, -1100, high - low, 20, f' pin [ class 1 x {pin - middle:g} y 10 ]')
 
     above = [half(6, -200, parted - 5, 0), half(7, parted + 5, far + 200, far)]
     nodes = [' router [ nudge 5 ]\n', node(1, 0, 0), node(2, far, 0), *walls_of(turns, 200, above)]
