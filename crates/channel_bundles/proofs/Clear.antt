@@ -53,7 +53,7 @@ not_below : (x y : ℤ) → y ≤ℤ x → int_lt x y ≡ false
 not_below x y h = grind (arith, ints)
 
 -- two runs whose limits are the nudge apart are not linked
-unasked : (nudge : ℤ) (a b : Member) (o : Option Bool) → pos 0 ≤ℤ nudge → (a.high +ℤ nudge) ≤ℤ b.low → linked nudge a b o ≡ None
+pub unasked : (nudge : ℤ) (a b : Member) (o : Option Bool) → pos 0 ≤ℤ nudge → (a.high +ℤ nudge) ≤ℤ b.low → linked nudge a b o ≡ None
 unasked nudge a b None low apart = refl
 unasked nudge a b (Some true) low apart = ap (λ t. if t then Some true else None) (not_below b.low (a.high +ℤ nudge) apart)
 unasked nudge a b (Some false) low apart = ap (λ t. if t then Some false else None) (not_below b.low a.high (omega (arith, ints, low, apart)))

@@ -6,7 +6,9 @@ pub mod Neighbours
 pub mod Numbering
 pub mod Listing
 pub mod Clear
+pub mod Grouping
 pub mod Linking
+pub mod Spans
 pub mod Leading
 pub mod Placing
 pub mod Bundling

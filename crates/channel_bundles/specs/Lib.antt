@@ -3,6 +3,7 @@ pub mod Route
 pub mod Limits
 pub mod Links
 pub mod Classes
+pub mod Groups
 pub mod Bundles
 pub mod Leaders
 pub mod Placed

@@ -1,6 +1,7 @@
 //! Numbers in classes, as trees that are joined two at a time (union-find).
 ghost use Rattle.std.specs.Prelude.{◌≡◌, ℕ, ◌<◌, [], All, IfOk, EachIndex, length, map, slice_set, slice_index};
 ghost use Rattle.channel_bundles.specs.Classes.{AreClasses, AreTreeNumbers, Connected, IsForest, LeadsUp, LeadsUpOr};
+ghost use Rattle.channel_bundles.specs.Groups.{AreGroups, AreTogether};
 
 use std::alloc::{AllocError, Global};
 
@@ -99,6 +100,17 @@ impl Forest {
             }
         }
         Ok(TreeNumbers { roots, numbers })
+    }
+
+    /// The number of the tree of each number.
+    pub(crate) fn numbers(&self, alloc: Global) -> Result<Vec<usize>, AllocError>
+        requires { IsForest self.now.above.items }
+        ensures groups { IfOk result (λ numbers. AreGroups (length self.now.above.items) numbers.items) }
+        ensures together { IfOk result (λ numbers. (i j : ℕ) → Connected (LeadsUp self.now.above.items) i j →
+            AreTogether numbers.items i j) }
+    {
+        let trees = self.tree_numbers(alloc)?;
+        Ok(trees.numbers)
     }
 
     /// The numbers of each tree, in order, and the trees by their first numbers. The only error is

@@ -5,6 +5,7 @@
 
 mod channel;
 mod forest;
+mod groups;
 mod laws;
 mod leaders;
 mod limits;

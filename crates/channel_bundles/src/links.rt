@@ -1,10 +1,13 @@
 //! The links between runs: the classes that they form, and the rules that they stand for.
-ghost use Rattle.std.specs.Prelude.{◌≡◌, ℕ, ◌+◌, ◌<◌, ◌≤◌, ◌++◌, All, IfOk, drop, length, map};
+ghost use Rattle.std.specs.Prelude.{◌≡◌, ℕ, ◌+◌, ◌<◌, ◌≤◌, ◌++◌, List, All, EachIndex, IfOk, drop, length, map, slice_index};
 ghost use Rattle.separation_model.specs.Bundle.{most_items};
 ghost use Rattle.channel_bundles.specs.Classes.{AreClasses, Connected, FollowsLinks, IsForest, LeadsUp};
+ghost use Rattle.channel_bundles.specs.Groups.{AreNext, AreTogether};
+ghost use Rattle.channel_bundles.specs.Placed.{AreRising};
 ghost use Rattle.channel_bundles.specs.Links.{AreClear, IsLink, IsMember, IsNudge, member_at, rules_after, rules_from};
 
 use crate::forest::Forest;
+use crate::groups::{channels, edges, next_of_group};
 use crate::member::Member;
 use separation_model::Rule;
 use std::alloc::{AllocError, Global};
@@ -29,28 +32,41 @@ fn first_clear(alloc: Global, members: &[Member]) -> Result<Vec<i64>, AllocError
     Ok(clear)
 }
 
-/// Joins the tree of the run at `at` with the trees of all later runs to which it is linked.
-fn join_links_of(forest: &mut Forest, members: &[Member], clear: &[i64], nudge: i64, at: usize)
+/// Joins the tree of the run at `at` with the trees of all later runs of its group to which it is
+/// linked. `next` has for each run the next one of its group.
+fn join_links_of(
+    forest: &mut Forest,
+    members: &[Member],
+    clear: &[i64],
+    next: &[usize],
+    nudge: i64,
+    at: usize,
+)
     requires forest { IsForest forest.old.above.items }
     requires count { length forest.old.above.items ≡ length members.now }
     requires members { All IsMember members.now }
     requires clear { AreClear members.now clear.now }
     requires nudge { IsNudge nudge }
     requires at { at < length members.now }
+    requires next { length next.now ≡ length members.now }
+    requires after { EachIndex next.now (λ i. i < slice_index next.now i) }
     ensures forest { IsForest forest.new.above.items }
     ensures count { length forest.new.above.items ≡ length members.now }
     ensures kept { (i j : ℕ) → LeadsUp forest.old.above.items i j → Connected (LeadsUp forest.new.above.items) i j }
-    ensures joined { (j : ℕ) → IsLink nudge members.now at j → Connected (LeadsUp forest.new.above.items) at j }
+    ensures joined { (groups : List ℕ) (j : ℕ) → AreNext groups next.now → AreTogether groups at j →
+        IsLink nudge members.now at j → Connected (LeadsUp forest.new.above.items) at j }
     ensures only { FollowsLinks (IsLink nudge members.now) forest.old.above.items →
         FollowsLinks (IsLink nudge members.now) forest.new.above.items }
 {
-    for later in at + 1..members.len() {
+    let mut later = next[at];
+    while later < members.len() {
         if members[at].is_clear_of(clear[later], nudge) {
             return;
         }
         if members[at].link(&members[later], nudge).is_some() {
             forest.join(at, later);
         }
+        later = next[later];
     }
 }
 
@@ -62,14 +78,20 @@ pub(crate) fn linked_classes(
     nudge: i64,
 ) -> Result<Vec<Vec<usize>>, AllocError>
     requires members { All IsMember members.now }
+    requires rising { AreRising members.now }
     requires nudge { IsNudge nudge }
     ensures { IfOk result (λ lists. AreClasses (Connected (IsLink nudge members.now)) (length members.now)
         (map (λ list. list.items) lists.items)) }
 {
     let clear = first_clear(alloc, members)?;
+    let channels = channels(alloc, members, nudge)?;
+    let near = next_of_group(alloc, &channels)?;
+    let edges = edges(alloc, members, nudge)?;
+    let own = next_of_group(alloc, &edges)?;
     let mut forest = Forest::new(alloc, members.len())?;
     for at in 0..members.len() {
-        join_links_of(&mut forest, members, &clear, nudge, at);
+        join_links_of(&mut forest, members, &clear, &near, nudge, at);
+        join_links_of(&mut forest, members, &clear, &own, nudge, at);
     }
     forest.classes(alloc)
 }

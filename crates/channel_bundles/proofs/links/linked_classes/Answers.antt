@@ -1,7 +1,8 @@
 -- The links of one run after another are joined; the trees are then the classes.
-use Rattle.std.proofs.Common.{rules, w64, FitsSigned}
+use Rattle.std.proofs.Common.{subst, sym, rules, w64, FitsSigned}
 use Rattle.std.proofs.lemmas.Int.{to_z-of_z}
-use Rattle.channel_bundles.proofs.Linking.{linked_begins, linked_more, linked_all}
+use Rattle.channel_bundles.specs.Groups.{AreNext, AreTogether}
+use Rattle.channel_bundles.proofs.Linking.{linked_begins, linked_more_by, linked_all}
 use Rattle.channel_bundles.proofs.links.linked_classes.Goals as goal
 
 pub loop-at-init : goal.loop-at-init
@@ -13,8 +14,16 @@ pub loop-at-preserved : goal.loop-at-preserved
 loop-at-preserved c =
     let fits : FitsSigned w64 c.args.nudge = search rules in
     let is = simp to_z-of_z at c.loop-at.invariant in
-    let e = c.join_links_of.ensures in
-    simp to_z-of_z (linked_more _ _ _ _ _ is e.forest e.count e.kept (simp to_z-of_z at e.joined) (simp to_z-of_z at e.only))
+    let near = c.join_links_of.ensures in
+    let own = c.join_links_of-in-loop-at.ensures in
+    let spaced = simp to_z-of_z at c.in_ok-channels.ensures.together in
+    let joined = simp to_z-of_z at c.in_ok-edges.ensures.together in
+    simp to_z-of_z (linked_more_by c.args.nudge c.args.members.now _ _ _ c.loop-at.at c.deref.result.now c.deref-in-loop-at-2.result.now c.deref-2.result.now c.deref-in-loop-at-4.result.now is
+    own.forest own.count near.kept own.kept (simp to_z-of_z at near.joined) (simp to_z-of_z at own.joined) (simp to_z-of_z at near.only) (simp to_z-of_z at own.only)
+    (subst (AreNext c.deref.result.now) (sym c.deref-in-loop-at-2.ensures.value) c.in_ok-near.ensures)
+    (subst (AreNext c.deref-2.result.now) (sym c.deref-in-loop-at-4.ensures.value) c.in_ok-own.ensures)
+    (λ i j l ne. subst (λ xs. AreTogether xs i j) (sym c.deref.ensures.value) (spaced i j l ne))
+    (λ i j l e. subst (λ xs. AreTogether xs i j) (sym c.deref-2.ensures.value) (joined i j l e)))
 
 pub returns : goal.returns
 returns c =
