@@ -1,7 +1,8 @@
 -- A crossing of a line stands on it, and coordinates show which of two stops lies further.
-use Rattle.std.proofs.Common.{◌≡◌, ◌⊎◌, ℕ, ◌<◌, ℤ, pos, negsuc, ◌<ℤ◌, ◌≤ℤ◌, Option, Some, inl, inr, refl, sym, ap, subst, ◌∙◌, arith}
+use Rattle.std.proofs.Common.{◌≡◌, ◌⊎◌, ℕ, ◌+◌, ◌<◌, ℤ, pos, negsuc, ◌<ℤ◌, ◌≤ℤ◌, Option, Some, inl, inr, refl, sym, ap, subst, ◌∙◌, arith}
 use Rattle.std.specs.FinMap.{get}
 use Rattle.std.specs.Int.{int_gap}
+use Rattle.std.proofs.lemmas.Bool.{cases_lt}
 use Rattle.std.proofs.lemmas.Int.{ints}
 use Rattle.plane_geom.specs.declared.point.Point.{Point}
 use Rattle.plane_geom.specs.declared.point.Way.{Way}
@@ -16,6 +17,13 @@ use Rattle.line_lists.specs.Lists.{IsStopOf}
 
 pub same_line : (x y : Line) → ◌≡◌ {A = Option Line} (Some x) (Some y) → x ≡ y
 same_line x y e = cc
+
+pub both_ways : (w : Way) → w ≡ Vertical → w ≡ Horizontal → ⊥
+both_ways w e f = cc
+
+-- an index below k + 1 is one below k, or k
+pub below_or_last : (n k : ℕ) → n < k + 1 → (n < k) ⊎ (n ≡ k)
+below_or_last n k lt = elim (cases_lt n k) as (λ _. (n < k) ⊎ (n ≡ k)) [ inl less ↦ inl less | inr le ↦ inr (omega (arith, lt, le)) ]
 
 -- ---- points of a line
 
