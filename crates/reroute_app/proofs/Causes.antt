@@ -736,7 +736,10 @@ module _ (words : List (List ℕ)) (files : Option ExposedFiles) (old new : List
     one_status s t (by_finding f e) (made seed g d) = absurd (subst HasFiles g (files_found words files old new f))
     one_status s t (by_finding f e) (finding some g d) = e ∙ one_found words files old new replies proposals audits some f g ∙ sym d
 
-    module _ (o : Outcome) (is : IsFormOutcome (form_of words) files old new o) where
+    module _ (o value : Outcome) (same : o ≡ value) (is_value : IsFormOutcome (form_of words) files old new value) where
+      is : IsFormOutcome (form_of words) files old new o
+      is = subst (IsFormOutcome (form_of words) files old new) (sym same) is_value
+
       -- an outcome has a status exactly where the cause of it holds
       pub exact : (s : Status) → Needs s → (o.status ≡ s) ↔ Cause s
       exact s some =

@@ -43,6 +43,7 @@ module _ (files : Option ExposedFiles) (diagram certificate : List ℕ) (old new
       let first = diagram_read files diagram old new o past (λ tree s. UnlessLarge (too_large s) (ReadsFile files certificate most_certificate_bytes (λ bytes. Ends (AuditsCertificate s bytes)))) is in
       audited first.middle first.tree first.scene (too_large first.scene) first.has first.later
 
-pub claims_are_true : (words : List (List ℕ)) (files : Option ExposedFiles) (old new : List Note) (o : Outcome) → o.status ≡ status.Done → IsOutcome words files old new o → ClaimsAreTrue words files old new
-claims_are_true words files old new o done is diagram certificate form =
-    claims_found files diagram certificate old new o done (subst (λ (f : Option Form). IsFormOutcome f files old new o) form is)
+pub claims_are_true : (words : List (List ℕ)) (files : Option ExposedFiles) (old new : List Note) (o value : Outcome) → o ≡ value → o.status ≡ status.Done → IsOutcome words files old new value
+    → ClaimsAreTrue words files old new
+claims_are_true words files old new o value same done is diagram certificate form =
+    claims_found files diagram certificate old new o done (subst (λ (f : Option Form). IsFormOutcome f files old new o) form (subst (IsOutcome words files old new) (sym same) is))
