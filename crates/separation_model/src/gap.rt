@@ -25,22 +25,26 @@ fn has_room(alloc: Global, bundle: &Bundle, by_left: &[Rule], gap: i64) -> Resul
     }
 }
 
-/// The gap halfway between the two, rounded.
-fn halfway(met: i64, unmet: i64) -> i64
+/// The gap to try between the two: the wanted one first, and then the one halfway, rounded.
+fn between(met: i64, unmet: i64, wanted: i64) -> i64
     requires low { pos 0 ≤ℤ met }
     requires apart { (met +ℤ pos 1) <ℤ unmet }
     requires high { unmet ≤ℤ pos 1000001 }
     ensures low { met <ℤ result }
     ensures high { result <ℤ unmet }
 {
-    met + (unmet - met) / 2
+    if unmet > wanted {
+        unmet - 1
+    } else {
+        met + (unmet - met) / 2
+    }
 }
 
 /// The largest gap, in whole thousandths from 0 to the wanted one, for which some positions meet
 /// all rules and limits.
 ///
-/// By bisection: at most twenty passes over items and rules, and the rules are sorted once. The
-/// only error is out of memory.
+/// By bisection, after the wanted one: at most 21 passes over items and rules, and the rules are
+/// sorted once. The only error is out of memory.
 pub fn widest_gap(alloc: Global, bundle: &Bundle) -> Result<i64, AllocError>
     requires { IsBundle bundle.now }
     ensures { IfOk result (IsWidestGap bundle.now) }
@@ -49,7 +53,7 @@ pub fn widest_gap(alloc: Global, bundle: &Bundle) -> Result<i64, AllocError>
     let mut met = 0;
     let mut unmet = bundle.wanted + 1;
     while met + 1 < unmet {
-        let middle = halfway(met, unmet);
+        let middle = between(met, unmet, bundle.wanted);
         if has_room(alloc, bundle, &by_left, middle)? {
             met = middle;
         } else {

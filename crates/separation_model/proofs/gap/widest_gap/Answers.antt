@@ -15,8 +15,8 @@ pub loop-met-preserved-then-branch : goal.loop-met-preserved-then-branch
 loop-met-preserved-then-branch c =
     let inv = c.loop-met.invariant in
     let b = c.args.bundle.now in
-    let half = c.halfway-middle.ensures in
-    let middle = to_z w64 (of_z w64 c.halfway-middle.result) in
+    let half = c.between-middle.ensures in
+    let middle = to_z w64 (of_z w64 c.between-middle.result) in
     between_met b _ _ middle inv (omega (arith, ints, half.low, half.high, inv.low, inv.high, c.requires.wanted_high)) (omega (arith, ints, half.low, half.high, inv.low, inv.high, c.requires.wanted_high))
     (when_true (HasPositions b middle) (HasNoPositions b middle) c.if-branch.true c.in_ok-has_room.ensures)
 
@@ -24,8 +24,8 @@ pub loop-met-preserved : goal.loop-met-preserved
 loop-met-preserved c =
     let inv = c.loop-met.invariant in
     let b = c.args.bundle.now in
-    let half = c.halfway-middle.ensures in
-    let middle = to_z w64 (of_z w64 c.halfway-middle.result) in
+    let half = c.between-middle.ensures in
+    let middle = to_z w64 (of_z w64 c.between-middle.result) in
     between_unmet b _ _ middle inv (omega (arith, ints, half.low, half.high, inv.low, inv.high, c.requires.wanted_high)) (omega (arith, ints, half.low, half.high, inv.low, inv.high, c.requires.wanted_high))
     (when_false (HasPositions b middle) (HasNoPositions b middle) c.if-branch.false c.in_ok-has_room.ensures)
 
