@@ -16,6 +16,7 @@ calls_push (u ∷ ts) t old middle new are call = (are.0, are.1, calls_push ts t
 keeps_on : (old middle new : DrawingState) → Keeps old middle → Keeps middle new → Keeps old new
 keeps_on old middle new h k = record {
   document = k.document ∙ h.document;
+  labels = k.labels ∙ h.labels;
   reported = k.reported ∙ h.reported;
   asked = k.asked ∙ h.asked;
 }
@@ -28,7 +29,7 @@ done_push cs c old middle new are call = record {
 
 -- no command is done yet
 pub none_done : (d : DrawingState) → AreDone [] d d
-none_done d = record { calls = refl; keeps = record { document = refl; reported = refl; asked = refl } }
+none_done d = record { calls = refl; keeps = record { document = refl; labels = refl; reported = refl; asked = refl } }
 
 -- the next command of a script is done
 pub done_more : (cs : List (ℕ × Command)) (i : ℕ) (d : ℕ × Command) (old middle new : DrawingState) → i < length cs → AreDone (take i cs) old middle

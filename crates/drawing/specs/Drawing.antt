@@ -1,4 +1,4 @@
--- A session with its document and the lines that were reported and asked for, and what its calls do.
+-- A session with its document, the labels of what edits added, and the lines that were reported and asked for; and what its calls do.
 use Rattle.std.specs.Prelude.{◌≡◌, ℕ, [], List, length, Option, None, Some, Result, Ok, Err, IfErr}
 use Rattle.gml_text.specs.Printed.{IsPrintable}
 use Rattle.gml_text.specs.Tree.{Pairs}
@@ -16,15 +16,17 @@ use Rattle.scene_model.specs.World.{World, Everywhere, rolled_back, opened}
 use Rattle.session_model.specs.Calls.{IsCall}
 use Rattle.session_model.specs.State.{State}
 use Rattle.route_book.specs.Exchange.{CountsStale}
+use Rattle.gml_scene.specs.Labels.{LabelLists, no_labels}
 use Rattle.gml_scene.specs.Origins.{AreEdgesOf, AreNodesOf}
 use Rattle.form_route.specs.Diagram.{IsDiagram}
 use Rattle.drawing.specs.Changes.{Asked, asked_of}
 use Rattle.drawing.specs.Lines.{AreDrawn, AreProposed}
 
--- the session, the document, the lines that were reported last, and what was asked for last
+-- the session, the document, the labels that were given, the lines that were reported last, and what was asked for last
 pub record DrawingState : Type 0 where
   pub session : State
   pub document : Doc
+  pub labels : LabelLists
   pub reported : List WrittenRoute
   pub asked : Asked
 
@@ -40,17 +42,19 @@ pub record IsSource (document : Pairs) (w : World) : Type 0 where
   pub source : scene_of document ≡ Ok was
   pub scenes : Everywhere (ComesFrom was) w
 
--- the document, the lines that were reported, and what was asked for stay
+-- the document, the labels, the lines that were reported, and what was asked for stay
 pub record Keeps (old new : DrawingState) : Type 0 where
   pub document : new.document ≡ old.document
+  pub labels : new.labels ≡ old.labels
   pub reported : new.reported ≡ old.reported
   pub asked : new.asked ≡ old.asked
 
--- a session on the scene, of which no line was reported yet
+-- a session on the scene, of which no line was reported yet, and without labels
 pub record IsOpened (s : Scene) (d : DrawingState) : Type 0 where
   pub world : d.session.world ≡ opened s
   pub right : AreAnswers s d.session.book
   pub searched : d.session.searched ≡ length (connectors s)
+  pub labels : d.labels ≡ no_labels
   pub reported : d.reported ≡ []
   pub asked : d.asked ≡ asked_of [] []
 
@@ -101,8 +105,8 @@ pub record RollsBack (old new : DrawingState) : Type 0 where
   pub searched : new.session.searched ≡ old.session.searched
   pub keeps : Keeps old new
 
--- the text is the document, with the present scene and its lines put in
+-- the text is the document, with the present scene, the labels of what edits added, and its lines put in
 pub record IsWritten (d : DrawingState) (text : List ℕ) : Type 0 where
   pub was : Scene
   pub source : scene_of (tree d.document) ≡ Ok was
-  pub diagram : IsDiagram (tree d.document) was d.session.world.present d.session.book text
+  pub diagram : IsDiagram (tree d.document) was d.session.world.present d.labels d.session.book text

@@ -1,6 +1,7 @@
 -- The definitions of drawings.
 pub mod Changes
 pub mod Drawing
+pub mod Labelled
 pub mod Lines
 pub mod Opening
 pub mod Played

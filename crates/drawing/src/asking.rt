@@ -108,6 +108,7 @@ impl Drawing {
     pub fn report(&mut self, compared: Compared)
         ensures session { self.new.session ≡ self.old.session }
         ensures document { self.new.document ≡ self.old.document }
+        ensures labels { self.new.labels ≡ self.old.labels }
         ensures reported { self.new.reported ≡ compared.lines }
         ensures asked { self.new.asked ≡ compared }
     {
@@ -121,6 +122,7 @@ impl Drawing {
     fn propose(&mut self, compared: Compared)
         ensures session { self.new.session ≡ self.old.session }
         ensures document { self.new.document ≡ self.old.document }
+        ensures labels { self.new.labels ≡ self.old.labels }
         ensures reported { self.new.reported ≡ self.old.reported }
         ensures asked { self.new.asked ≡ compared }
     {
@@ -135,6 +137,7 @@ impl Drawing {
     pub fn report_lines(&mut self, alloc: Global) -> Result<(), AllocError>
         ensures session { self.new.session ≡ self.old.session }
         ensures document { self.new.document ≡ self.old.document }
+        ensures labels { self.new.labels ≡ self.old.labels }
         ensures reports { OnOk result (Reports self.old self.new) }
         ensures err { OnErr result (self.new ≡ self.old) }
     {
@@ -150,6 +153,7 @@ impl Drawing {
     pub fn preview_lines(&mut self, alloc: Global) -> Result<(), SessionFault>
         ensures session { self.new.session ≡ self.old.session }
         ensures document { self.new.document ≡ self.old.document }
+        ensures labels { self.new.labels ≡ self.old.labels }
         ensures previews { OnOk result (Previews self.old self.new) }
         ensures fault { IfErr result (IsUnproposed self.old.session) }
         ensures err { OnErr result (self.new ≡ self.old) }

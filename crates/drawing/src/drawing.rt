@@ -4,6 +4,7 @@ ghost use Rattle.gml_text.specs.Printed.{IsPrintable};
 ghost use Rattle.gml_text.specs.View.{tree};
 ghost use Rattle.diagram_read.specs.Scene.{scene_of};
 ghost use Rattle.scene_model.specs.Scene.{empty_scene};
+ghost use Rattle.gml_scene.specs.Labels.{no_labels};
 ghost use Rattle.drawing.specs.Changes.{asked_of};
 ghost use Rattle.drawing.specs.Drawing.{IsOpened, IsSource, IsWritten, edited_scene, next_edge};
 ghost use Rattle.drawing.specs.Opening.{IsOpenFault, Opens, empty_diagram};
@@ -13,6 +14,7 @@ use crate::fault::OpenFault;
 use crate::lines::Lines;
 use diagram_read::scene_of;
 use form_route::printed_diagram;
+use gml_scene::Labels;
 use gml_text::{Bytes, Doc, Pair, Value, parse};
 use par_route::Gate;
 use route_session::Session;
@@ -21,11 +23,13 @@ use std::alloc::{AllocError, Global};
 use std::marker::Model;
 use std::thread::Threads;
 
-/// A session, with the document that its scenes come from, the lines that were reported last, and what was asked for last.
+/// A session, with the document that its scenes come from, the labels that were given, the lines that were reported last,
+/// and what was asked for last.
 #[derive(Drop)]
 pub struct Drawing {
     pub(crate) doc: Doc,
     pub(crate) session: Session,
+    pub(crate) labels: Labels,
     pub(crate) reported: Lines,
     /// The lines of a preview, if one was asked for last; otherwise those that were reported were.
     pub(crate) proposed: Option<Lines>,
@@ -47,6 +51,7 @@ impl Model for Drawing {
     ghost view = { λ d. record {
       session = d.session;
       document = d.doc;
+      labels = d.labels;
       reported = d.reported;
       asked = record {
         lines = unwrap_or d.proposed d.reported;
@@ -73,17 +78,19 @@ fn empty_document(alloc: Global) -> Result<Doc, AllocError>
 }
 
 impl Drawing {
-    /// The drawing of a session whose scenes come from the document. No line is reported yet.
+    /// The drawing of a session whose scenes come from the document. No line is reported yet, and no label is given.
     fn on(alloc: Global, doc: Doc, session: Session) -> Drawing
         requires { IsSource (tree doc) session.world }
         ensures session { result.session ≡ session }
         ensures document { result.document ≡ doc }
+        ensures labels { result.labels ≡ no_labels }
         ensures reported { result.reported ≡ [] }
         ensures asked { result.asked ≡ asked_of [] [] }
     {
         Drawing {
             doc,
             session,
+            labels: Labels::none(alloc),
             reported: Lines::none(alloc),
             proposed: None,
             differences: Differences::none(alloc),
@@ -178,10 +185,11 @@ impl Drawing {
         self.scene().next_edge()
     }
 
-    /// The bytes of the document, with the present scene and its lines put in. The only error is out of memory.
+    /// The bytes of the document, with the present scene, the labels of what edits added, and its lines
+    /// put in. The only error is out of memory.
     pub fn text(&self, alloc: Global) -> Result<Vec<u8>, AllocError>
         ensures { IfOk result (λ text. IsWritten self.now text.items) }
     {
-        printed_diagram(alloc, &self.doc, &self.session)
+        printed_diagram(alloc, &self.doc, &self.labels, &self.session)
     }
 }

@@ -1,4 +1,4 @@
-//! What each front holds: a session, the document that its scenes come from, and the lines that were reported.
+//! What each front holds: a session, the document that its scenes come from, labels, and the lines that were reported.
 //!
 //! Coordinates are whole thousandths of a GML unit. No call starts a thread but those that have `workers`.
 #![tactic(auto)]
@@ -8,10 +8,13 @@ mod changes;
 mod commands;
 mod drawing;
 mod fault;
+mod labels;
 mod lines;
 mod script;
 
 pub use asking::Compared;
 pub use drawing::Drawing;
 pub use fault::OpenFault;
+pub use gml_scene::LabelFault;
+pub use labels::Labelled;
 pub use script::{Stopped, Why};

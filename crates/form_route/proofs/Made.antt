@@ -8,6 +8,7 @@ use Rattle.scene_model.specs.declared.edit.Command.{Command}
 use Rattle.scene_model.specs.Scene.{Scene, connectors}
 use Rattle.scene_model.specs.World.{World, opened}
 use Rattle.report_text.specs.declared.reply.LineReply.{LineReply}
+use Rattle.gml_scene.specs.Labels.{no_labels}
 use Rattle.gml_scene.specs.Tree.{tree_of}
 use Rattle.script_replay.specs.Replies.{AreReplies, searched_in, world_after}
 use Rattle.form_route.specs.Diagram.{IsOutput}
@@ -43,7 +44,7 @@ module _ (tree : Pairs) (s : Scene) (commands : List (ℕ × Command)) (count : 
       are_lines = subst (λ (v : World). AreLines v.present answers is_output.lines) same is_output.are_lines;
       is_text =
           is_output.is_text
-          ∙ (λ i. report count (is_opening i) replies (same i) answers ++ printed (tree_of tree s (same i).present is_output.lines));
+          ∙ (λ i. report count (is_opening i) replies (same i) answers ++ printed (tree_of tree s (same i).present no_labels is_output.lines));
       is_refused = ap (has_refusal replies) same;
       is_searched = searched_is;
       is_unrouted = ap (λ (v : World). unrouted_in v.present answers) same;

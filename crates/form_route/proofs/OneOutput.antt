@@ -9,6 +9,7 @@ use Rattle.scene_model.specs.Answers.{HaveOneList}
 use Rattle.scene_model.specs.Scene.{Scene, connectors}
 use Rattle.scene_model.specs.Valid.{IsValid}
 use Rattle.scene_model.specs.World.{IsDirectedCommand, ScenesStayValid, opened}
+use Rattle.gml_scene.specs.Labels.{no_labels}
 use Rattle.gml_scene.specs.Tree.{tree_of}
 use Rattle.nudge_phases.specs.Nudged.{HaveOneNudged}
 use Rattle.script_replay.specs.Replies.{AreDirected, HaveOneListOfReplies, searched_in, world_after}
@@ -37,7 +38,7 @@ module _ (one_replies : HaveOneListOfReplies) (one_answers : HaveOneList) (stay 
       let lines = same_lines w.present a.answers a.lines b.lines (ends_valid s commands stay valid directed) a.are_lines
       (subst (λ (found : List Answer). AreLines w.present found b.lines) (sym answers) b.are_lines) in
       record {
-        same_text = a.is_text ∙ (λ i. report count (length (connectors s)) (replies i) w (answers i) ++ printed (tree_of tree s w.present (lines i))) ∙ sym b.is_text;
+        same_text = a.is_text ∙ (λ i. report count (length (connectors s)) (replies i) w (answers i) ++ printed (tree_of tree s w.present no_labels (lines i))) ∙ sym b.is_text;
         same_verdict = a.is_refused ∙ ap (λ rs. has_refusal rs w) replies ∙ sym b.is_refused;
         same_count = a.is_searched ∙ ap (λ rs. length (connectors s) + searched_in rs) replies ∙ sym b.is_searched;
         same_unrouted = a.is_unrouted ∙ ap (unrouted_in w.present) answers ∙ sym b.is_unrouted;

@@ -11,6 +11,7 @@ use Rattle.scene_model.specs.Valid.{IsValid}
 use Rattle.scene_model.specs.Answers.{AreAnswers}
 use Rattle.scene_model.specs.World.{opened}
 use Rattle.report_text.specs.declared.reply.LineReply.{LineReply}
+use Rattle.gml_scene.specs.Labels.{no_labels}
 use Rattle.gml_scene.specs.Tree.{tree_of}
 use Rattle.nudge_phases.specs.Nudged.{IsNudgedScene}
 use Rattle.script_replay.specs.Replies.{AreDirected, AreReplies, searched_in, world_after}
@@ -33,7 +34,7 @@ pub record Routes (tree : Pairs) (s : Scene) (commands : List (ℕ × Command)) 
   pub are_replies : AreReplies (opened s) commands replies
   pub are_lines : AreLines (world_after s commands).present answers lines
   pub is_text : text ≡ report count (length (connectors s)) replies (world_after s commands) answers
-      ++ printed (tree_of tree s (world_after s commands).present lines)
+      ++ printed (tree_of tree s (world_after s commands).present no_labels lines)
   pub is_refused : refused ≡ has_refusal replies (world_after s commands)
   pub is_searched : searched ≡ length (connectors s) + searched_in replies
   pub is_unrouted : unrouted ≡ unrouted_in (world_after s commands).present answers

@@ -3,13 +3,14 @@ ghost use Rattle.std.specs.Prelude.{◌≡◌, ◌<◌, ◌≤◌, ◌^◌, IfOk
 ghost use Rattle.gml_text.specs.Printed.{IsPrintable};
 ghost use Rattle.gml_text.specs.View.{tree};
 ghost use Rattle.gml_scene.specs.Origins.{AreEdgesOf, AreNodesOf, AreRoutesOf};
+ghost use Rattle.gml_scene.specs.Labels.{no_labels};
 ghost use Rattle.diagram_read.specs.Scene.{scene_of};
 ghost use Rattle.script_replay.specs.Replies.{AreDirected};
 ghost use Rattle.form_route.specs.Diagram.{EndsInDiagram, IsDiagram, IsOutput};
 ghost use Rattle.form_route.specs.Routes.{AreLines, Replays};
 
 use crate::report::{hint_of, report, status_of};
-use gml_scene::put_routes;
+use gml_scene::{Labels, put_routes};
 use gml_text::{Doc, push_printed};
 use par_route::Gate;
 use report_text::{LineReply, Outcome};
@@ -88,25 +89,12 @@ fn output(
         IsOutput (tree doc.now) was count opening replies.now session.now.world session.now.book text.items)) }
 {
     let mut text = report(alloc, count, opening, replies, session)?;
-    push_diagram(alloc, &mut text, doc, session)?;
+    push_unlabelled(alloc, &mut text, doc, session)?;
     Ok(text)
 }
 
-/// The printed document of the session's present scene, with its nudged lines.
-pub fn printed_diagram(alloc: Global, doc: &Doc, session: &Session) -> Result<Vec<u8>, AllocError>
-    requires source { IsOk (scene_of (tree doc.now)) }
-    requires nodes { IfOk (scene_of (tree doc.now)) (λ was. AreNodesOf was session.now.world.present) }
-    requires edges { IfOk (scene_of (tree doc.now)) (λ was. AreEdgesOf was session.now.world.present) }
-    requires printable { IsPrintable (tree doc.now) }
-    ensures { IfOk result (λ text. IfOk (scene_of (tree doc.now)) (λ was. IsDiagram (tree doc.now) was session.now.world.present session.now.book text.items)) }
-{
-    let mut text = Vec::new(alloc);
-    push_diagram(alloc, &mut text, doc, session)?;
-    Ok(text)
-}
-
-/// Appends the printed document of the session's present scene, with its nudged lines.
-fn push_diagram(
+/// Appends the printed document of the session's present scene, with its nudged lines and without labels.
+fn push_unlabelled(
     alloc: Global,
     text: &mut Vec<u8>,
     doc: &Doc,
@@ -116,19 +104,57 @@ fn push_diagram(
     requires nodes { IfOk (scene_of (tree doc.now)) (λ was. AreNodesOf was session.now.world.present) }
     requires edges { IfOk (scene_of (tree doc.now)) (λ was. AreEdgesOf was session.now.world.present) }
     requires printable { IsPrintable (tree doc.now) }
-    ensures { OnOk result (IfOk (scene_of (tree doc.now)) (λ was. EndsInDiagram (tree doc.now) was session.now.world.present session.now.book text.old.items text.new.items)) }
+    ensures { OnOk result (IfOk (scene_of (tree doc.now)) (λ was.
+        EndsInDiagram (tree doc.now) was session.now.world.present no_labels session.now.book text.old.items text.new.items)) }
+{
+    let labels = Labels::none(alloc);
+    push_diagram(alloc, text, doc, &labels, session)
+}
+
+/// The printed document of the session's present scene, with the labels of what edits added and its nudged lines.
+pub fn printed_diagram(
+    alloc: Global,
+    doc: &Doc,
+    labels: &Labels,
+    session: &Session,
+) -> Result<Vec<u8>, AllocError>
+    requires source { IsOk (scene_of (tree doc.now)) }
+    requires nodes { IfOk (scene_of (tree doc.now)) (λ was. AreNodesOf was session.now.world.present) }
+    requires edges { IfOk (scene_of (tree doc.now)) (λ was. AreEdgesOf was session.now.world.present) }
+    requires printable { IsPrintable (tree doc.now) }
+    ensures { IfOk result (λ text. IfOk (scene_of (tree doc.now)) (λ was. IsDiagram (tree doc.now) was session.now.world.present labels.now session.now.book text.items)) }
+{
+    let mut text = Vec::new(alloc);
+    push_diagram(alloc, &mut text, doc, labels, session)?;
+    Ok(text)
+}
+
+/// Appends the printed document of the session's present scene, with these labels and its nudged lines.
+fn push_diagram(
+    alloc: Global,
+    text: &mut Vec<u8>,
+    doc: &Doc,
+    labels: &Labels,
+    session: &Session,
+) -> Result<(), AllocError>
+    requires source { IsOk (scene_of (tree doc.now)) }
+    requires nodes { IfOk (scene_of (tree doc.now)) (λ was. AreNodesOf was session.now.world.present) }
+    requires edges { IfOk (scene_of (tree doc.now)) (λ was. AreEdgesOf was session.now.world.present) }
+    requires printable { IsPrintable (tree doc.now) }
+    ensures { OnOk result (IfOk (scene_of (tree doc.now)) (λ was. EndsInDiagram (tree doc.now) was session.now.world.present labels.now session.now.book text.old.items text.new.items)) }
 {
     let scene = session.scene();
     scene.valid();
     let nudged = session.nudged()?;
-    push_lines(alloc, text, doc, session, &nudged.routes)
+    push_lines(alloc, text, doc, labels, session, &nudged.routes)
 }
 
-/// Appends the printed document of the session's present scene, with these lines.
+/// Appends the printed document of the session's present scene, with these labels and lines.
 fn push_lines(
     alloc: Global,
     text: &mut Vec<u8>,
     doc: &Doc,
+    labels: &Labels,
     session: &Session,
     lines: &[WrittenRoute],
 ) -> Result<(), AllocError>
@@ -138,8 +164,8 @@ fn push_lines(
     requires routes { AreRoutesOf session.now.world.present lines.now }
     requires lines { AreLines session.now.world.present session.now.book lines.now }
     requires printable { IsPrintable (tree doc.now) }
-    ensures { OnOk result (IfOk (scene_of (tree doc.now)) (λ was. EndsInDiagram (tree doc.now) was session.now.world.present session.now.book text.old.items text.new.items)) }
+    ensures { OnOk result (IfOk (scene_of (tree doc.now)) (λ was. EndsInDiagram (tree doc.now) was session.now.world.present labels.now session.now.book text.old.items text.new.items)) }
 {
-    let routed = put_routes(alloc, doc, session.scene(), lines)?;
+    let routed = put_routes(alloc, doc, session.scene(), labels, lines)?;
     push_printed(text, &routed)
 }

@@ -5,6 +5,7 @@ pub mod Walks
 pub mod LinesPut
 pub mod KeptParts
 pub mod Numerals
+pub mod Labelling
 pub mod Fitting
 pub mod Printable
 pub mod OriginsKept

@@ -119,7 +119,7 @@ abbrev has_list : List ℕ → Pair → Bool
 has_list key p = bytes_eq (entry p).0 key && is_list (entry p).1
 
 -- the place is that of the first pair, or one more than that in the rest
-placed : (b : Bool) (o : Option ℕ) (i : ℕ) → (if b then Some 0 else option_map suc o) ≡ Some i → ((b ≡ true) × (i ≡ 0)) ⊎ ((b ≡ false) × IsOneMore o i)
+pub placed : (b : Bool) (o : Option ℕ) (i : ℕ) → (if b then Some 0 else option_map suc o) ≡ Some i → ((b ≡ true) × (i ≡ 0)) ⊎ ((b ≡ false) × IsOneMore o i)
 placed true o i is = inl (refl, sym (same_Some 0 i is))
 placed false o i is = inr (refl, one_more o i is)
 

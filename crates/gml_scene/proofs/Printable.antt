@@ -1,10 +1,11 @@
 -- The tree of a scene and its routes may be printed where the diagram's may.
-use Rattle.std.proofs.Common.{ℕ, suc, Bool, List, Option, Some, None, refl, arith}
+use Rattle.std.proofs.Common.{ℕ, suc, Bool, List, [], ◌∷◌, Option, Some, None, refl, arith}
 use Rattle.std.specs.Prelude.{ℤ, pos, ◌*ℤ◌, ◌==◌, codes, bytes_eq, is_none, is_some, filter}
 use Rattle.std.specs.Cmp.Lexicographic.{pointwise}
 use Rattle.std.specs.Ordering.{int_eq}
 use Rattle.plane_geom.specs.declared.point.Point.{Point}
-use Rattle.gml_text.specs.Grammar.{IsKey}
+use Rattle.gml_text.specs.Bytes.{quote}
+use Rattle.gml_text.specs.Grammar.{IsKey, Lacks}
 use Rattle.gml_text.specs.Tree.{Content, number, text, list, Pairs, no_pairs, pair}
 use Rattle.gml_text.specs.Printed.{IsPrintable}
 use Rattle.walk_model.specs.declared.route.WrittenRoute.{WrittenRoute}
@@ -16,11 +17,13 @@ use Rattle.scene_model.specs.Scene.{Scene, default_settings, is_loop}
 use Rattle.scene_model.specs.Letters.{letters}
 use Rattle.diagram_read.specs.Values.{list_at}
 use Rattle.gml_scene.specs.Changes.{one}
-use Rattle.gml_scene.specs.Forms.{length_content, class_content, id_content, point_pairs, cost_pairs, pin_pairs, pin_pair, via_pair, line_point, line_content, line_pairs, box_pairs, node_pair, node_pairs, class_pairs, edge_pairs, edge_pair, settings_pairs}
+use Rattle.gml_scene.specs.Forms.{length_content, class_content, id_content, point_pairs, cost_pairs, pin_pairs, pin_pair, via_pair, line_point, line_content, line_pairs, box_pairs, label_pairs, node_pair, node_pairs, class_pairs, edge_pairs, edge_pair, settings_pairs}
+use Rattle.gml_scene.specs.Labels.{AreQuotable, LabelLists, given_label}
 use Rattle.gml_scene.specs.Nodes.{pin_eq, put_length, put_box, put_pins, node_again}
 use Rattle.gml_scene.specs.Edges.{point_eq, put_class, put_via, put_line_in, put_line, edge_again}
 use Rattle.gml_scene.specs.Tree.{line_for, node_from, edge_from, kept_node, kept_edge, kept, kept_from, put_settings, settings_eq, router_pairs, appended, graph_again, tree_of}
 use Rattle.gml_scene.proofs.Numerals.{decimal_number, signed_decimal_number, milli_number, letters_lack}
+use Rattle.gml_scene.proofs.Labelling.{labels_lack}
 use Rattle.gml_scene.proofs.Fitting.{Fits, FitsValue, Keeps, none_fit, one_fits, number_fits, text_fits, list_fits, then_fits, all_fit, choice_fits, put_fits, without_fits, put_only_fits, change_fits}
 
 length_fits : (d : ℕ) (key : List ℕ) (z : ℤ) → IsKey key → Fits d (one key (length_content z))
@@ -71,26 +74,32 @@ box_fits d n =
     (then_fits d _ _ (length_fits d (codes "w") (pos 2 *ℤ n.half_w) (refl, refl))
     (length_fits d (codes "h") (pos 2 *ℤ n.half_h) (refl, refl))))
 
-node_fits : (d : ℕ) (n : Node) → Fits (suc (suc d)) (node_pair n)
-node_fits d n =
-    inner_fits (suc d) (codes "node") (node_pairs n) (refl, refl)
+label_fits : (d : ℕ) (label : List ℕ) → Lacks quote label → Fits d (label_pairs label)
+label_fits d [] lacks = none_fit d
+label_fits d (b ∷ bytes) lacks = one_fits d (codes "label") (text (b ∷ bytes)) (refl, refl) (text_fits d (b ∷ bytes) lacks)
+
+node_fits : (d : ℕ) (label : List ℕ) (n : Node) → Lacks quote label → Fits (suc (suc d)) (node_pair label n)
+node_fits d label n lacks =
+    inner_fits (suc d) (codes "node") (node_pairs label n) (refl, refl)
     (then_fits (suc d) _ _ (id_fits (suc d) (codes "id") n.id (refl, refl))
+    (then_fits (suc d) _ _ (label_fits (suc d) label lacks)
     (then_fits (suc d) _ _ (inner_fits d (codes "graphics") (box_pairs n) (refl, refl) (box_fits d n))
-    (all_fit (suc d) pin_pair n.pins (pin_fits d))))
+    (all_fit (suc d) pin_pair n.pins (pin_fits d)))))
 
 end_class_fits : (d : ℕ) (key : List ℕ) (class : ℕ) → IsKey key → Fits d (class_pairs key class)
 end_class_fits d key class is_key = choice_fits d (class == 0) no_pairs _ (none_fit d) (class_fits d key class is_key)
 
-edge_fits : (d : ℕ) (line : Option (List Point)) (e : Edge) → Fits (suc (suc (suc (suc d)))) (edge_pair line e)
-edge_fits d line e =
+edge_fits : (d : ℕ) (label : List ℕ) (line : Option (List Point)) (e : Edge) → Lacks quote label → Fits (suc (suc (suc (suc d)))) (edge_pair label line e)
+edge_fits d label line e lacks =
     let deep = suc (suc (suc d)) in
-    inner_fits deep (codes "edge") (edge_pairs line e) (refl, refl)
+    inner_fits deep (codes "edge") (edge_pairs label line e) (refl, refl)
     (then_fits deep _ _ (id_fits deep (codes "source") e.from (refl, refl))
     (then_fits deep _ _ (id_fits deep (codes "target") e.to (refl, refl))
+    (then_fits deep _ _ (label_fits deep label lacks)
     (then_fits deep _ _ (end_class_fits deep (codes "sourcePin") e.from_class (refl, refl))
     (then_fits deep _ _ (end_class_fits deep (codes "targetPin") e.to_class (refl, refl))
     (then_fits deep _ _ (all_fit deep via_pair e.via (via_fits (suc (suc d))))
-    (graphics_fits d line))))))
+    (graphics_fits d line)))))))
 
 settings_fit : (d : ℕ) (t : Settings) → Fits d (settings_pairs t)
 settings_fit d t =
@@ -189,21 +198,29 @@ put_settings_fits d was t ps fits =
 router_fits : (d : ℕ) (t : Settings) → Fits (suc d) (router_pairs t)
 router_fits d t = choice_fits (suc d) (settings_eq t default_settings) no_pairs _ (none_fit (suc d)) (inner_fits d (codes "router") (settings_pairs t) (refl, refl) (settings_fit d t))
 
-appended_fits : (d : ℕ) (s : Scene) (routes : List WrittenRoute) (has_router : Bool) → Fits (deep d) (appended s routes has_router)
-appended_fits d s routes has_router =
-    then_fits (deep d) _ _ (choice_fits (deep d) has_router no_pairs _ (none_fit (deep d)) (router_fits (suc (suc (suc d))) s.settings))
-    (then_fits (deep d) _ _
-    (all_fit (deep d) node_pair (filter (λ n. is_none n.origin) s.nodes) (node_fits (suc (suc d))))
-    (all_fit (deep d) (λ (e : Edge). edge_pair (line_for routes e.number) e) (filter (λ e. is_none e.origin) s.edges) (λ e. edge_fits d (line_for routes e.number) e)))
+module _ (labels : LabelLists) (quotable : AreQuotable labels) where
+  new_node_fits : (d : ℕ) (n : Node) → Fits (suc (suc d)) (node_pair (given_label labels.nodes n.id) n)
+  new_node_fits d n = node_fits d (given_label labels.nodes n.id) n (labels_lack labels.nodes n.id quotable.nodes)
 
-graph_again_fits : (d : ℕ) (was s : Scene) (routes : List WrittenRoute) → Keeps (deep d) (graph_again was s routes)
-graph_again_fits d was s routes graph fits =
-    then_fits (deep d) _ _
-    (change_fits (suc (suc (suc d))) (codes "router") (put_settings was.settings s.settings) _ (put_settings_fits (suc (suc (suc d))) was.settings s.settings) (kept_from_fits d was s routes 0 graph fits))
-    (appended_fits d s routes (is_some (list_at (codes "router") graph)))
+  new_edge_fits : (d : ℕ) (line : Option (List Point)) (e : Edge) → Fits (deep d) (edge_pair (given_label labels.edges (pos e.number)) line e)
+  new_edge_fits d line e = edge_fits d (given_label labels.edges (pos e.number)) line e (labels_lack labels.edges (pos e.number) quotable.edges)
 
--- the law that is proved here
-pub printable_again : (tree : Pairs) (was s : Scene) (routes : List WrittenRoute) → IsPrintable tree → IsPrintable (tree_of tree was s routes)
-printable_again tree was s routes printable =
-    let fits = change_fits 63 (codes "graph") (graph_again was s routes) tree (graph_again_fits 59 was s routes) (record { grammatical = printable.grammatical; within = printable.within_limit }) in
-    record { grammatical = fits.grammatical; within_limit = fits.within }
+  appended_fits : (d : ℕ) (s : Scene) (routes : List WrittenRoute) (has_router : Bool) → Fits (deep d) (appended s labels routes has_router)
+  appended_fits d s routes has_router =
+      then_fits (deep d) _ _ (choice_fits (deep d) has_router no_pairs _ (none_fit (deep d)) (router_fits (suc (suc (suc d))) s.settings))
+      (then_fits (deep d) _ _
+      (all_fit (deep d) (λ (n : Node). node_pair (given_label labels.nodes n.id) n) (filter (λ n. is_none n.origin) s.nodes) (new_node_fits (suc (suc d))))
+      (all_fit (deep d) (λ (e : Edge). edge_pair (given_label labels.edges (pos e.number)) (line_for routes e.number) e) (filter (λ e. is_none e.origin) s.edges)
+      (λ e. new_edge_fits d (line_for routes e.number) e)))
+
+  graph_again_fits : (d : ℕ) (was s : Scene) (routes : List WrittenRoute) → Keeps (deep d) (graph_again was s labels routes)
+  graph_again_fits d was s routes graph fits =
+      then_fits (deep d) _ _
+      (change_fits (suc (suc (suc d))) (codes "router") (put_settings was.settings s.settings) _ (put_settings_fits (suc (suc (suc d))) was.settings s.settings) (kept_from_fits d was s routes 0 graph fits))
+      (appended_fits d s routes (is_some (list_at (codes "router") graph)))
+
+  -- the law that is proved here
+  pub printable_again : (tree : Pairs) (was s : Scene) (routes : List WrittenRoute) → IsPrintable tree → IsPrintable (tree_of tree was s labels routes)
+  printable_again tree was s routes printable =
+      let fits = change_fits 63 (codes "graph") (graph_again was s labels routes) tree (graph_again_fits 59 was s routes) (record { grammatical = printable.grammatical; within = printable.within_limit }) in
+      record { grammatical = fits.grammatical; within_limit = fits.within }

@@ -1,5 +1,5 @@
 -- The forms in which numbers, points, lines, pins, settings, and whole nodes and edges are written.
-use Rattle.std.specs.Prelude.{ℕ, ◌==◌, ℤ, pos, ◌*ℤ◌, List, codes, decimal, Option, Some, None, if◌then◌else◌}
+use Rattle.std.specs.Prelude.{ℕ, ◌==◌, ℤ, pos, ◌*ℤ◌, List, [], ◌∷◌, codes, decimal, Option, Some, None, if◌then◌else◌}
 use Rattle.std.specs.Ordering.{int_eq}
 use Rattle.std.specs.Fmt.{signed_decimal}
 use Rattle.plane_geom.specs.declared.point.Point.{Point}
@@ -66,27 +66,36 @@ box_pairs n =
     then (one (codes "w") (length_content (pos 2 *ℤ n.half_w))
     then one (codes "h") (length_content (pos 2 *ℤ n.half_h))))
 
-abbrev pub node_pairs : Node → Pairs
-node_pairs n = one (codes "id") (id_content n.id) then (one (codes "graphics") (list (box_pairs n)) then all_of pin_pair n.pins)
+-- the pair of a label; none if it is empty
+abbrev pub label_pairs : List ℕ → Pairs
+label_pairs [] = no_pairs
+label_pairs (b ∷ bytes) = one (codes "label") (text (b ∷ bytes))
 
-abbrev pub node_pair : Node → Pairs
-node_pair n = one (codes "node") (list (node_pairs n))
+abbrev pub node_pairs : List ℕ → Node → Pairs
+node_pairs label n =
+    one (codes "id") (id_content n.id)
+    then (label_pairs label
+    then (one (codes "graphics") (list (box_pairs n)) then all_of pin_pair n.pins))
+
+abbrev pub node_pair : List ℕ → Node → Pairs
+node_pair label n = one (codes "node") (list (node_pairs label n))
 
 -- the pair of a class of an edge's end; none if it is 0
 abbrev pub class_pairs : List ℕ → ℕ → Pairs
 class_pairs key class = if class == 0 then no_pairs else one key (class_content class)
 
-abbrev pub edge_pairs : Option (List Point) → Edge → Pairs
-edge_pairs line e =
+abbrev pub edge_pairs : List ℕ → Option (List Point) → Edge → Pairs
+edge_pairs label line e =
     one (codes "source") (id_content e.from)
     then (one (codes "target") (id_content e.to)
+    then (label_pairs label
     then (class_pairs (codes "sourcePin") e.from_class
     then (class_pairs (codes "targetPin") e.to_class
     then (all_of via_pair e.via
-    then line_pairs line))))
+    then line_pairs line)))))
 
-abbrev pub edge_pair : Option (List Point) → Edge → Pairs
-edge_pair line e = one (codes "edge") (list (edge_pairs line e))
+abbrev pub edge_pair : List ℕ → Option (List Point) → Edge → Pairs
+edge_pair label line e = one (codes "edge") (list (edge_pairs label line e))
 
 abbrev pub settings_pairs : Settings → Pairs
 settings_pairs t =

@@ -1,5 +1,6 @@
 -- The definitions that contracts cite.
 pub mod Changes
+pub mod Labels
 pub mod Forms
 pub mod Nodes
 pub mod Edges

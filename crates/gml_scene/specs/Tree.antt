@@ -1,5 +1,5 @@
 -- The tree of a scene and its routes: the diagram's tree, changed only where the scene differs from it.
-use Rattle.std.specs.Prelude.{ℕ, suc, ◌==◌, ◌&&◌, Bool, false, List, codes, bytes_eq, find, filter, if◌then◌else◌}
+use Rattle.std.specs.Prelude.{ℕ, suc, pos, ◌==◌, ◌&&◌, Bool, false, List, codes, bytes_eq, find, filter, if◌then◌else◌}
 use Rattle.std.specs.Prelude.{Option, Some, None, option_map, is_some, is_none}
 use Rattle.std.specs.Ordering.{int_eq}
 use Rattle.plane_geom.specs.declared.point.Point.{Point}
@@ -11,6 +11,7 @@ use Rattle.scene_model.specs.declared.settings.Settings.{Settings}
 use Rattle.scene_model.specs.Scene.{Scene, default_settings}
 use Rattle.diagram_read.specs.Values.{list_at}
 use Rattle.gml_scene.specs.Changes.{one, all_of, change_list}
+use Rattle.gml_scene.specs.Labels.{LabelLists, given_label}
 use Rattle.gml_scene.specs.Forms.{node_pair, edge_pair, settings_pairs}
 use Rattle.gml_scene.specs.Nodes.{node_again, put_length}
 use Rattle.gml_scene.specs.Edges.{edge_again}
@@ -71,24 +72,25 @@ settings_eq a b = int_eq a.penalty b.penalty && int_eq a.buffer b.buffer && int_
 abbrev pub router_pairs : Settings → Pairs
 router_pairs t = if settings_eq t default_settings then no_pairs else one (codes "router") (list (settings_pairs t))
 
--- the pairs of the nodes, and of the edges, that a script added
-abbrev pub new_nodes : List Node → Pairs
-new_nodes nodes = all_of node_pair (filter (λ n. is_none n.origin) nodes)
+-- the pairs of the nodes, and of the edges, that edits added, with their labels
+abbrev pub new_nodes : LabelLists → List Node → Pairs
+new_nodes labels nodes = all_of (λ n. node_pair (given_label labels.nodes n.id) n) (filter (λ n. is_none n.origin) nodes)
 
-abbrev pub new_edges : List WrittenRoute → List Edge → Pairs
-new_edges routes edges = all_of (λ e. edge_pair (line_for routes e.number) e) (filter (λ e. is_none e.origin) edges)
+abbrev pub new_edges : LabelLists → List WrittenRoute → List Edge → Pairs
+new_edges labels routes edges =
+    all_of (λ e. edge_pair (given_label labels.edges (pos e.number)) (line_for routes e.number) e) (filter (λ e. is_none e.origin) edges)
 
 -- the pairs that are appended to the graph list
-abbrev pub appended : Scene → List WrittenRoute → Bool → Pairs
-appended s routes has_router =
+abbrev pub appended : Scene → LabelLists → List WrittenRoute → Bool → Pairs
+appended s labels routes has_router =
     (if has_router then no_pairs else router_pairs s.settings)
-    then (new_nodes s.nodes then new_edges routes s.edges)
+    then (new_nodes labels s.nodes then new_edges labels routes s.edges)
 
-abbrev pub graph_again : Scene → Scene → List WrittenRoute → Pairs → Pairs
-graph_again was s routes graph =
+abbrev pub graph_again : Scene → Scene → LabelLists → List WrittenRoute → Pairs → Pairs
+graph_again was s labels routes graph =
     change_list (codes "router") (put_settings was.settings s.settings) (kept_from was s routes 0 graph)
-    then appended s routes (is_some (list_at (codes "router") graph))
+    then appended s labels routes (is_some (list_at (codes "router") graph))
 
--- the tree of a scene with these routes, where `was` is the scene that is read from the diagram's tree
-abbrev pub tree_of : Pairs → Scene → Scene → List WrittenRoute → Pairs
-tree_of tree was s routes = change_list (codes "graph") (graph_again was s routes) tree
+-- the tree of a scene with these labels and routes, where `was` is the scene that is read from the diagram's tree
+abbrev pub tree_of : Pairs → Scene → Scene → LabelLists → List WrittenRoute → Pairs
+tree_of tree was s labels routes = change_list (codes "graph") (graph_again was s labels routes) tree

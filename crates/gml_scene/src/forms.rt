@@ -6,8 +6,8 @@ ghost use Rattle.gml_text.specs.View.{content, pairs};
 ghost use Rattle.scene_model.specs.Letters.{letters};
 ghost use Rattle.scene_model.specs.Valid.{IsNode};
 ghost use Rattle.gml_scene.specs.Changes.{all_of, one};
-ghost use Rattle.gml_scene.specs.Forms.{box_pairs, class_content, class_pairs, cost_pairs, edge_pair, id_content, length_content, line_content};
-ghost use Rattle.gml_scene.specs.Forms.{line_pairs, node_pair, pin_pair, pin_pairs, point_pairs, settings_pairs, via_pair};
+ghost use Rattle.gml_scene.specs.Forms.{box_pairs, class_content, class_pairs, cost_pairs, edge_pair, id_content, label_pairs, length_content};
+ghost use Rattle.gml_scene.specs.Forms.{line_content, line_pairs, node_pair, pin_pair, pin_pairs, point_pairs, settings_pairs, via_pair};
 
 use crate::changes::push;
 use crate::copies::bytes_of;
@@ -154,13 +154,29 @@ fn box_of(alloc: Global, node: &Node) -> Result<Value, AllocError>
     Ok(Value::List(list))
 }
 
+/// Appends a label, if it is not empty.
+fn push_label(alloc: Global, list: &mut Vec<Pair>, label: &[u8]) -> Result<(), AllocError>
+    ensures { OnOk result (pairs list.new.items ≡ pairs list.old.items then label_pairs label.now) }
+{
+    if label.is_empty() {
+        return Ok(());
+    }
+    push(alloc, list, b"label", Value::Text(bytes_of(alloc, label)?))
+}
+
 /// Appends a whole node.
-pub(crate) fn push_node(alloc: Global, list: &mut Vec<Pair>, node: &Node) -> Result<(), AllocError>
+pub(crate) fn push_node(
+    alloc: Global,
+    list: &mut Vec<Pair>,
+    node: &Node,
+    label: &[u8],
+) -> Result<(), AllocError>
     requires { IsNode node.now }
-    ensures { OnOk result (pairs list.new.items ≡ pairs list.old.items then node_pair node.now) }
+    ensures { OnOk result (pairs list.new.items ≡ pairs list.old.items then node_pair label.now node.now) }
 {
     let mut inner = Vec::new(alloc);
     push(alloc, &mut inner, b"id", id_of(alloc, node.id)?)?;
+    push_label(alloc, &mut inner, label)?;
     push(alloc, &mut inner, b"graphics", box_of(alloc, node)?)?;
     push_pins(alloc, &mut inner, node.pins.as_slice())?;
     push(alloc, list, b"node", Value::List(inner))
@@ -197,13 +213,15 @@ pub(crate) fn push_edge(
     alloc: Global,
     list: &mut Vec<Pair>,
     edge: &Edge,
+    label: &[u8],
     line: Option<&[Point]>,
 ) -> Result<(), AllocError>
-    ensures { OnOk result (pairs list.new.items ≡ pairs list.old.items then edge_pair (option_map (λ l. l.now) line.entry) edge.now) }
+    ensures { OnOk result (pairs list.new.items ≡ pairs list.old.items then edge_pair label.now (option_map (λ l. l.now) line.entry) edge.now) }
 {
     let mut inner = Vec::new(alloc);
     push(alloc, &mut inner, b"source", id_of(alloc, edge.from)?)?;
     push(alloc, &mut inner, b"target", id_of(alloc, edge.to)?)?;
+    push_label(alloc, &mut inner, label)?;
     push_class(alloc, &mut inner, b"sourcePin", edge.from_class)?;
     push_class(alloc, &mut inner, b"targetPin", edge.to_class)?;
     push_via(alloc, &mut inner, edge.via.as_slice())?;

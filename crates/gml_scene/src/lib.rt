@@ -9,6 +9,7 @@ mod changes;
 mod copies;
 mod edges;
 mod forms;
+mod labels;
 mod laws;
 mod nodes;
 mod settings;
@@ -18,5 +19,6 @@ pub use diagram_read::{
     DiagramFault, Part, first_faults_count, line_of, numbers_agree, others_are_passed_over,
     scene_of,
 };
+pub use labels::{Label, LabelFault, Labels};
 pub use laws::{edits_keep_origins, own_scenes_fit};
 pub use tree::put_routes;

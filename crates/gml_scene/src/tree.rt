@@ -15,6 +15,7 @@ use crate::changes::{has_key, has_list, list_place, push};
 use crate::copies::{copy_pairs, copy_value, push_copies, push_copy};
 use crate::edges::edge_again;
 use crate::forms::{push_edge, push_node};
+use crate::labels::Labels;
 use crate::nodes::node_again;
 use crate::settings::{push_settings, put_settings};
 use diagram_read::scene_of;
@@ -25,7 +26,7 @@ use scene_store::Scene;
 use std::alloc::{AllocError, Global};
 use walk_model::WrittenRoute;
 
-/// The document of a scene with its routes: the tree of the diagram that the scene comes from,
+/// The document of a scene with its labels and routes: the tree of the diagram that the scene comes from,
 /// changed only where the scene differs from the diagram.
 ///
 /// The document has to be a diagram, and each node and edge of the scene with an origin has to be
@@ -40,7 +41,7 @@ use walk_model::WrittenRoute;
 /// - A node or an edge that the scene no longer has is removed.
 /// - Settings are replaced in the first `router` list; if there is none and a setting is not the
 ///   default one, a `router` is appended.
-/// - Nodes and then edges without an origin are appended.
+/// - Nodes and then edges without an origin are appended, each with its label, if one is given.
 ///
 /// Everything else stays byte for byte. The recursion is as deep as the document's lists nest, at
 /// most 64 for a document that `gml_text::parse` returns. The only error is out of memory.
@@ -48,17 +49,20 @@ pub fn put_routes(
     alloc: Global,
     doc: &Doc,
     scene: &Scene,
+    labels: &Labels,
     routes: &[WrittenRoute],
 ) -> Result<Doc, AllocError>
     requires source { IsOk (scene_of (tree doc.now)) }
     requires nodes { IfOk (scene_of (tree doc.now)) (λ was. AreNodesOf was scene.now) }
     requires edges { IfOk (scene_of (tree doc.now)) (λ was. AreEdgesOf was scene.now) }
     requires routes { AreRoutesOf scene.now routes.now }
-    ensures tree { IfOk result (λ d. IfOk (scene_of (tree doc.now)) (λ was. tree d ≡ tree_of (tree doc.now) was scene.now routes.now)) }
+    ensures tree { IfOk result (λ d. IfOk (scene_of (tree doc.now)) (λ was. tree d ≡ tree_of (tree doc.now) was scene.now labels.now routes.now)) }
 
     // So the result can be printed.
     ensures printable { IsPrintable (tree doc.now) → IfOk result (λ d. IsPrintable (tree d)) }
 {
+    // For the proof: labels are texts, so they may be printed.
+    labels.quotable();
     let Ok(was) = scene_of(alloc, doc) else {
         return Err(AllocError);
     };
@@ -66,18 +70,20 @@ pub fn put_routes(
         alloc,
         was: &was,
         scene,
+        labels,
         routes,
     };
     let pairs = change.tree_of(&doc.pairs)?;
     Ok(Doc { pairs })
 }
 
-/// A scene with its routes, and the scene that is read from its diagram.
+/// A scene with its labels and routes, and the scene that is read from its diagram.
 #[derive(Drop)]
 struct Change<'a> {
     alloc: Global,
     was: &'a Scene,
     scene: &'a Scene,
+    labels: &'a Labels,
     routes: &'a [WrittenRoute],
 }
 
@@ -106,21 +112,10 @@ fn is_at(place: usize, origin: Option<u32>) -> bool
     }
 }
 
-/// Appends a node, if a script added it.
-fn push_new_node(alloc: Global, out: &mut Vec<Pair>, node: &Node) -> Result<(), AllocError>
-    requires { IsNode node.now }
-    ensures { OnOk result (pairs out.new.items ≡ pairs out.old.items then new_nodes (node.now ∷ [])) }
-{
-    if node.origin.is_some() {
-        return Ok(());
-    }
-    push_node(alloc, out, node)
-}
-
 impl Change<'_> {
     /// The pairs of the document.
     fn tree_of(&self, tree: &[Pair]) -> Result<Vec<Pair>, AllocError>
-        ensures { IfOk result (λ v. pairs v.items ≡ tree_of (pairs tree.now) self.now.was.now self.now.scene.now self.now.routes.now) }
+        ensures { IfOk result (λ v. pairs v.items ≡ tree_of (pairs tree.now) self.now.was.now self.now.scene.now self.now.labels.now self.now.routes.now) }
     {
         let Some(index) = list_place(tree, b"graph") else {
             return copy_pairs(self.alloc, tree);
@@ -135,7 +130,7 @@ impl Change<'_> {
     /// Appends the graph, which is `value`.
     fn push_graph(&self, out: &mut Vec<Pair>, value: &Value) -> Result<(), AllocError>
         ensures { OnOk result (pairs out.new.items ≡ pairs out.old.items
-            then one (codes "graph") (change_inside (graph_again self.now.was.now self.now.scene.now self.now.routes.now) (content value.now))) }
+            then one (codes "graph") (change_inside (graph_again self.now.was.now self.now.scene.now self.now.labels.now self.now.routes.now) (content value.now))) }
     {
         let value = match value {
             Value::List(graph) => Value::List(self.graph_again(graph)?),
@@ -146,7 +141,7 @@ impl Change<'_> {
 
     /// The pairs of the graph list.
     fn graph_again(&self, graph: &[Pair]) -> Result<Vec<Pair>, AllocError>
-        ensures { IfOk result (λ v. pairs v.items ≡ graph_again self.now.was.now self.now.scene.now self.now.routes.now (pairs graph.now)) }
+        ensures { IfOk result (λ v. pairs v.items ≡ graph_again self.now.was.now self.now.scene.now self.now.labels.now self.now.routes.now (pairs graph.now)) }
     {
         let mut out = Vec::new(self.alloc);
         self.push_kept(&mut out, graph)?;
@@ -217,29 +212,41 @@ impl Change<'_> {
         Some(route.points.as_slice())
     }
 
-    /// Appends the nodes that a script added.
+    /// Appends a node with its label, if an edit added it.
+    fn push_new_node(&self, out: &mut Vec<Pair>, node: &Node) -> Result<(), AllocError>
+        requires { IsNode node.now }
+        ensures { OnOk result (pairs out.new.items ≡ pairs out.old.items then new_nodes self.now.labels.now (node.now ∷ [])) }
+    {
+        if node.origin.is_some() {
+            return Ok(());
+        }
+        push_node(self.alloc, out, node, self.labels.of_node(node.id))
+    }
+
+    /// Appends the nodes that edits added.
     fn push_new_nodes(&self, out: &mut Vec<Pair>) -> Result<(), AllocError>
-        ensures { OnOk result (pairs out.new.items ≡ pairs out.old.items then new_nodes self.now.scene.now.nodes) }
+        ensures { OnOk result (pairs out.new.items ≡ pairs out.old.items then new_nodes self.now.labels.now self.now.scene.now.nodes) }
     {
         for node in self.scene.nodes() {
-            push_new_node(self.alloc, out, node)?;
+            self.push_new_node(out, node)?;
         }
         Ok(())
     }
 
-    /// Appends an edge, if a script added it.
+    /// Appends an edge with its label, if an edit added it.
     fn push_new_edge(&self, out: &mut Vec<Pair>, edge: &Edge) -> Result<(), AllocError>
-        ensures { OnOk result (pairs out.new.items ≡ pairs out.old.items then new_edges self.now.routes.now (edge.now ∷ [])) }
+        ensures { OnOk result (pairs out.new.items ≡ pairs out.old.items then new_edges self.now.labels.now self.now.routes.now (edge.now ∷ [])) }
     {
         if edge.origin.is_some() {
             return Ok(());
         }
-        push_edge(self.alloc, out, edge, self.line_for(edge.number))
+        let label = self.labels.of_edge(edge.number);
+        push_edge(self.alloc, out, edge, label, self.line_for(edge.number))
     }
 
-    /// Appends the edges that a script added.
+    /// Appends the edges that edits added.
     fn push_new_edges(&self, out: &mut Vec<Pair>) -> Result<(), AllocError>
-        ensures { OnOk result (pairs out.new.items ≡ pairs out.old.items then new_edges self.now.routes.now self.now.scene.now.edges) }
+        ensures { OnOk result (pairs out.new.items ≡ pairs out.old.items then new_edges self.now.labels.now self.now.routes.now self.now.scene.now.edges) }
     {
         for edge in self.scene.edges() {
             self.push_new_edge(out, edge)?;

@@ -7,7 +7,7 @@ ghost use Rattle.scene_model.specs.Scene.{edge_with};
 ghost use Rattle.diagram_read.specs.Scene.{scene_of};
 ghost use Rattle.gml_scene.specs.Origins.{AreEdgesOf, AreNodesOf, AreRoutesOf};
 
-use gml_scene::{edits_keep_origins, own_scenes_fit, put_routes, scene_of};
+use gml_scene::{Labels, edits_keep_origins, own_scenes_fit, put_routes, scene_of};
 use gml_text::{Doc, parse, print};
 use plane_geom::{Point, Points};
 use scene_model::{Edit, Setting};
@@ -261,7 +261,7 @@ fn written(
     requires edges { IfOk (scene_of (tree doc.now)) (λ was. AreEdgesOf was scene.now) }
     requires routes { AreRoutesOf scene.now routes.now }
 {
-    let out = put_routes(alloc, doc, scene, routes)?;
+    let out = put_routes(alloc, doc, scene, &Labels::none(alloc), routes)?;
     print(alloc, &out)
 }
 

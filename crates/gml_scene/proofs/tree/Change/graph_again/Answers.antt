@@ -13,6 +13,7 @@ pub returns : goal.returns
 returns c =
     let was = c.args.self.now.was.now in
     let s = c.args.self.now.scene.now in
+    let labels = c.args.self.now.labels.now in
     let routes = c.args.self.now.routes.now in
     let graph = pairs c.args.graph.now in
     let all = kept_from was s routes 0 graph in
@@ -30,5 +31,5 @@ returns c =
     ∙ ap (λ b. set then (if b then no_pairs else router_pairs c.settings-settings.result)) c.has_list-has_router.ensures
     ∙ ap (λ t. set then (if has then no_pairs else router_pairs t)) c.settings-settings.ensures.value in
     put_together set (pairs c.push_settings.new.graph.items) (pairs c.push_new_nodes.new.out.items) (pairs c.push_new_edges.new.out.items)
-    (if has then no_pairs else router_pairs s.settings) (new_nodes s.nodes) (new_edges routes s.edges)
+    (if has then no_pairs else router_pairs s.settings) (new_nodes labels s.nodes) (new_edges labels routes s.edges)
     routed c.in_ok-push_new_nodes.ensures c.in_ok-push_new_edges.ensures

@@ -1,10 +1,11 @@
 -- Nothing is written of what has an origin.
 use Rattle.std.proofs.Common.{[], ◌∷◌, sym, ap, ◌∙◌}
-use Rattle.std.specs.Prelude.{cond}
+use Rattle.std.specs.Prelude.{cond, pos}
 use Rattle.gml_text.specs.View.{pairs}
 use Rattle.scene_model.specs.declared.edge.Edge.{Edge}
 use Rattle.gml_scene.specs.Changes.{all_of}
 use Rattle.gml_scene.specs.Forms.{edge_pair}
+use Rattle.gml_scene.specs.Labels.{given_label}
 use Rattle.gml_scene.specs.Tree.{line_for}
 use Rattle.gml_scene.proofs.KeptParts.{not_new}
 use Rattle.gml_scene.proofs.Walks.{nothing_after}
@@ -13,4 +14,4 @@ use Rattle.gml_scene.proofs.tree.Change.push_new_edge.Goals as goal
 pub returns-then-is_some : goal.returns-then-is_some
 returns-then-is_some c =
     let n = c.args.edge.now in
-    nothing_after (pairs c.args.out.now.items) _ (ap (λ b. all_of (λ (e : Edge). edge_pair (line_for c.args.self.now.routes.now e.number) e) (cond b (n ∷ []) [])) (not_new n.origin (sym c.is_some.ensures ∙ c.if-is_some.true)))
+    nothing_after (pairs c.args.out.now.items) _ (ap (λ b. all_of (λ (e : Edge). edge_pair (given_label c.args.self.now.labels.now.edges (pos e.number)) (line_for c.args.self.now.routes.now e.number) e) (cond b (n ∷ []) [])) (not_new n.origin (sym c.is_some.ensures ∙ c.if-is_some.true)))

@@ -7,5 +7,5 @@ use Rattle.gml_scene.proofs.tree.Change.push_new_edges.Given as goal
 
 abbrev pub invariant-loop-edge : goal.invariant-loop-edge
 invariant-loop-edge l =
-    pairs l.fn.out.items then new_edges l.self.routes.now l.self.scene.now.edges
-    ≡ pairs l.out.items then new_edges l.self.routes.now (drop l.edge-index l.self.scene.now.edges)
+    pairs l.fn.out.items then new_edges l.self.labels.now l.self.routes.now l.self.scene.now.edges
+    ≡ pairs l.out.items then new_edges l.self.labels.now l.self.routes.now (drop l.edge-index l.self.scene.now.edges)

@@ -7,4 +7,4 @@ use Rattle.gml_scene.proofs.tree.Change.push_new_nodes.Given as goal
 
 abbrev pub invariant-loop-node : goal.invariant-loop-node
 invariant-loop-node l =
-    pairs l.fn.out.items then new_nodes l.self.scene.now.nodes ≡ pairs l.out.items then new_nodes (drop l.node-index l.self.scene.now.nodes)
+    pairs l.fn.out.items then new_nodes l.self.labels.now l.self.scene.now.nodes ≡ pairs l.out.items then new_nodes l.self.labels.now (drop l.node-index l.self.scene.now.nodes)

@@ -11,7 +11,7 @@ use Rattle.gml_scene.proofs.tree.Change.tree_of.Goals as goal
 
 pub returns-in_default : goal.returns-in_default
 returns-in_default c =
-    let change = graph_again c.args.self.now.was.now c.args.self.now.scene.now c.args.self.now.routes.now in
+    let change = graph_again c.args.self.now.was.now c.args.self.now.scene.now c.args.self.now.labels.now c.args.self.now.routes.now in
     subst (λ ps. IfOk c.copy_pairs.result (λ v. pairs v.items ≡ ps)) (sym (no_place (codes "graph") change (pairs c.args.tree.now) (sym c.list_place.ensures ∙ c.in_default.is))) c.copy_pairs.ensures
 
 pub slice_bounds-push_copies-end : goal.slice_bounds-push_copies-end
@@ -40,7 +40,7 @@ slice_bounds-push_copies-start c = let within = place_within (codes "graph") c.a
 
 pub returns : goal.returns
 returns c =
-    written_around (codes "graph") (graph_again c.args.self.now.was.now c.args.self.now.scene.now c.args.self.now.routes.now) c.args.tree.now c.in-Some.index c.index-tree-index.result
+    written_around (codes "graph") (graph_again c.args.self.now.was.now c.args.self.now.scene.now c.args.self.now.labels.now c.args.self.now.routes.now) c.args.tree.now c.in-Some.index c.index-tree-index.result
     (pairs c.push_copies.new.out.items) (pairs c.push_graph.new.out.items) (pairs c.push_copies-2.new.out.items) (sym c.in-Some.ensures)
     (c.in_ok-push_copies.ensures ∙ ap (λ xs. pairs xs then pairs (take c.in-Some.index c.args.tree.now)) c.new-out.ensures.items)
     c.in_ok-push_graph.ensures c.in_ok-push_copies-2.ensures
