@@ -13,7 +13,8 @@ calls_push : (ts : List CommandResult) (t : CommandResult) (old middle new : Sta
 calls_push [] t old middle new are call = (new, subst (λ (s : State). IsCall t.command t.answer s new) are call, refl)
 calls_push (u ∷ ts) t old middle new are call = (are.0, are.1, calls_push ts t are.0 middle new are.2 call)
 
-keeps_on : (old middle new : DrawingState) → Keeps old middle → Keeps middle new → Keeps old new
+-- what two calls keep, one after the other
+pub keeps_on : (old middle new : DrawingState) → Keeps old middle → Keeps middle new → Keeps old new
 keeps_on old middle new h k = record {
   document = k.document ∙ h.document;
   labels = k.labels ∙ h.labels;

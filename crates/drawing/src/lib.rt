@@ -5,11 +5,13 @@
 
 mod asking;
 mod changes;
+mod checks;
 mod commands;
 mod drawing;
 mod fault;
 mod labels;
 mod lines;
+mod reconnect;
 mod script;
 
 pub use asking::Compared;
@@ -17,4 +19,5 @@ pub use drawing::Drawing;
 pub use fault::OpenFault;
 pub use gml_scene::LabelFault;
 pub use labels::Labelled;
+pub use reconnect::End;
 pub use script::{Stopped, Why};

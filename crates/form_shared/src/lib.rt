@@ -6,4 +6,4 @@ mod runs;
 mod sharing;
 
 pub use laws::shares_come_to_one;
-pub use sharing::share;
+pub use sharing::{crossings_of, paths_of, share};

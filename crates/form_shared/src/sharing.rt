@@ -18,8 +18,12 @@ use std::alloc::{AllocError, Global};
 use std::thread::Threads;
 use walk_model::{Answer, WrittenRoute};
 
-/// The paths that the routes of a scene's right answers share.
-fn paths_of(alloc: Global, scene: &Scene, answers: &[Answer]) -> Result<Vec<SharedPath>, AllocError>
+/// The paths that the routes of a scene's right answers share, in order. The only error is out of memory.
+pub fn paths_of(
+    alloc: Global,
+    scene: &Scene,
+    answers: &[Answer],
+) -> Result<Vec<SharedPath>, AllocError>
     requires { AreAnswers scene.now answers.now }
     ensures paths { IfOk result (λ paths. AreSharedPaths (raw_runs answers.now) paths.items) }
 {
@@ -39,8 +43,8 @@ fn line_crossings(alloc: Global, lines: &[WrittenRoute]) -> Result<u64, AllocErr
     Ok(crossings(&drawn))
 }
 
-/// How often the nudged lines of the session's present scene cross.
-fn crossings_of(alloc: Global, session: &Session) -> Result<u64, AllocError>
+/// How often the nudged lines of the session's present scene cross. The only error is out of memory.
+pub fn crossings_of(alloc: Global, session: &Session) -> Result<u64, AllocError>
     ensures { IfOk result (CountsCrossings session.now.world.present session.now.book) }
 {
     // So the scene is known to be valid.
