@@ -16,7 +16,7 @@ export class Reroute {
 type Later<Value> = Value extends (...words: infer Words) => infer Answer ? (...words: Words) => Promise<Answer> : Promise<Value>;
 type Called = 'begin' | 'commit' | 'abort' | 'undo' | 'redo' | 'play' | 'close' | Edit | Read;
 type Edit = 'addBox' | 'move' | 'resize' | 'drop' | 'addPin' | 'dropPin' | 'connect' | 'reconnect' | 'setClasses' | 'cut' | 'addCheckpoint' |
-  'dropCheckpoint' | 'set' | 'preview' | 'previewChanges';
+  'dropCheckpoint' | 'set' | 'labelBox' | 'labelConnector' | 'preview' | 'previewChanges';
 type Read = 'lines' | 'changes' | 'cost' | 'scene' | 'boxes' | 'connectors' | 'settings' | 'gml' | 'gmlBytes' | 'next' | 'searched' |
   'boxCount' | 'connectorCount';
 

@@ -128,7 +128,7 @@ export class Reroute {
 }
 
 const EDITS = ['addBox', 'move', 'resize', 'drop', 'addPin', 'dropPin', 'connect', 'reconnect', 'setClasses', 'cut', 'addCheckpoint',
-  'dropCheckpoint', 'set', 'preview', 'previewChanges'];
+  'dropCheckpoint', 'set', 'labelBox', 'labelConnector', 'preview', 'previewChanges'];
 const READS = ['lines', 'changes', 'cost', 'scene', 'boxes', 'connectors', 'settings', 'gml', 'gmlBytes'];
 const NUMBERS = ['next', 'searched', 'boxCount', 'connectorCount'];
 const STEPS = ['begin', 'commit', 'abort', 'undo', 'redo', 'play'];

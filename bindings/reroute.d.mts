@@ -86,6 +86,10 @@ export class Session {
   dropCheckpoint(edge: number, place: number): void;
   set(setting: 'penalty' | 'buffer' | 'nudge', value: number): void;
 
+  /** Give what was added a label, which `gml` has; an empty one is none. No transaction need be open, and no undo takes it back. */
+  labelBox(id: Id, text: string | BufferSource): void;
+  labelConnector(edge: number, text: string | BufferSource): void;
+
   /** All lines: they are reported. */
   lines(): Lines;
   /** The lines that differ from the reported ones, without corners for a connector that has none any more, since it was cut or has

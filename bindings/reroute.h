@@ -150,6 +150,14 @@ reroute_fault reroute_set_buffer(reroute_session *session, int64_t value);
 /* How far lines side by side are kept apart where there is room: 0 to 10^6. */
 reroute_fault reroute_set_nudge(reroute_session *session, int64_t value);
 
+/* --- Labels --------------------------------------------------------------------------------------------------------- */
+/* The diagram that is written has the labels of the boxes and connectors of the present scene that edits added. A label of any
+ * other, as of one that was undone, is kept and not written. Edits, undo and redo change no label, and no transaction need be
+ * open. Each call gives a label in place of the one that there is; one of length 0 takes that away. A label that has a `"`,
+ * which no text in GML has: REROUTE_SYNTAX. After any fault all stays, the open transaction too. text is not NULL. */
+reroute_fault reroute_label_box(reroute_session *session, int64_t id, const uint8_t *text, size_t length);
+reroute_fault reroute_label_connector(reroute_session *session, uint32_t number, const uint8_t *text, size_t length);
+
 /* --- Lines --------------------------------------------------------------------------------------------------------- */
 /* Lines are reported by reroute_lines. Both calls below compare the lines that they give with those that were reported last:
  * a line changed if none was reported of its connector or another was, and a connector is gone if a line was reported of it
@@ -208,8 +216,8 @@ typedef struct reroute_settings_info { int64_t penalty, buffer, nudge; } reroute
 bool reroute_settings(reroute_session *session, reroute_settings_info *settings);
 
 /* --- Texts ----------------------------------------------------------------------------------------------------------- */
-/* Writes the diagram that was opened, with the present scene and its lines put in, as the program writes it; reroute_open
- * opens `graph [ ]`. It writes the first bytes, as many as there is room for, and sets *length to how many there are in all:
+/* Writes the diagram that was opened, with the present scene, its lines and the labels put in, as the program writes it;
+ * reroute_open opens `graph [ ]`. It writes the first bytes, as many as there is room for, and sets *length to how many there are in all:
  * ask with a room of 0 first. out and length are not NULL. After a fault nothing is written, and nothing else changes. */
 reroute_fault reroute_write_gml(reroute_session *session, uint8_t *out, size_t room, size_t *length);
 /* Plays the lines of a script, as the program does, up to the first that is refused: the fault is that of the line, and *line

@@ -151,6 +151,13 @@ public:
              : setting == Setting::buffer ? reroute_set_buffer(at(), milli(value)) : reroute_set_nudge(at(), milli(value)));
     }
 
+    // Labels of boxes and connectors that were added: gml() has them. No transaction need be open, and no undo takes them back.
+    // An empty one is none, and one with a `"` is refused.
+    void labelBox(int64_t id, const std::string &text) { done(reroute_label_box(at(), id, bytes(text), text.size())); }
+    void labelConnector(uint32_t connector, const std::string &text) {
+        done(reroute_label_connector(at(), connector, bytes(text), text.size()));
+    }
+
     // The lines of all connectors that have one.
     Lines lines() { return read(reroute_lines, false); }
     // The lines that differ from those that lines() or changes() told last. A connector whose line is gone, since it was cut
@@ -214,7 +221,7 @@ public:
     uint32_t next() const { return reroute_next(at()); }
     uint64_t searched() const { return reroute_searched(at()); }
 
-    // The diagram in GML, with the present scene and its lines put in.
+    // The diagram in GML, with the present scene, its lines and the labels put in.
     std::string gml() const {
         std::size_t length = 0;
         uint8_t none = 0;

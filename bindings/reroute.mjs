@@ -289,6 +289,13 @@ export class Session {
     return number;
   }
 
+  // --- Labels: no transaction need be open, and no undo takes them back
+
+  /** Gives a box that was added a label, which `gml` has; an empty one is none, and one with a `"` is refused. */
+  labelBox(id, text) { this.#withBytes(text, (at, length) => this.#do('label_box', whole(id), at, length)); }
+  /** The same for a connector. */
+  labelConnector(edge, text) { this.#withBytes(text, (at, length) => this.#do('label_connector', count(edge), at, length)); }
+
   // --- Lines
 
   /** The corners of each connector that has a line, by its number: these lines are reported. */
@@ -351,7 +358,7 @@ export class Session {
 
   // --- Texts
 
-  /** The bytes of the diagram in GML, with the present scene and its lines put in. */
+  /** The bytes of the diagram in GML, with the present scene, its lines and the labels put in. */
   gmlBytes() {
     for (let room = 262144; ;) {
       const at = this.#engine.alloc(room);

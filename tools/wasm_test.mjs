@@ -187,6 +187,20 @@ await part('the scene is read, and a connector moves to another box', () => {
   s.close();
 });
 
+await part('labels of what was added are written, and no undo takes them back', () => {
+  const s = pair();
+  s.labelBox(2, 'Ship & bill');
+  s.labelConnector(1, 'goes right');
+  refused(() => s.labelBox(2, 'a " in it'), 1, 'X1 Syntax');
+  for (const text of ['id 2\n    label "Ship & bill"\n', 'target 2\n    label "goes right"\n']) assert.ok(s.gml().includes(text));
+  s.undo();
+  assert.ok(!s.gml().includes('label'));
+  s.redo();
+  s.labelBox(2, '');
+  assert.ok(s.gml().includes('goes right') && !s.gml().includes('Ship'));
+  s.close();
+});
+
 await part('edits may be promises, and ids have up to 18 digits', async () => {
   const s = pair();
   await assert.rejects(s.transaction(async t => { await 0; t.cut(7); }), Refused);

@@ -48,6 +48,10 @@ export class Session {
   dropCheckpoint(edge: number, place: number): Promise<void>;
   set(setting: 'penalty' | 'buffer' | 'nudge', value: number): Promise<void>;
 
+  /** Give what was added a label, which `gml` has; an empty one is none. No undo takes it back. */
+  labelBox(box: Id, text: string): Promise<void>;
+  labelConnector(edge: number, text: string): Promise<void>;
+
   lines(): Lines;
   /** What differs from what `lines` or `changes` told last. */
   changes(): Changes;

@@ -322,6 +322,17 @@ export class Session {
   /** Sets `penalty`, `buffer` or `nudge`. */
   set(setting, value) { return this.#edit(() => `set ${known(setting)} ${unit(value)}`); }
 
+  // ---- labels: no undo takes them back ----
+
+  #label(command) {
+    return this.#within.getStore()?.isOpen ? this.#edit(command) : this.#alone(async () => { await this.say(command()); });
+  }
+
+  /** Gives a box that was added a label, which `gml` has; an empty one is none, and one with a `"` is refused. */
+  labelBox(box, text) { return this.#label(() => `label box ${id(box)} ${text}`); }
+  /** The same for a connector. */
+  labelConnector(edge, text) { return this.#label(() => `label connector ${count(edge)} ${text}`); }
+
   // ---- lines ----
 
   /** The corners of each connector that has a line, by its number. */

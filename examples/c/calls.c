@@ -309,6 +309,56 @@ static void texts(reroute_session *s) {
     reroute_close(s);
 }
 
+static reroute_fault box_label(reroute_session *s, int64_t id, const char *text) {
+    return reroute_label_box(s, id, (const uint8_t *)text, strlen(text));
+}
+
+static reroute_fault connector_label(reroute_session *s, uint32_t number, const char *text) {
+    return reroute_label_connector(s, number, (const uint8_t *)text, strlen(text));
+}
+
+/* The diagram without what was added, and with it and these labels. */
+static const char *unlabelled =
+    "graph [\n  node [\n    id 1\n    label \"old\"\n    graphics [\n      x 0\n      y 0\n      w 20\n      h 20\n    ]\n  ]\n]\n";
+static const char *labelled =
+    "graph [\n  node [\n    id 1\n    label \"old\"\n    graphics [\n      x 0\n      y 0\n      w 20\n      h 20\n    ]\n  ]\n"
+    "  node [\n    id 3\n    label \"Ship & bill\"\n    graphics [\n      x 50.000\n      y 0.000\n      w 20.000\n      h 40.000\n    ]\n  ]\n"
+    "  edge [\n    source 1\n    target 3\n    label \"goes right\"\n    graphics [\n      Line [\n"
+    "        point [\n          x 0.000\n          y 0.000\n        ]\n        point [\n          x 50.000\n          y 0.000\n        ]\n"
+    "      ]\n    ]\n  ]\n]\n";
+
+static void writes(reroute_session *s, const char *wanted) {
+    uint8_t out[2000];
+    size_t length = 7;
+    DONE(reroute_write_gml(s, out, sizeof out, &length));
+    WANT(length == strlen(wanted) && !memcmp(out, wanted, length));
+}
+
+/* What was added has its label, which an undo does not take back; no other label is written. */
+static void labels(reroute_session *s) {
+    uint32_t number = 0;
+    REFUSES(box_label(s, 3, "none"), REROUTE_NO_SESSION, 0);
+    REFUSES(connector_label(s, 1, "none"), REROUTE_NO_SESSION, 0);
+    DONE(opened(s, "graph [ node [ id 1 label \"old\" graphics [ x 0 y 0 w 20 h 20 ] ] ]"));
+    DONE(box_label(s, 1, "new"));
+    DONE(box_label(s, 3, "to come"));
+    DONE(connector_label(s, 1, "goes right"));
+    DONE(reroute_begin(s));
+    DONE(reroute_add_box(s, 3, 50000, 0, 20000, 40000));
+    DONE(reroute_connect(s, 1, 0, 3, 0, &number));
+    WANT(number == 1);
+    REFUSES(box_label(s, 3, "a \" in it"), REROUTE_SYNTAX, 0);
+    DONE(reroute_commit(s));
+    DONE(box_label(s, 3, "Ship & bill"));
+    REFUSES(connector_label(s, 1, "\""), REROUTE_SYNTAX, 0);
+    writes(s, labelled);
+    DONE(reroute_undo(s));
+    writes(s, unlabelled);
+    DONE(reroute_redo(s));
+    writes(s, labelled);
+    reroute_close(s);
+}
+
 /* A copy of a handle is the same session, and a handle that was ended or not started is started again. */
 static void handles(void) {
     reroute_session session, copy;
@@ -375,6 +425,8 @@ int main(void) {
     reroute_close(&session);
     closed(&session);
     texts(&session);
+    closed(&session);
+    labels(&session);
     closed(&session);
     twenty(&session);
     reroute_close(&session);

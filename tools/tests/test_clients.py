@@ -64,6 +64,20 @@ class PythonTest(LiveTest):
         self.assertEqual(session.lines(), {1: STRAIGHT})
         self.assertEqual(session.say('next'), ['next 2'])
 
+    def test_labels_are_of_what_was_added(self):
+        session = self.drawn()
+        session.label_box(3, 'Ship & bill')
+        session.label_connector(1, 'goes right')
+        with self.assertRaises(Refused):
+            session.label_box(3, 'a " in it')
+        self.assertIn(b'id 3\n    label "Ship & bill"\n', session.gml())
+        self.assertIn(b'target 2\n    label "goes right"\n', session.gml())
+        session.undo()
+        self.assertNotIn(b'label', session.gml())
+        session.redo()
+        session.label_box(3, '')
+        self.assertNotIn(b'Ship', session.gml())
+
     def test_words_that_are_none(self):
         session = self.drawn()
         for fault, call, words in (
@@ -181,6 +195,18 @@ const text = lines => JSON.stringify([...lines]);
         self.assertEqual(len(said), len(wanted), said)
         for line, pattern in zip(said, wanted):
             self.assertRegex(line, pattern)
+
+    def test_labels_are_of_what_was_added(self):
+        self.assert_says('''
+const session = await drawn();
+await session.labelBox(3, 'Ship & bill');
+await session.labelConnector(1, 'goes right');
+await tried(() => session.labelBox(3, 'a " in it'));
+const gml = await session.gml();
+say(gml.includes('id 3\\n    label "Ship & bill"\\n'), gml.includes('target 2\\n    label "goes right"\\n'));
+await session.labelBox(3, '');
+say((await session.gml()).includes('Ship'));
+await session.close();''', 'Refused X1 Syntax', 'true true', 'false')
 
     def test_a_line_end_in_a_command(self):
         self.assert_says(r'''

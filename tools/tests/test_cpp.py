@@ -76,6 +76,17 @@ class ClassTest(CompilerTest):
     sessions[0] = drawn();
     EXPECT(sessions[0].boxCount() == 3);''', '-fsanitize=address,undefined')
 
+    def test_labels_are_of_what_was_added(self):
+        self.assert_holds('''
+    Session session = drawn();
+    session.labelBox(3, "Ship & bill");
+    session.labelConnector(1, "goes right");
+    THROWS(reroute::Refused, session.labelBox(3, "a \\" in it"));
+    EXPECT(session.gml().find("id 3\\n    label \\"Ship & bill\\"\\n") != std::string::npos);
+    EXPECT(session.gml().find("target 2\\n    label \\"goes right\\"\\n") != std::string::npos);
+    session.labelBox(3, "");
+    EXPECT(session.gml().find("Ship") == std::string::npos);''')
+
     def test_a_transaction_answers_what_its_edits_answer(self):
         self.assert_holds('''
     Session session = drawn();

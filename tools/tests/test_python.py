@@ -96,6 +96,21 @@ class NumbersTest(LibraryTest):
 
 
 class SessionTest(LibraryTest):
+    def test_labels_are_of_what_was_added(self):
+        session = self.drawn()
+        session.label_box(3, 'Ship & bill')
+        session.label_connector(1, b'goes right')
+        with self.assertRaises(Refused):
+            session.label_box(3, 'a " in it')
+        self.assertIn(b'id 3\n    label "Ship & bill"\n', session.gml())
+        self.assertIn(b'target 2\n    label "goes right"\n', session.gml())
+        session.undo()
+        self.assertNotIn(b'label', session.gml())
+        session.redo()
+        session.label_box(3, '')
+        self.assertNotIn(b'Ship', session.gml())
+        self.assertIn(b'goes right', session.gml())
+
     def test_open_sessions_are_closed_when_collected(self):
         session = Session()
         finalizer = session._close

@@ -60,6 +60,10 @@ def fitting(kind: Any, word: Any) -> Any:
     return whole(word, 64) if kind is I else whole(word, 32) if kind is U else word
 
 
+def encoded(text: Union[bytes, str]) -> bytes:
+    return text.encode() if isinstance(text, str) else bytes(text)
+
+
 def directions(sides: str) -> Directions:
     if not sides or set(sides) - set(SIDES):
         raise ValueError(f'sides are letters of {SIDES}, and not {sides!r}')
@@ -300,10 +304,21 @@ class Session:
         """How many connectors the present scene has, whether or not a transaction is open."""
         return self._library.reroute_connector_count(self._handle)
 
-    # ---- texts ----
+    # ---- labels and texts ----
+
+    def label_box(self, box: int, label: Union[bytes, str]) -> None:
+        """Gives a box that was added a label, which `gml` has; an empty one is none, and one with a `"` is refused. No
+        transaction need be open, and no undo takes it back."""
+        text = encoded(label)
+        self._call('label_box', box, text, len(text))
+
+    def label_connector(self, connector: int, label: Union[bytes, str]) -> None:
+        """The same for a connector."""
+        text = encoded(label)
+        self._call('label_connector', connector, text, len(text))
 
     def gml(self) -> bytes:
-        """The diagram in GML, with the present scene and its lines put in."""
+        """The diagram in GML, with the present scene, its lines and the labels put in."""
         length = Z()
         self._call('write_gml', ctypes.create_string_buffer(1), 0, length)
         text = ctypes.create_string_buffer(length.value)
@@ -312,6 +327,6 @@ class Session:
 
     def play(self, script: Union[bytes, str]) -> None:
         """Plays a script up to its first line that is refused; `line` of the exception is its number."""
-        text, line = script.encode() if isinstance(script, str) else bytes(script), Z()
+        text, line = encoded(script), Z()
         fault = self._library.reroute_play(self._handle, text, len(text), line)
         checked(fault, line.value)

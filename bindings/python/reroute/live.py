@@ -274,6 +274,16 @@ class Session:
             raise ValueError(f'a setting is one of {", ".join(SETTINGS)}, and not {setting!r}')
         self.say(f'set {setting} {units(value)}')
 
+    # ---- labels: no undo takes them back ----
+
+    def label_box(self, box: int, label: str) -> None:
+        """Gives a box that was added a label, which `gml` has; an empty one is none, and one with a `"` is refused."""
+        self.say(f'label box {whole(box, 64)} {label}')
+
+    def label_connector(self, connector: int, label: str) -> None:
+        """The same for a connector."""
+        self.say(f'label connector {whole(connector, 32)} {label}')
+
     # ---- lines and texts ----
 
     def lines(self) -> Lines:
@@ -299,5 +309,5 @@ class Session:
         return differences(self._told, self.preview())
 
     def gml(self) -> bytes:
-        """The diagram in GML, with the present scene and its lines put in."""
+        """The diagram in GML, with the present scene, its lines and the labels put in."""
         return bytes(self.say('gml')[0])

@@ -10,3 +10,4 @@ mod values;
 
 pub use laws::{line_numbers_rise, scripts_have_directions};
 pub use script::commands;
+pub use values::{count_of, id_of};

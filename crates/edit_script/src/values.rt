@@ -33,14 +33,14 @@ fn beyond(word: &[u8]) -> i64
 }
 
 /// An id: an optional sign and 1 to 18 digits.
-pub(crate) fn id_of(word: &[u8]) -> Option<i64>
+pub fn id_of(word: &[u8]) -> Option<i64>
     ensures { result ≡ id_of_word word.now }
 {
     read_whole(word, 18)
 }
 
 /// A class, a place or an edge number: 1 to 9 digits.
-pub(crate) fn count_of(word: &[u8]) -> Option<u32>
+pub fn count_of(word: &[u8]) -> Option<u32>
     ensures { result ≡ count_of word.now }
 {
     let [first, ..] = word else {

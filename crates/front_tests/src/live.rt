@@ -2,5 +2,6 @@
 
 mod faults;
 mod inputs;
+mod labels;
 mod runs;
 mod sessions;

@@ -6,7 +6,7 @@ use Rattle.scene_model.specs.Scene.{Scene}
 use Rattle.scene_model.specs.declared.edit.Command.{Command}
 use Rattle.scene_model.specs.declared.edit.Command.TheVariants.{Begin, Edit, Commit, Abort, Undo, Redo, Bad}
 use Rattle.live_replies.specs.declared.request.Request.{Request}
-use Rattle.live_replies.specs.declared.request.Request.TheVariants.{Nothing, Do, Preview, Lines, Gml, Next, Why, Quit as AskForEnd}
+use Rattle.live_replies.specs.declared.request.Request.TheVariants.{Nothing, Do, Label, Preview, Lines, Gml, Next, Why, Quit as AskForEnd}
 use Rattle.live_replies.specs.declared.serving.End.{End}
 use Rattle.live_replies.specs.declared.serving.End.TheVariants.{Input, Quit}
 use Rattle.live_replies.specs.declared.serving.ServeFault.{ServeFault}
@@ -36,6 +36,9 @@ module _ (old new : DrawingState) (said : List ℕ) where
   after_request : (r : Request) → Answers r old new said → new.document ≡ old.document
   after_request Nothing h = same h.0
   after_request (Do c) h = after_command c h
+  after_request (Label what text) (inl h) = h.0.document
+  after_request (Label what text) (inr (inl h)) = h.1.0.keeps.document
+  after_request (Label what text) (inr (inr h)) = same h.0
   after_request Preview (inl h) = after_preview old.session.world.working h
   after_request Preview (inr h) = same h.0
   after_request Lines (inl h) = h.document

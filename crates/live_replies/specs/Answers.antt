@@ -2,6 +2,8 @@
 use Rattle.std.specs.Prelude.{◌≡◌, ◌⊎◌, ℕ, List, ◌++◌, Option, None, Some, Result, Ok, Err}
 use Rattle.host_edge.specs.declared.line_source.LineRead.{LineRead}
 use Rattle.host_edge.specs.declared.line_source.LineRead.TheVariants.{Whole, TooLong, End}
+use Rattle.gml_text.specs.Bytes.{quote}
+use Rattle.gml_text.specs.Grammar.{Lacks}
 use Rattle.scene_model.specs.Scene.{Scene}
 use Rattle.walk_model.specs.declared.route.WrittenRoute.{WrittenRoute}
 use Rattle.scene_model.specs.declared.edit.Command.{Command}
@@ -12,9 +14,11 @@ use Rattle.report_text.specs.declared.refusal.Refusal.TheVariants as refusals
 use Rattle.session_model.specs.Calls.{IsCall}
 use Rattle.drawing.specs.Changes.{asked_of}
 use Rattle.drawing.specs.Drawing.{DrawingState, IsWritten, RollsBack, next_edge}
+use Rattle.drawing.specs.Labelled.{GivesLabel}
+use Rattle.drawing.specs.declared.labels.Labelled.{Labelled}
 use Rattle.drawing.specs.Lines.{AreDrawn, AreProposed}
 use Rattle.live_replies.specs.declared.request.Request.{Request}
-use Rattle.live_replies.specs.declared.request.Request.TheVariants.{Nothing, Do, Preview, Lines, Gml, Next, Why, Quit}
+use Rattle.live_replies.specs.declared.request.Request.TheVariants.{Nothing, Do, Label, Preview, Lines, Gml, Next, Why, Quit}
 use Rattle.live_replies.specs.Changes.{changes, changes_text}
 use Rattle.live_replies.specs.Requests.{request_of}
 use Rattle.live_replies.specs.Texts.{drawn_texts, gml_text, next_text, no_memory_line, ok_line, refused_line, too_long_line, unreported_line}
@@ -55,6 +59,7 @@ pub record AnswersCall (c : Command) (old new : DrawingState) (said : List ℕ) 
   pub call : IsCall c result old.session new.session
   pub reports : ReportsResult c result old.reported new said
   pub document : new.document ≡ old.document
+  pub labels : new.labels ≡ old.labels
 
 -- the reply to a command
 abbrev pub AnswersCommand : Command → DrawingState → DrawingState → List ℕ → Type 0
@@ -81,6 +86,7 @@ AnswersPreview (Some working) old new said = ReportsPreview old new said
 pub record ReportsLines (old new : DrawingState) (said : List ℕ) : Type 0 where
   pub session : new.session ≡ old.session
   pub document : new.document ≡ old.document
+  pub labels : new.labels ≡ old.labels
   pub present : ReportsPresent new
   pub is_said : said ≡ drawn_texts new.reported ++ ok_line
 
@@ -92,10 +98,16 @@ ReportsDiagram old new said = (new ≡ old) × ((text : List ℕ) × IsWritten o
 abbrev pub ReportsNext : DrawingState → DrawingState → List ℕ → Type 0
 ReportsNext old new said = (new ≡ old) × (said ≡ next_text (next_edge old.session.world) ++ ok_line)
 
+-- a label is given; or it has a quote, and so is no valid line; or no memory is left for it
+abbrev pub AnswersLabel : Labelled → List ℕ → DrawingState → DrawingState → List ℕ → Type 0
+AnswersLabel what text old new said =
+    (GivesLabel what text old new × (said ≡ ok_line)) ⊎ ((Lacks quote text → ⊥) × AnswersCommand Bad old new said) ⊎ AnswersNoMemory old new said
+
 -- the reply to a request
 abbrev pub Answers : Request → DrawingState → DrawingState → List ℕ → Type 0
 Answers Nothing old new said = (new ≡ old) × (said ≡ ok_line)
 Answers (Do command) old new said = AnswersCommand command old new said
+Answers (Label what text) old new said = AnswersLabel what text old new said
 Answers Preview old new said = AnswersPreview old.session.world.working old new said ⊎ AnswersNoMemory old new said
 Answers Lines old new said = ReportsLines old new said ⊎ AnswersNoMemory old new said
 Answers Gml old new said = ReportsDiagram old new said ⊎ AnswersNoMemory old new said

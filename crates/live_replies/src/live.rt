@@ -8,7 +8,8 @@ ghost use Rattle.scene_model.specs.declared.edit.Command.TheVariants as commands
 ghost use Rattle.drawing.specs.Changes.{asked_of};
 ghost use Rattle.drawing.specs.Drawing.{IsOpened, RollsBack};
 ghost use Rattle.drawing.specs.Lines.{AreDrawn};
-ghost use Rattle.live_replies.specs.Answers.{Answers, AnswersCommand, AnswersNoMemory, AnswersRead, ReportsChanges, ReportsDiagram, ReportsDone, ReportsLines, ReportsNext, ReportsPreview};
+ghost use Rattle.live_replies.specs.Answers.{Answers, AnswersCommand, AnswersLabel, AnswersNoMemory, AnswersRead, ReportsChanges, ReportsDiagram, ReportsDone};
+ghost use Rattle.live_replies.specs.Answers.{ReportsLines, ReportsNext, ReportsPreview};
 ghost use Rattle.live_replies.specs.Changes.{changes, changes_text};
 ghost use Rattle.live_replies.specs.Requests.{IsDirectedRequest, is_quit};
 ghost use Rattle.live_replies.specs.Said.{said_bytes};
@@ -20,7 +21,7 @@ use crate::reply::{Said, refused};
 use crate::request::{Request, is_quit, request_of};
 use crate::text::{changes_text, gml_text, lines_text, next_text};
 use crate::why::why_text;
-use drawing::{Compared, Drawing};
+use drawing::{Compared, Drawing, LabelFault, Labelled};
 use gml_text::Doc;
 use par_route::Gate;
 use report_text::Refusal;
@@ -32,8 +33,8 @@ use std::thread::Threads;
 
 /// A session beside an editor.
 ///
-/// Its model is that of its drawing: the session, the diagram that it was opened with, and the lines that were reported to
-/// the client last.
+/// Its model is that of its drawing: the session, the diagram that it was opened with, the labels, and the lines that were
+/// reported to the client last.
 #[derive(Drop)]
 pub struct Live {
     alloc: Global,
@@ -89,6 +90,7 @@ impl Live {
         ensures reports { ReportsChanges self.old.reported self.new (said_bytes result) }
         ensures session { self.new.session ≡ self.old.session }
         ensures document { self.new.document ≡ self.old.document }
+        ensures labels { self.new.labels ≡ self.old.labels }
     {
         match self.changes() {
             Ok((compared, text)) => {
@@ -105,6 +107,7 @@ impl Live {
         ensures reports { ReportsDone command.now self.old.reported self.new (said_bytes result) }
         ensures session { self.new.session ≡ self.old.session }
         ensures document { self.new.document ≡ self.old.document }
+        ensures labels { self.new.labels ≡ self.old.labels }
     {
         match command {
             Command::Commit | Command::Undo | Command::Redo => self.report_changes(),
@@ -201,6 +204,17 @@ impl Live {
         }
     }
 
+    /// Gives a label, and reports that it is done. A label that has a `"` is not a valid line.
+    fn label(&mut self, what: Labelled, text: &[u8]) -> Said
+        ensures { AnswersLabel what text.now self.old self.new (said_bytes result) }
+    {
+        match self.drawing.label(self.alloc, what, text) {
+            Ok(()) => Said::Done,
+            Err(LabelFault::Quote) => self.refuse_line(),
+            Err(LabelFault::Memory) => Said::NoMemory,
+        }
+    }
+
     /// The text that reports the diagram.
     fn diagram(&self) -> Result<Vec<u8>, AllocError>
         ensures { IfOk result (λ text. ReportsDiagram self.now self.now text.items) }
@@ -218,7 +232,7 @@ impl Live {
 
     /// Does what a request asks for, and reports the result.
     ///
-    /// After a command that is refused no transaction is open. The other requests change no scene.
+    /// After a command that is refused no transaction is open. The other requests change no scene, and a label is no part of one.
     fn answer<R: Threads + Sync, G: Gate>(
         &mut self,
         rt: &R,
@@ -235,6 +249,7 @@ impl Live {
             Request::Nothing | Request::Quit => Said::Done,
             Request::Do(Command::Bad) => self.refuse_line(),
             Request::Do(command) => self.do_command(rt, &command, workers, gate),
+            Request::Label(what, text) => self.label(what, text.as_slice()),
             Request::Preview => self.report_preview(rt, workers, gate),
             Request::Lines => self.report_lines(),
             Request::Gml => Said::of(self.diagram()),

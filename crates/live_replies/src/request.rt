@@ -1,21 +1,26 @@
 //! What a line of input asks for.
-ghost use Rattle.std.specs.Prelude.{◌≡◌, IfOk};
+ghost use Rattle.std.specs.Prelude.{◌≡◌, ◌==◌, ◌<◌, IfOk, IfSome, length, position};
 ghost use Rattle.std.specs.Str.Lines.{strip_carriage_return};
-ghost use Rattle.live_replies.specs.Requests.{IsDirectedRequest, command_request, first_of, is_quit, is_word, request_of};
+ghost use Rattle.live_replies.specs.Requests.{IsDirectedRequest, after_word, command_request, first_of, first_word, is_label, is_quit};
+ghost use Rattle.live_replies.specs.Requests.{is_word, label_request, labelled_of, request_of};
 ghost use Rattle.script_replay.specs.Replies.{AreDirected};
 ghost use Rattle.edit_script.specs.Script.{HaveDirections};
 
-use edit_script::{commands, scripts_have_directions};
+use drawing::Labelled;
+use edit_script::{commands, count_of, id_of, scripts_have_directions};
+use gml_text::Bytes;
 use scene_model::Command;
 use std::alloc::{AllocError, Global};
 
 /// What a line of input asks for.
-#[derive(Clone, Copy, Debug, PartialEq, Eq)]
+#[derive(Debug, Drop)]
 pub enum Request {
     /// Nothing: the line has no words, or it is a comment.
     Nothing,
     /// A command of a script. `Bad` is a line that is not a valid command.
     Do(Command),
+    /// A label for a box or a connector.
+    Label(Labelled, Bytes),
     /// What a commit would change.
     Preview,
     /// The corners of all lines.
@@ -76,6 +81,60 @@ pub(crate) fn is_quit(line: &[u8]) -> bool
     is_word(b"quit", line)
 }
 
+/// The place of the first space.
+fn space_in(line: &[u8]) -> Option<usize>
+    ensures place { result ≡ position (λ b. b == 32) line.now }
+    ensures within { IfSome result (λ k. k < length line.now) }
+{
+    line.iter().position(|byte| *byte == b' ')
+}
+
+/// The bytes before the first space, and those after it.
+fn split_word(line: &[u8]) -> (&[u8], &[u8])
+    ensures word { result.0.now ≡ first_word line.now }
+    ensures rest { result.1.now ≡ after_word line.now }
+{
+    match space_in(line) {
+        Some(end) => (&line[..end], &line[end + 1..]),
+        None => (line, &[]),
+    }
+}
+
+/// What a label is for, by the words of its kind and of its id or number.
+fn labelled_of(kind: &[u8], word: &[u8]) -> Option<Labelled>
+    ensures { result ≡ labelled_of kind.now word.now }
+{
+    if kind == b"box".as_slice() {
+        Some(Labelled::Node(id_of(word)?))
+    } else if kind == b"connector".as_slice() {
+        Some(Labelled::Edge(count_of(word)?))
+    } else {
+        None
+    }
+}
+
+/// A label: the words of what it is for, and then its text, which is the rest of the line.
+fn label_request(alloc: Global, line: &[u8]) -> Result<Request, AllocError>
+    ensures request { IfOk result (λ request. request ≡ label_request line.now) }
+    ensures directed { IfOk result IsDirectedRequest }
+{
+    let (kind, rest) = split_word(line);
+    let (word, text) = split_word(rest);
+    let Some(what) = labelled_of(kind, word) else {
+        return Ok(Request::Do(Command::Bad));
+    };
+    let text = Bytes(Vec::from_slice(alloc, text)?);
+    Ok(Request::Label(what, text))
+}
+
+/// Whether the line begins with the word `label`.
+fn is_label(line: &[u8]) -> bool
+    ensures { result ≡ is_label line.now }
+{
+    let (word, _) = split_word(without_return(line));
+    word == b"label".as_slice()
+}
+
 /// What a line asks for. The only error is out of memory.
 pub(crate) fn request_of(alloc: Global, line: &[u8]) -> Result<Request, AllocError>
     ensures request { IfOk result (λ request. request ≡ request_of line.now) }
@@ -93,6 +152,9 @@ pub(crate) fn request_of(alloc: Global, line: &[u8]) -> Result<Request, AllocErr
         Ok(Request::Why)
     } else if is_quit(line) {
         Ok(Request::Quit)
+    } else if is_label(line) {
+        let (_, rest) = split_word(without_return(line));
+        label_request(alloc, rest)
     } else {
         command_request(alloc, line)
     }

@@ -2,6 +2,7 @@
 pub mod Codes
 pub mod Edits
 pub mod Files
+pub mod Labels
 pub mod Lines
 pub mod Open
 pub mod Owned

@@ -9,5 +9,6 @@ mod edits;
 mod fault;
 mod files;
 mod handle;
+mod labels;
 mod lines;
 mod scene;

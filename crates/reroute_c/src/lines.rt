@@ -38,6 +38,7 @@ pub extern "C" fn reroute_lines(alloc: Global, handle: &mut Handle, count: &mut 
     ensures open { IsSome handle.old.drawing → IsSome handle.new.drawing }
     ensures session { IfOpen handle.old.drawing handle.new.drawing (λ s n. n.session ≡ s.session) }
     ensures document { IfOpen handle.old.drawing handle.new.drawing (λ s n. n.document ≡ s.document) }
+    ensures labels { IfOpen handle.old.drawing handle.new.drawing (λ s n. n.labels ≡ s.labels) }
     ensures reports { result.code ≡ 0 → IfOpen handle.old.drawing handle.new.drawing Reports }
     ensures count { result.code ≡ 0 → IfSome handle.new.drawing (λ n. count.new ≡ length n.asked.lines) }
     ensures refused { result.code ≢ 0 → handle.new.drawing ≡ handle.old.drawing }
@@ -70,6 +71,7 @@ pub extern "C" fn reroute_preview(alloc: Global, handle: &mut Handle, count: &mu
     ensures open { IsSome handle.old.drawing → IsSome handle.new.drawing }
     ensures session { IfOpen handle.old.drawing handle.new.drawing (λ s n. n.session ≡ s.session) }
     ensures document { IfOpen handle.old.drawing handle.new.drawing (λ s n. n.document ≡ s.document) }
+    ensures labels { IfOpen handle.old.drawing handle.new.drawing (λ s n. n.labels ≡ s.labels) }
     ensures previews { result.code ≡ 0 → IfOpen handle.old.drawing handle.new.drawing Previews }
     ensures count { result.code ≡ 0 → IfSome handle.new.drawing (λ n. count.new ≡ length n.asked.lines) }
     ensures fault { result.code ≢ 0 → IfSome handle.old.drawing (λ s. IsUnpreviewed s.session result) }
