@@ -19,12 +19,11 @@ ghost use Rattle.exit_spread.specs.Taking.{Grows, IsExit};
 ghost use Rattle.exit_spread.specs.Ways.{IsWayAhead, place_at};
 
 use crate::run::{Run, counts_from};
-use search_problem::{Candidate, Queue};
 use exit_rows::{Exit, Kept, Rows};
 use line_lists::LineLists;
 use move_model::{Place, Stretch};
 use plane_geom::{Dir, Point};
-use search_problem::{Ending, MOST_COST, MOST_RUNS, NOTHING, Problem, stage_at};
+use search_problem::{Candidate, Ending, MOST_COST, MOST_RUNS, NOTHING, Problem, Queue, stage_at};
 use side_touches::{Touches, reach};
 use std::alloc::{AllocError, Global};
 

@@ -8,11 +8,11 @@ ghost use Rattle.scene_model.specs.declared.fault.SceneFault.TheVariants as faul
 ghost use Rattle.preview.specs.Edited.{ComesTo};
 ghost use Rattle.preview.specs.Previews.{AreProposable, IsPreview, first_refused};
 
-use session_model::Txn;
 use route_book::Book;
 use route_search::Tally;
 use scene_model::{Edit, SceneFault};
 use scene_store::Scene;
+use session_model::Txn;
 use std::alloc::{AllocError, Global};
 
 /// The answer to a proposed transaction.

@@ -29,13 +29,13 @@ ghost use Rattle.scene_model.specs.declared.fault.SessionFault.TheVariants as fa
 use crate::present::Present;
 use crate::start::Start;
 use crate::turning::{Toward, exchange_toward, nearest_step, no_step, scene_toward};
-use session_model::{Txn, TxnParts};
 use nudge_phases::{Nudged, nudge};
 use par_route::Gate;
 use preview::{Previewed, Proposal, preview, preview_alone};
 use route_book::{Book, Changes};
 use route_search::Tally;
 use scene_store::{Edit, Scene, SceneFault, SessionFault};
+use session_model::{Txn, TxnParts};
 use std::alloc::{AllocError, Global};
 use std::marker::Model;
 use std::thread::Threads;

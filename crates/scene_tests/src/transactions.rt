@@ -1,8 +1,8 @@
 //! A transaction of many edits, and its parts.
 
-use session_model::{Txn, TxnParts};
 use scene_model::{Edit, Inverse, SceneFault};
 use scene_store::Scene;
+use session_model::{Txn, TxnParts};
 
 fn add_node(txn: &mut Txn, id: i64) -> Result<(), SceneFault> {
     let (x, y, w, h) = (0, 0, 20, 20);

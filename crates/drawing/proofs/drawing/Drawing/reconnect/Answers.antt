@@ -19,7 +19,7 @@ pub returns-in_err-edit_all : goal.returns-in_err-edit_all
 returns-in_err-edit_all c =
     let same = to_z-of_z w64 c.args.id c.ranges.id in
     let is = c.deref.ensures.value ∙ c.in-Ok.ensures ∙ ap (λ id. reconnection c.scene.result.now c.args.number c.args.end id c.args.class) same
-        ∙ ap (λ s. reconnection s c.args.number c.args.end c.args.id c.args.class) c.scene.ensures in
+    ∙ ap (λ s. reconnection s c.args.number c.args.end c.args.id c.args.class) c.scene.ensures in
     let p = err_from_is_err_and c.from_residual.result c.from_residual.ensures.1 in
     rw (p.1, p.2) (inl (subst (λ (es : List Edit). AreEdited es (Err c.in_err-edit_all.field-0.0) c.args.self.now c.edit_all.new.self) is c.in_err-edit_all.ensures))
 
@@ -27,5 +27,5 @@ pub returns : goal.returns
 returns c =
     let same = to_z-of_z w64 c.args.id c.ranges.id in
     let is = c.deref.ensures.value ∙ c.in-Ok.ensures ∙ ap (λ id. reconnection c.scene.result.now c.args.number c.args.end id c.args.class) same
-        ∙ ap (λ s. reconnection s c.args.number c.args.end c.args.id c.args.class) c.scene.ensures in
+    ∙ ap (λ s. reconnection s c.args.number c.args.end c.args.id c.args.class) c.scene.ensures in
     (subst (λ (es : List Edit). AreEdited es (Ok tt) c.args.self.now c.edit_all.new.self) is c.in_ok-edit_all.ensures, c.next_number-next.ensures)
