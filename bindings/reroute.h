@@ -54,11 +54,13 @@ enum {
     REROUTE_NODE_EXISTS = 6,        /* a box has the id already; value: the id */
     REROUTE_NODE_IN_USE = 7,        /* a connector ends at the box; value: its number */
     REROUTE_SAME_NODE = 8,          /* a connector from a box to itself; value: the id */
-    REROUTE_OUT_OF_RANGE = 9,       /* a number is beyond its limits; value: its place among the parameters, from 1; 3 for a setting */
+    REROUTE_OUT_OF_RANGE = 9,       /* a number is beyond its limits; value: its place among the parameters, from 1; 3 for a setting;
+                                     * 2 k + 3 for corner k of reroute_check, from 0 */
     REROUTE_PIN_OUTSIDE = 10,       /* a pin would be outside its box; value: the place of the pin, from 1 */
     REROUTE_UNKNOWN_PIN_CLASS = 11, /* the box has no pin of the class; value: the class */
     REROUTE_NO_SUCH_PLACE = 12,     /* nothing has the place; value: the place */
-    REROUTE_TOO_MANY = 13,          /* value: the limit: 256 boxes, 256 pins, 512 connectors, 256 checkpoints, 4 of one connector */
+    REROUTE_TOO_MANY = 13,          /* value: the limit: 256 boxes, 256 pins, 512 connectors, 256 checkpoints, 4 of one connector;
+                                     * 40000000 corners of reroute_check */
     REROUTE_NOTHING_TO_UNDO = 14,
     REROUTE_NOTHING_TO_REDO = 15,
     REROUTE_PIN_IN_USE = 17,        /* a connector uses the last pin of the class; value: its number */
@@ -121,7 +123,8 @@ reroute_fault reroute_undo(reroute_session *session);
 reroute_fault reroute_redo(reroute_session *session);
 
 /* --- Edits of the open transaction -------------------------------------------------------------------------------- */
-/* A box by its centre and its whole width and height. */
+/* A box by its centre and its whole width and height. Its id has at most 18 digits, since no diagram that is read has more:
+ * otherwise REROUTE_OUT_OF_RANGE with the value 2. */
 reroute_fault reroute_add_box(reroute_session *session, int64_t id, int64_t x, int64_t y, int64_t w, int64_t h);
 reroute_fault reroute_move_box(reroute_session *session, int64_t id, int64_t x, int64_t y);
 reroute_fault reroute_size_box(reroute_session *session, int64_t id, int64_t w, int64_t h);
@@ -136,6 +139,11 @@ reroute_fault reroute_drop_pin(reroute_session *session, int64_t id, uint32_t pl
 /* A connector between any pins of the two classes. *number, which is not NULL, becomes its number; if the call is refused, it
  * stays. */
 reroute_fault reroute_connect(reroute_session *session, int64_t from, uint32_t from_class, int64_t to, uint32_t to_class, uint32_t *number);
+/* Moves an end of a connector to another box, at any pin of the class there: the end where it begins, or with target the one
+ * where it ends. The connector is cut, and a new one with its other end, the class of that and its checkpoints is added; a weight
+ * that came with a diagram is lost. *number, which is not NULL, becomes the number of the new one; if the call is refused, it
+ * stays. */
+reroute_fault reroute_reconnect(reroute_session *session, uint32_t connector, bool target, int64_t id, uint32_t pin_class, uint32_t *number);
 /* The number that the next connector gets: in the open transaction, if one is open; 0 if the session is closed. */
 uint32_t reroute_next(reroute_session *session);
 reroute_fault reroute_cut(reroute_session *session, uint32_t number);
@@ -191,9 +199,40 @@ uint32_t reroute_gone(reroute_session *session, size_t place);
 bool reroute_cost(reroute_session *session, uint32_t number, uint64_t *cost);
 /* How many searches the session has made; 0 if it is closed. */
 uint64_t reroute_searched(reroute_session *session);
-/* How many boxes and how many connectors the present scene has; 0 if the session is closed. */
+/* How many boxes the present scene has, and how many connectors between two of them; 0 if the session is closed. */
 size_t reroute_box_count(reroute_session *session);
 size_t reroute_connector_count(reroute_session *session);
+/* A path that the routes of two connectors share, before nudging. a stands earlier in the scene than b. Runs are the straight
+ * pieces of a route, counted from 1: the path has the runs from first to last of a, and those from b_first to b_last of b, which
+ * count down where b goes the other way. back is the end where the path begins, seen along a, and ahead that where it ends:
+ * REROUTE_TIE if both routes stop there, else the hand on which a is where they part. side is the hand on which a belongs all
+ * along, and where nudging puts it; REROUTE_TIE if there is none: no end parts, or the two part to different hands. */
+enum { REROUTE_TIE = 0, REROUTE_LEFT = 1, REROUTE_RIGHT = 2 };
+typedef struct reroute_shared_info { uint32_t a, b, first, last, b_first, b_last, back, ahead, side; } reroute_shared_info;
+/* Writes the first of these paths, as many as there is room for, and sets *count to how many there are: ask with a room of 0
+ * first. They are in the order of a, of b, of first and of b_first. out and count are not NULL. The faults are
+ * REROUTE_NO_SESSION and REROUTE_MEMORY; after one nothing is written. Nothing else changes. */
+reroute_fault reroute_shared(reroute_session *session, reroute_shared_info *out, size_t room, size_t *count);
+/* Sets *count, which is not NULL, to how often the nudged lines cross. The faults are REROUTE_NO_SESSION and REROUTE_MEMORY; after
+ * one *count stays. Nothing else changes. */
+reroute_fault reroute_crossings(reroute_session *session, uint64_t *count);
+/* The verdict on a line: the first rule that it breaks, or what it costs if it breaks none. */
+enum {
+    REROUTE_LEGAL = 0,
+    REROUTE_SLANTED = 1,            /* its segment at the place is neither horizontal nor vertical */
+    REROUTE_START_OFF = 2,          /* it does not begin at a pin of its box, or not to a side of that pin; or it has no corner */
+    REROUTE_END_OFF = 3,            /* the same of its end */
+    REROUTE_HITS = 4,               /* its segment at the place runs through the box with the id, or nearer to it than the buffer */
+    REROUTE_MISSES_VIA = 5          /* it does not pass the checkpoint at the place, after those before it */
+};
+/* The place counts segments or checkpoints from 1; it is 0 for the other breaches and for none. box is 0 but for REROUTE_HITS,
+ * and cost is 0 but for REROUTE_LEGAL. */
+typedef struct reroute_verdict { uint32_t breach; uint32_t place; int64_t box; uint64_t cost; } reroute_verdict;
+/* Writes the verdict on the line with these corners, as that of a connector of the present scene; it need not be drawn there.
+ * corners and verdict are not NULL. The faults are REROUTE_UNKNOWN_EDGE, REROUTE_SAME_NODE for a connector from a box to itself,
+ * REROUTE_TOO_MANY, REROUTE_OUT_OF_RANGE for the first corner beyond 2 * 10^9, REROUTE_NO_SESSION and REROUTE_MEMORY; after
+ * one nothing is written, and after any answer all stays, the open transaction too. */
+reroute_fault reroute_check(reroute_session *session, uint32_t connector, const reroute_point *corners, size_t count, reroute_verdict *verdict);
 
 /* --- The scene, by places: that of the open transaction if one is open, otherwise the present one ------------------- */
 /* Each call writes what has the place, from 0, and returns true; it returns false and writes nothing if nothing has the place,

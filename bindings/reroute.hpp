@@ -33,8 +33,23 @@ struct Box { int64_t id; double x, y, w, h; bool isGroup; std::vector<Pin> pins;
 struct Connector { uint32_t number; int64_t start, end; uint32_t startClass, endClass; Corners checkpoints; };
 struct Settings { double penalty, buffer, nudge; };
 enum class Setting { penalty, buffer, nudge };
+enum class End { start, end };
 
-// A call that was refused. No transaction is open after it, and nothing else changed.
+// A path that the routes of two connectors share, before nudging: the runs from first to last of a, counted from 1, and those
+// from bFirst to bLast of b. back and ahead are its ends, seen along a: the hand on which a parts, or none where both routes
+// stop. side is the hand on which a belongs all along, if there is one.
+enum class Hand { none = REROUTE_TIE, left = REROUTE_LEFT, right = REROUTE_RIGHT };
+struct SharedPath { uint32_t a, b, first, last, bFirst, bLast; Hand back, ahead, side; };
+
+// The verdict on a line: the first rule that it breaks, with the place of the segment or of the checkpoint, from 1, and the box
+// that is hit; otherwise what it costs. What does not apply is 0.
+enum class Breach {
+    none = REROUTE_LEGAL, slanted = REROUTE_SLANTED, startOff = REROUTE_START_OFF, endOff = REROUTE_END_OFF, hits = REROUTE_HITS,
+    missesVia = REROUTE_MISSES_VIA
+};
+struct Verdict { Breach breach; uint32_t place; int64_t box; double cost; };
+
+// A call that was refused. Nothing is changed by it, but that no transaction is open any more, except after a label or a check().
 struct Refused : std::runtime_error {
     reroute_fault fault;
     std::size_t line; // of a script, from 1; otherwise 0
@@ -137,6 +152,12 @@ public:
         done(reroute_connect(at(), start, startClass, end, endClass, &number));
         return number;
     }
+    // Moves an end of a connector to another box, and answers its new number. The other end and the checkpoints stay.
+    uint32_t reconnect(uint32_t connector, End end, int64_t box, uint32_t pinClass = 0) {
+        uint32_t number = 0;
+        done(reroute_reconnect(at(), connector, end == End::end, box, pinClass, &number));
+        return number;
+    }
     void setClasses(uint32_t connector, uint32_t startClass, uint32_t endClass) {
         done(reroute_set_classes(at(), connector, startClass, endClass));
     }
@@ -188,6 +209,28 @@ public:
         return cost(connector, found) ? std::optional<double>(found) : std::nullopt;
     }
 #endif
+
+    // The paths that the routes of the present scene share, whether or not a transaction is open; and how often its lines cross.
+    std::vector<SharedPath> sharedPaths() const {
+        std::vector<SharedPath> paths;
+        for (const reroute_shared_info &one : shared())
+            paths.push_back({one.a, one.b, one.first, one.last, one.b_first, one.b_last, hand(one.back), hand(one.ahead), hand(one.side)});
+        return paths;
+    }
+    uint64_t crossings() const {
+        uint64_t count = 0;
+        done(reroute_crossings(at(), &count));
+        return count;
+    }
+    // Judges a line of any origin as that of a connector of the present scene.
+    Verdict check(uint32_t connector, const Corners &corners) const {
+        std::vector<reroute_point> points;
+        for (const Point &corner : corners) points.push_back({milli(corner.x), milli(corner.y)});
+        reroute_point none = {0, 0};
+        reroute_verdict found = {REROUTE_LEGAL, 0, 0, 0};
+        done(reroute_check(at(), connector, points.empty() ? &none : points.data(), points.size(), &found));
+        return {static_cast<Breach>(found.breach), found.place, found.box, static_cast<double>(found.cost) / 1000};
+    }
 
     // The scene: that of the open transaction if one is open, otherwise the present one. Connectors are in the order of their
     // numbers.
@@ -278,6 +321,15 @@ private:
         }
         for (std::size_t place = 0; isChanges && place < reroute_gone_count(at()); place++) found[reroute_gone(at(), place)];
         return found;
+    }
+    static Hand hand(uint32_t code) { return static_cast<Hand>(code); }
+    std::vector<reroute_shared_info> shared() const {
+        std::size_t count = 0;
+        reroute_shared_info none;
+        done(reroute_shared(at(), &none, 0, &count));
+        std::vector<reroute_shared_info> paths(count);
+        if (count) done(reroute_shared(at(), paths.data(), count, &count));
+        return paths;
     }
     // All points that a call has of the line, or the connector, at a place.
     Corners points(bool (*call)(reroute_session *, std::size_t, std::size_t, reroute_point *), std::size_t place) const {

@@ -32,7 +32,8 @@ VALUES = {'Global': 'alloc', '&mut Handle': 'handle', 'i64': '0', 'u32': '0', 'u
           '&mut u64': '&mut cost', '&mut usize': '&mut count', '&mut Corner': '&mut corner', '*mut u8': 'at',
           '&[u8]': 'b"graph [ ]"', '&mut [u8]': '&mut bytes[..]',
           '&mut BoxInfo': '&mut a_box', '&mut PinInfo': '&mut pin', '&mut ConnectorInfo': '&mut connector',
-          '&mut SettingsInfo': '&mut settings',
+          '&mut SettingsInfo': '&mut settings', 'bool': 'true', '&mut [SharedInfo]': '&mut shared[..]', '&[Corner]': '&corners[..]',
+          '&mut Verdict': '&mut verdict',
           'Directions': 'crate::edits::Directions { east: true, south: true, west: true, north: true }'}
 MAIN = '''
 fn main(rt: HostRuntime) -> std::io::Result<()> {
@@ -48,6 +49,9 @@ fn main(rt: HostRuntime) -> std::io::Result<()> {
     let mut pin = crate::scene::PinInfo { class: 0, dx: 0, dy: 0, directions };
     let mut connector = crate::scene::ConnectorInfo { number: 0, from: 0, from_class: 0, to: 0, to_class: 0, checkpoints: 0 };
     let mut settings = crate::scene::SettingsInfo { penalty: 0, buffer: 0, nudge: 0 };
+    let mut shared = [crate::checks::SharedInfo { a: 0, b: 0, first: 0, last: 0, b_first: 0, b_last: 0, back: 0, ahead: 0, side: 0 }];
+    let corners = [crate::lines::Corner { x: 0, y: 0 }];
+    let mut verdict = crate::checks::Verdict { breach: 0, place: 0, hit: 0, cost: 0 };
 %s    Ok(())
 }
 '''

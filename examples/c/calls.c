@@ -17,6 +17,20 @@ static void costs(reroute_session *s, uint32_t connector, uint64_t wanted) {
     WANT(reroute_cost(s, connector, &cost) && cost == wanted);
 }
 
+/* A closed session refuses what is asked of its lines, and writes nothing. */
+static void closed_to_questions(reroute_session *s) {
+    size_t count = 7;
+    uint64_t crossings = 7;
+    reroute_point corner = { 0, 0 };
+    reroute_shared_info path = { 7, 7, 7, 7, 7, 7, 7, 7, 7 };
+    reroute_verdict verdict = { 7, 7, 7, 7 };
+    REFUSES(reroute_shared(s, &path, 1, &count), REROUTE_NO_SESSION, 0);
+    REFUSES(reroute_crossings(s, &crossings), REROUTE_NO_SESSION, 0);
+    REFUSES(reroute_check(s, 1, &corner, 1, &verdict), REROUTE_NO_SESSION, 0);
+    WANT(count == 7 && crossings == 7 && path.a == 7 && path.side == 7);
+    WANT(verdict.breach == 7 && verdict.place == 7 && verdict.box == 7 && verdict.cost == 7);
+}
+
 /* A closed session refuses everything. */
 static void closed(reroute_session *s) {
     size_t count = 7;
@@ -35,6 +49,7 @@ static void closed(reroute_session *s) {
     REFUSES(reroute_redo(s), REROUTE_NO_SESSION, 0);
     REFUSES(reroute_add_box(s, 1, 0, 0, 20000, 20000), REROUTE_NO_SESSION, 0);
     REFUSES(reroute_connect(s, 1, 0, 2, 0, &number), REROUTE_NO_SESSION, 0);
+    REFUSES(reroute_reconnect(s, 1, true, 2, 0, &number), REROUTE_NO_SESSION, 0);
     REFUSES(reroute_lines(s, &count), REROUTE_NO_SESSION, 0);
     REFUSES(reroute_preview(s, &count), REROUTE_NO_SESSION, 0);
     WANT(reroute_box_count(s) == 0 && reroute_connector_count(s) == 0);
@@ -45,6 +60,7 @@ static void closed(reroute_session *s) {
     WANT(!reroute_box(s, 0, &box) && !reroute_pin(s, 0, 0, &pin) && !reroute_connector(s, 0, &connector));
     WANT(!reroute_checkpoint(s, 0, 0, &corner) && !reroute_settings(s, &settings));
     WANT(count == 7 && number == 7 && cost == 7 && corner.x == 7 && corner.y == 7);
+    closed_to_questions(s);
 }
 
 /* Two boxes with a connector, and a third box below them. */
@@ -102,6 +118,19 @@ static void refusals(reroute_session *s) {
     DONE(reroute_begin(s));
     REFUSES(reroute_add_pin(s, 1, 1, 0, 0, none), REROUTE_SYNTAX, 0);
     REFUSES(reroute_commit(s), REROUTE_NO_TRANSACTION, 0);
+}
+
+/* An id has at most 18 digits, and a longer one drops the transaction. */
+static void long_ids(reroute_session *s) {
+    DONE(reroute_begin(s));
+    REFUSES(reroute_add_box(s, 1000000000000000000, 0, 300000, 20000, 20000), REROUTE_OUT_OF_RANGE, 2);
+    REFUSES(reroute_commit(s), REROUTE_NO_TRANSACTION, 0);
+    DONE(reroute_begin(s));
+    REFUSES(reroute_add_box(s, INT64_MIN, 0, 300000, 20000, 20000), REROUTE_OUT_OF_RANGE, 2);
+    DONE(reroute_begin(s));
+    DONE(reroute_add_box(s, 999999999999999999, 0, 300000, 20000, 20000));
+    DONE(reroute_add_box(s, -999999999999999999, 0, 400000, 20000, 20000));
+    DONE(reroute_abort(s));
 }
 
 /* The line of a present scene, which is reported; what changed since is said once. */
@@ -359,6 +388,106 @@ static void labels(reroute_session *s) {
     reroute_close(s);
 }
 
+/* Connectors there and back round a box, and one from a box to itself. */
+static const char *there_and_back =
+    "graph [ node [ id 1 graphics [ x 0 y 0 w 20 h 20 ] ] node [ id 2 graphics [ x 100 y 0 w 20 h 20 ] ]\n"
+    "  node [ id 3 graphics [ x 50 y 0 w 20 h 40 ] ]\n"
+    "  edge [ source 1 target 2 ] edge [ source 2 target 1 ] edge [ source 3 target 3 ] ]";
+
+static bool is_path(reroute_shared_info path, uint32_t a, uint32_t b, uint32_t runs) {
+    return path.a == a && path.b == b && path.first == 1 && path.last == runs;
+}
+
+/* Both routes are one path, which the second one goes backwards. */
+static void shared(reroute_session *s) {
+    size_t count = 7;
+    uint64_t crossings = 7;
+    reroute_shared_info paths[2] = { { 7, 7, 7, 7, 7, 7, 7, 7, 7 }, { 7, 7, 7, 7, 7, 7, 7, 7, 7 } };
+    DONE(reroute_shared(s, paths, 0, &count));
+    WANT(count == 1 && paths[0].a == 7);
+    DONE(reroute_shared(s, paths, 2, &count));
+    WANT(count == 1 && is_path(paths[0], 1, 2, 3) && paths[0].b_first == 3 && paths[0].b_last == 1 && paths[1].a == 7);
+    WANT(paths[0].back == REROUTE_TIE && paths[0].ahead == REROUTE_TIE && paths[0].side == REROUTE_TIE);
+    DONE(reroute_crossings(s, &crossings));
+    WANT(crossings == 0);
+}
+
+static void judges(reroute_session *s, uint32_t connector, const reroute_point *corners, size_t count, reroute_verdict wanted) {
+    reroute_verdict found = { 7, 7, 7, 7 };
+    DONE(reroute_check(s, connector, corners, count, &found));
+    WANT(found.breach == wanted.breach && found.place == wanted.place && found.box == wanted.box && found.cost == wanted.cost);
+}
+
+/* Each verdict, of a line that need not be drawn. An open transaction makes no difference, and stays open where a line is refused,
+ * and then nothing is written. */
+static void verdicts(reroute_session *s) {
+    static const reroute_point round[] = { { 0, 0 }, { 0, -24000 }, { 100000, -24000 }, { 100000, 0 } };
+    static const reroute_point slanted[] = { { 0, 0 }, { 100000, 1000 } }, across[] = { { 0, 0 }, { 100000, 0 } };
+    static const reroute_point far[] = { { 0, 0 }, { 2000000001, 0 } };
+    reroute_verdict legal = { REROUTE_LEGAL, 0, 0, 248000 }, hits = { REROUTE_HITS, 1, 3, 0 }, slants = { REROUTE_SLANTED, 1, 0, 0 };
+    reroute_verdict start_off = { REROUTE_START_OFF, 0, 0, 0 }, end_off = { REROUTE_END_OFF, 0, 0, 0 };
+    reroute_verdict misses = { REROUTE_MISSES_VIA, 1, 0, 0 }, none = { 7, 7, 7, 7 };
+    judges(s, 1, round, 4, legal);
+    judges(s, 1, across, 2, hits);
+    judges(s, 1, slanted, 2, slants);
+    judges(s, 1, round, 0, start_off);
+    judges(s, 1, round + 1, 3, start_off);
+    judges(s, 1, round, 3, end_off);
+    DONE(reroute_begin(s));
+    DONE(reroute_add_checkpoint(s, 1, 1, 50000, 30000));
+    judges(s, 1, round, 4, legal);
+    shared(s);
+    REFUSES(reroute_check(s, 9, round, 4, &none), REROUTE_UNKNOWN_EDGE, 9);
+    REFUSES(reroute_check(s, 3, round, 4, &none), REROUTE_SAME_NODE, 3);
+    REFUSES(reroute_check(s, 1, far, 2, &none), REROUTE_OUT_OF_RANGE, 5);
+    WANT(none.breach == 7 && none.place == 7 && none.box == 7 && none.cost == 7);
+    DONE(reroute_commit(s));
+    judges(s, 1, round, 4, misses);
+}
+
+/* The end at which connector 1 begins gets to box 3, and then the one at which it ends to box 1. Its checkpoint stays. */
+static void reconnect(reroute_session *s) {
+    uint32_t number = 7;
+    reroute_connector_info connector;
+    reroute_point point;
+    DONE(reroute_begin(s));
+    DONE(reroute_reconnect(s, 1, false, 3, 0, &number));
+    WANT(number == 4 && reroute_next(s) == 5 && reroute_connector_count(s) == 2);
+    WANT(reroute_connector(s, 2, &connector) && connector.number == 4 && connector.from == 3 && connector.to == 2);
+    WANT(connector.checkpoints == 1 && reroute_checkpoint(s, 2, 0, &point) && point.x == 50000 && point.y == 30000);
+    DONE(reroute_reconnect(s, 4, true, 1, 0, &number));
+    WANT(number == 5 && reroute_connector(s, 2, &connector) && connector.from == 3 && connector.to == 1);
+    DONE(reroute_commit(s));
+    WANT(reroute_connector_count(s) == 2 && reroute_next(s) == 6);
+    DONE(reroute_undo(s));
+    WANT(reroute_connector(s, 0, &connector) && connector.number == 1 && connector.from == 1 && connector.to == 2);
+}
+
+/* Each of these drops its transaction, and writes no number. */
+static void no_reconnect(reroute_session *s) {
+    uint32_t number = 7;
+    REFUSES(reroute_reconnect(s, 1, true, 3, 0, &number), REROUTE_NO_TRANSACTION, 0);
+    DONE(reroute_begin(s));
+    REFUSES(reroute_reconnect(s, 9, true, 3, 0, &number), REROUTE_UNKNOWN_EDGE, 9);
+    DONE(reroute_begin(s));
+    REFUSES(reroute_reconnect(s, 1, true, 9, 0, &number), REROUTE_UNKNOWN_NODE, 9);
+    DONE(reroute_begin(s));
+    REFUSES(reroute_reconnect(s, 1, true, 1, 0, &number), REROUTE_SAME_NODE, 1);
+    DONE(reroute_begin(s));
+    REFUSES(reroute_reconnect(s, 1, true, 3, 5, &number), REROUTE_UNKNOWN_PIN_CLASS, 5);
+    REFUSES(reroute_commit(s), REROUTE_NO_TRANSACTION, 0);
+    WANT(number == 7 && reroute_connector_count(s) == 2 && reroute_next(s) == 4);
+}
+
+static void questions(reroute_session *s) {
+    DONE(opened(s, there_and_back));
+    shared(s);
+    verdicts(s);
+    no_reconnect(s);
+    reconnect(s);
+    reroute_close(s);
+}
+
 /* A copy of a handle is the same session, and a handle that was ended or not started is started again. */
 static void handles(void) {
     reroute_session session, copy;
@@ -417,6 +546,7 @@ int main(void) {
     draw(&session);
     lines(&session);
     refusals(&session);
+    long_ids(&session);
     preview(&session);
     move_and_undo(&session);
     pins_and_checkpoints(&session);
@@ -427,6 +557,8 @@ int main(void) {
     texts(&session);
     closed(&session);
     labels(&session);
+    closed(&session);
+    questions(&session);
     closed(&session);
     twenty(&session);
     reroute_close(&session);

@@ -87,6 +87,47 @@ class ClassTest(CompilerTest):
     session.labelBox(3, "");
     EXPECT(session.gml().find("Ship") == std::string::npos);''')
 
+    def test_an_end_moves_to_another_box(self):
+        self.assert_holds('''
+    Session session = drawn();
+    session.transaction([](Session &s) { s.addPin(3, 7, 0, -20, "N"); s.addCheckpoint(1, 1, 50, 30); });
+    EXPECT(session.transaction([](Session &s) { return s.reconnect(1, reroute::End::end, 3, 7); }) == 2);
+    const reroute::Connector one = session.connectors().at(0);
+    EXPECT(one.number == 2 && one.start == 1 && one.end == 3 && one.startClass == 0 && one.endClass == 7);
+    EXPECT(one.checkpoints == (Corners{{50, 30}}));
+    EXPECT(session.transaction([](Session &s) { return s.reconnect(2, reroute::End::start, 2); }) == 3);
+    EXPECT(session.connectors().at(0).start == 2 && session.connectors().at(0).endClass == 7);
+    THROWS(reroute::Refused, session.transaction([](Session &s) { s.reconnect(3, reroute::End::end, 9); }));
+    THROWS(reroute::Refused, session.transaction([](Session &s) { s.addBox(1000000000000000000, 0, 0, 20, 20); }));
+    EXPECT(session.connectorCount() == 1 && session.next() == 4);''', '-fsanitize=address,undefined')
+
+    def test_questions_about_the_present_scene(self):
+        self.assert_holds('''
+    Session session = drawn();
+    EXPECT(session.sharedPaths().empty() && session.crossings() == 0);
+    session.transaction([](Session &s) { s.connect(2, 1); s.move(3, 50, 0); });
+    const std::vector<reroute::SharedPath> paths = session.sharedPaths();
+    EXPECT(paths.size() == 1 && paths[0].a == 1 && paths[0].b == 2 && paths[0].first == 1 && paths[0].last == 3);
+    EXPECT(paths[0].bFirst == 3 && paths[0].bLast == 1 && paths[0].back == reroute::Hand::none);
+    EXPECT(paths[0].ahead == reroute::Hand::none && paths[0].side == reroute::Hand::none);
+    const reroute::SharedPath parting = Session("graph [ node [ id 1 graphics [ x 0 y 0 w 20 h 20 ] ]"
+        " node [ id 2 graphics [ x 100 y 100 w 20 h 20 ] ] node [ id 3 graphics [ x 200 y 300 w 20 h 20 ] ]"
+        " edge [ source 1 target 2 ] edge [ source 1 target 3 ] ]").sharedPaths().at(0);
+    EXPECT(parting.back == reroute::Hand::none && parting.ahead == reroute::Hand::right && parting.side == reroute::Hand::right);
+    reroute::Verdict verdict = session.check(1, around);
+    EXPECT(verdict.breach == reroute::Breach::none && verdict.cost > 247 && verdict.cost < 249 && verdict.place == 0);
+    verdict = session.check(1, straight);
+    EXPECT(verdict.breach == reroute::Breach::hits && verdict.place == 1 && verdict.box == 3);
+    EXPECT(session.check(1, {}).breach == reroute::Breach::startOff);
+    EXPECT(session.check(1, {{0, 0}, {100, 1}}).breach == reroute::Breach::slanted);
+    session.begin();
+    THROWS(reroute::Refused, session.check(9, around));
+    THROWS(reroute::Refused, session.check(1, {{0, 0}, {2000001, 0}}));
+    session.commit();
+    const Session moved = std::move(session);
+    THROWS(reroute::Refused, session.crossings());
+    EXPECT(moved.crossings() == 0);''', '-fsanitize=address,undefined')
+
     def test_a_transaction_answers_what_its_edits_answer(self):
         self.assert_holds('''
     Session session = drawn();

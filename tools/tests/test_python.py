@@ -73,7 +73,8 @@ class NumbersTest(LibraryTest):
     def test_whole_numbers_beyond_their_bits(self):
         for call, words in (('add_box', (2**64 + 7, 300, 0, 20, 20)), ('move', (2**64 + 1, 5, 5)), ('drop', (2**64 + 3,)),
                             ('cut', (2**32 + 1,)), ('cut', (-1,)), ('add_pin', (1, 2**32 + 5, 0, 0)),
-                            ('set_classes', (2**32 + 1, 0, 0)), ('connect', (1, 3, 2**32)), ('connect', (2**64 + 1, 3))):
+                            ('set_classes', (2**32 + 1, 0, 0)), ('connect', (1, 3, 2**32)), ('connect', (2**64 + 1, 3)),
+                            ('reconnect', (2**32 + 1, 'end', 3)), ('reconnect', (1, 'end', 2**64 + 3)), ('check', (2**32 + 1, []))):
             with self.subTest(call, words=words):
                 self.assert_nothing_done(OverflowError, call, *words)
         with self.assertRaises(OverflowError):
@@ -90,9 +91,11 @@ class NumbersTest(LibraryTest):
         for sides in ('', 'EX', 'e'):
             self.assert_nothing_done(ValueError, 'add_pin', 1, 1, 0, 0, sides)
         self.assert_nothing_done(ValueError, 'set', 'speed', 1)
+        self.assert_nothing_done(ValueError, 'reconnect', 1, 'target', 3)
 
     def test_limits_of_the_engine_are_refusals(self):
         self.assert_nothing_done(Refused, 'move', 1, 2_000_000_000, 0)
+        self.assert_nothing_done(Refused, 'add_box', 10**18, 0, 0, 20, 20)
 
 
 class SessionTest(LibraryTest):
@@ -110,6 +113,59 @@ class SessionTest(LibraryTest):
         session.label_box(3, '')
         self.assertNotIn(b'Ship', session.gml())
         self.assertIn(b'goes right', session.gml())
+
+    def test_an_end_moves_to_another_box(self):
+        session = self.drawn()
+        with session.transaction():
+            session.add_checkpoint(1, 1, 50, 30)
+            session.add_pin(3, 7, 0, -20, 'N')
+        session.changes()
+        with session.transaction():
+            self.assertEqual((session.reconnect(1, 'end', 3, 7), session.next), (2, 3))
+        self.assertEqual(session.connectors(), [(2, 1, 3, 0, 7, [(50, 30)])])
+        self.assertEqual(session.changes()[1], [])
+        with session.transaction():
+            self.assertEqual(session.reconnect(2, 'start', 2), 3)
+        self.assertEqual(session.connectors(), [(3, 2, 3, 0, 7, [(50, 30)])])
+        for words, wanted in (((9, 'end', 3), 'X5 UnknownEdge 9'), ((3, 'end', 9), 'X4 UnknownNode 9'), ((3, 'end', 2), 'X8 SameNode 2'),
+                              ((3, 'end', 1, 7), 'X11 UnknownPinClass 7')):
+            with self.assertRaisesRegex(Refused, f'^{wanted}$'), session.transaction():
+                session.reconnect(*words)
+        self.assertEqual((session.next, len(session.connectors())), (4, 1))
+
+    def test_shared_paths_and_crossings(self):
+        session = self.drawn()
+        self.assertEqual((session.shared_paths(), session.crossings()), ([], 0))
+        with session.transaction():
+            session.connect(2, 1)
+            session.move(3, 50, 0)
+            self.assertEqual(session.shared_paths(), [])
+        self.assertEqual(session.shared_paths(), [(1, 2, 1, 3, 3, 1, 'tie', 'tie', None)])
+        with Session.open(f'{TOP}/examples/shared_paths.gml') as shared:
+            self.assertEqual((shared.shared_paths(), shared.crossings()), ([(1, 2, 1, 1, 1, 1, 'tie', 'right', 'right')], 0))
+        with session.transaction():
+            session.add_box(4, 30, -80, 10, 10)
+            session.add_box(5, 30, 80, 10, 10)
+            session.connect(4, 5)
+            session.cut(2)
+        self.assertEqual((session.shared_paths(), session.crossings()), ([], 1))
+
+    def test_verdicts(self):
+        session = self.drawn()
+        with session.transaction():
+            session.move(3, 50, 0)
+        for corners, wanted in ((AROUND, (None, None, None, 248)), (STRAIGHT, ('Hits', 1, 3, None)), ([], ('StartOff', None, None, None)),
+                                ([(0, 0), (100, 1)], ('Slanted', 1, None, None)), (AROUND[:3], ('EndOff', None, None, None))):
+            self.assertEqual(session.check(1, corners), wanted)
+        with session.transaction():
+            session.add_checkpoint(1, 1, 50, 30)
+            self.assertEqual(session.check(1, AROUND).cost, 248)
+            for words, wanted in (((9, AROUND), 'X5 UnknownEdge 9'), ((1, [(0, 0), (2_000_001, 0)]), 'X9 OutOfRange 5')):
+                with self.assertRaisesRegex(Refused, f'^{wanted}$'):
+                    session.check(*words)
+        self.assertEqual(session.check(1, AROUND), ('MissesVia', 1, None, None))
+        with self.assertRaises(ValueError):
+            session.check(1, [(0, math.nan)])
 
     def test_open_sessions_are_closed_when_collected(self):
         session = Session()
@@ -163,7 +219,8 @@ print(resource.getrusage(resource.RUSAGE_SELF).ru_maxrss - before)
         session.close()
         session.close()
         gc.collect()
-        for call in (session.begin, session.lines, session.gml, session.undo, session.settings):
+        for call in (session.begin, session.lines, session.gml, session.undo, session.settings, session.shared_paths, session.crossings,
+                     lambda: session.check(1, []), lambda: session.reconnect(1, 'end', 2)):
             with self.assertRaises(Refused) as caught:
                 call()
             self.assertIs(caught.exception.code, Code.NO_SESSION)
@@ -187,7 +244,8 @@ print(resource.getrusage(resource.RUSAGE_SELF).ru_maxrss - before)
 
     def test_codes_are_those_of_the_header(self):
         with open(f'{TOP}/bindings/reroute.h') as file:
-            header = {name: int(code) for name, code in re.findall(r'REROUTE_(\w+) = (\d+)', file.read())}
+            codes = re.search(r'REROUTE_OK = 0.*?^};', file.read(), flags=re.M | re.S)[0]
+        header = {name: int(code) for name, code in re.findall(r'REROUTE_(\w+) = (\d+)', codes)}
         self.assertEqual({**Code.__members__, 'OK': 0, 'MEMORY': 99}, header)
 
     def test_the_scene_is_that_of_the_open_transaction(self):

@@ -29,6 +29,13 @@ Lengths are in units of the diagram, kept to thousandths. `changes()` tells the 
     Box(id=2, x=100.0, y=0.0, w=20.0, h=20.0, is_group=False, pins=[])
     >>> session.close()
 
+`shared_paths()`, `crossings()` and `check()` answer questions about the lines:
+
+    >>> with Session('graph [ node [ id 1 graphics [ x 0 y 0 w 20 h 20 ] ] '
+    ...              'node [ id 2 graphics [ x 100 y 0 w 20 h 20 ] ] edge [ source 1 target 2 ] ]') as session:
+    ...     session.check(1, [(0, 0), (100, 0)]), session.check(1, [(0, 0), (100, 10)])
+    (Verdict(breach=None, place=None, box=None, cost=100.0), Verdict(breach='Slanted', place=1, box=None, cost=None))
+
 Where a call is refused, its transaction is dropped:
 
     >>> with Session() as session, session.transaction():
@@ -43,7 +50,8 @@ libreroute.so.0.
 """
 from ._faults import Code, Refused
 from ._graph import route_graph
-from ._session import Box, Connector, Corners, Lines, Pin, Session, Settings
+from ._session import Box, Connector, Corners, Lines, Pin, Session, Settings, SharedPath, Verdict
 
-__all__ = ['Box', 'Code', 'Connector', 'Corners', 'Lines', 'Pin', 'Refused', 'Session', 'Settings', 'route_graph']
+__all__ = ['Box', 'Code', 'Connector', 'Corners', 'Lines', 'Pin', 'Refused', 'Session', 'Settings', 'SharedPath', 'Verdict',
+           'route_graph']
 __version__ = '0.1.0'

@@ -60,7 +60,8 @@ WITHOUT_VALUE = {
 
 
 class Refused(Exception):
-    """A call that was refused. No transaction is open after it, and nothing else changed.
+    """A call that was refused. Nothing is changed by it, but that no transaction is open any more, except after a label or a
+    `check`.
 
     `code` is a `Code`, `reason` its name as the program prints it, `value` what the refusal names or None, and `line` that
     of a script, from 1, otherwise 0.

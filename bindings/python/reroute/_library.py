@@ -45,6 +45,14 @@ class SettingsInfo(c.Structure):
     _fields_ = [('penalty', c.c_int64), ('buffer', c.c_int64), ('nudge', c.c_int64)]
 
 
+class SharedInfo(c.Structure):
+    _fields_ = [(name, c.c_uint32) for name in ('a', 'b', 'first', 'last', 'b_first', 'b_last', 'back', 'ahead', 'side')]
+
+
+class VerdictInfo(c.Structure):
+    _fields_ = [('breach', c.c_uint32), ('place', c.c_uint32), ('box', c.c_int64), ('cost', c.c_uint64)]
+
+
 class Handle(c.Structure):
     _fields_ = [('held', c.c_void_p)]
 
@@ -55,7 +63,8 @@ CALLS = {
     'open': (Fault,), 'close': (None,), 'begin': (Fault,), 'commit': (Fault,), 'abort': (Fault,), 'undo': (Fault,),
     'redo': (Fault,), 'add_box': (Fault, I, I, I, I, I), 'move_box': (Fault, I, I, I), 'size_box': (Fault, I, I, I),
     'drop_box': (Fault, I), 'add_pin': (Fault, I, U, I, I, Directions), 'drop_pin': (Fault, I, U),
-    'connect': (Fault, I, U, I, U, c.POINTER(U)), 'next': (U,), 'cut': (Fault, U), 'set_classes': (Fault, U, U, U),
+    'connect': (Fault, I, U, I, U, c.POINTER(U)), 'reconnect': (Fault, U, c.c_bool, I, U, c.POINTER(U)), 'next': (U,),
+    'cut': (Fault, U), 'set_classes': (Fault, U, U, U),
     'add_checkpoint': (Fault, U, U, I, I), 'drop_checkpoint': (Fault, U, U), 'set_penalty': (Fault, I),
     'set_buffer': (Fault, I), 'set_nudge': (Fault, I), 'label_box': (Fault, I, c.c_char_p, Z),
     'label_connector': (Fault, U, c.c_char_p, Z), 'lines': (Fault, c.POINTER(Z)), 'line': (Line, Z),
@@ -63,7 +72,8 @@ CALLS = {
     'searched': (c.c_uint64,), 'box_count': (Z,), 'connector_count': (Z,), 'preview': (Fault, c.POINTER(Z)),
     'gone_count': (Z,), 'gone': (U, Z), 'box': (c.c_bool, Z, c.POINTER(BoxInfo)), 'pin': (c.c_bool, Z, Z, c.POINTER(PinInfo)),
     'connector': (c.c_bool, Z, c.POINTER(ConnectorInfo)), 'checkpoint': (c.c_bool, Z, Z, c.POINTER(Point)),
-    'settings': (c.c_bool, c.POINTER(SettingsInfo)),
+    'settings': (c.c_bool, c.POINTER(SettingsInfo)), 'shared': (Fault, c.POINTER(SharedInfo), Z, c.POINTER(Z)),
+    'crossings': (Fault, c.POINTER(c.c_uint64)), 'check': (Fault, U, c.POINTER(Point), Z, c.POINTER(VerdictInfo)),
     'open_gml': (Fault, c.c_char_p, Z), 'write_gml': (Fault, c.c_char_p, Z, c.POINTER(Z)),
     'play': (Fault, c.c_char_p, Z, c.POINTER(Z))}
 

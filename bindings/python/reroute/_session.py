@@ -4,18 +4,21 @@ import ctypes
 import itertools
 import os
 import weakref
-from typing import Any, Dict, Iterator, List, NamedTuple, Optional, Tuple, Union
+from typing import Any, Dict, Iterable, Iterator, List, NamedTuple, Optional, Tuple, Union
 
 from ._faults import Code, Refused, milli, whole
-from ._library import (CALLS, BoxInfo, ConnectorInfo, Directions, Handle, I, PinInfo, Point, SettingsInfo, U, Z, default_path,
-                       loaded)
+from ._library import (CALLS, BoxInfo, ConnectorInfo, Directions, Handle, I, PinInfo, Point, SettingsInfo, SharedInfo, U,
+                       VerdictInfo, Z, default_path, loaded)
 
-__all__ = ['Box', 'Connector', 'Corners', 'Lines', 'Pin', 'Session', 'Settings']
+__all__ = ['Box', 'Connector', 'Corners', 'Lines', 'Pin', 'Session', 'Settings', 'SharedPath', 'Verdict']
 
 Corners = List[Tuple[float, float]]
 Lines = Dict[int, Corners]
 SIDES = 'ESWN'
 SETTINGS = ('penalty', 'buffer', 'nudge')
+ENDS = ('start', 'end')
+HANDS = ('tie', 'left', 'right')
+BREACHES = (None, 'Slanted', 'StartOff', 'EndOff', 'Hits', 'MissesVia')
 NO_MEMORY = 99
 
 
@@ -53,6 +56,38 @@ class Settings(NamedTuple):
     penalty: float
     buffer: float
     nudge: float
+
+
+class SharedPath(NamedTuple):
+    """A path that the routes of two connectors share, before nudging: the runs from `first` to `last` of `a`, counted from 1,
+    and those from `b_first` to `b_last` of `b`. `back` and `ahead` are its ends, seen along `a`: 'left' or 'right' where the
+    routes part, for the hand on which `a` is, or 'tie' where both stop. `side` is the hand on which `a` belongs all along, or
+    None."""
+    a: int
+    b: int
+    first: int
+    last: int
+    b_first: int
+    b_last: int
+    back: str
+    ahead: str
+    side: Optional[str]
+
+
+class Verdict(NamedTuple):
+    """What a line costs, or its first breach: 'Slanted', 'StartOff', 'EndOff', 'Hits' or 'MissesVia', with the place of the
+    segment or of the checkpoint, from 1, and the box that is hit. What does not apply is None."""
+    breach: Optional[str]
+    place: Optional[int]
+    box: Optional[int]
+    cost: Optional[float]
+
+
+def is_target(end: str) -> bool:
+    """Whether it is the end where a connector ends, and not the one where it begins."""
+    if end not in ENDS:
+        raise ValueError(f'an end is one of {", ".join(ENDS)}, and not {end!r}')
+    return end == 'end'
 
 
 def fitting(kind: Any, word: Any) -> Any:
@@ -195,6 +230,13 @@ class Session:
         self._call('connect', start, start_class, end, end_class, number)
         return number.value
 
+    def reconnect(self, connector: int, end: str, box: int, pin_class: int = 0) -> int:
+        """Moves the `start` or the `end` of a connector to another box, and answers its new number. The other end and the
+        checkpoints stay."""
+        number = U()
+        self._call('reconnect', connector, is_target(end), box, pin_class, number)
+        return number.value
+
     def set_classes(self, connector: int, start_class: int, end_class: int) -> None:
         self._call('set_classes', connector, start_class, end_class)
 
@@ -270,6 +312,32 @@ class Session:
     def searched(self) -> int:
         """How many searches the session has made."""
         return self._library.reroute_searched(self._handle)
+
+    # ---- questions about the present scene, whether or not a transaction is open ----
+
+    def shared_paths(self) -> List[SharedPath]:
+        """The paths that the routes share, in the order of `a`, `b`, `first` and `b_first`."""
+        count = Z()
+        self._call('shared', SharedInfo(), 0, count)
+        # (no pointer may be NULL, so an array has an entry at least)
+        paths = (SharedInfo * max(count.value, 1))()
+        self._call('shared', paths, count.value, count)
+        return [SharedPath(one.a, one.b, one.first, one.last, one.b_first, one.b_last, HANDS[one.back], HANDS[one.ahead],
+                           HANDS[one.side] if one.side else None) for one in paths[:count.value]]
+
+    def crossings(self) -> int:
+        """How often the lines cross."""
+        count = ctypes.c_uint64()
+        self._call('crossings', count)
+        return count.value
+
+    def check(self, connector: int, corners: Iterable[Tuple[float, float]]) -> Verdict:
+        """Judges a line of any origin as that of a connector."""
+        points = [Point(milli(x), milli(y)) for x, y in corners]
+        found = VerdictInfo()
+        self._call('check', connector, (Point * max(len(points), 1))(*points), len(points), found)
+        breach = BREACHES[found.breach]
+        return Verdict(breach, found.place or None, found.box if breach == 'Hits' else None, None if breach else found.cost / 1000)
 
     # ---- the scene: that of the open transaction if one is open, otherwise the present one ----
 
