@@ -1,7 +1,7 @@
 /** Reroute in a thread of its own: the names of `reroute.mjs`, each as a promise. */
 import type * as direct from './reroute.mjs';
 
-export type { Box, Connector, Corner, Id, Lines, Pin, Scene, Settings } from './reroute.mjs';
+export type { Box, Connector, Corner, Id, Lines, Pin, Scene, Settings, SharedPath, Verdict } from './reroute.mjs';
 export { Refused } from './reroute.mjs';
 
 /** The engine in its thread. */
@@ -17,8 +17,8 @@ type Later<Value> = Value extends (...words: infer Words) => infer Answer ? (...
 type Called = 'begin' | 'commit' | 'abort' | 'undo' | 'redo' | 'play' | 'close' | Edit | Read;
 type Edit = 'addBox' | 'move' | 'resize' | 'drop' | 'addPin' | 'dropPin' | 'connect' | 'reconnect' | 'setClasses' | 'cut' | 'addCheckpoint' |
   'dropCheckpoint' | 'set' | 'labelBox' | 'labelConnector' | 'preview' | 'previewChanges';
-type Read = 'lines' | 'changes' | 'cost' | 'scene' | 'boxes' | 'connectors' | 'settings' | 'gml' | 'gmlBytes' | 'next' | 'searched' |
-  'boxCount' | 'connectorCount';
+type Read = 'lines' | 'changes' | 'cost' | 'sharedPaths' | 'crossings' | 'check' | 'scene' | 'boxes' | 'connectors' | 'settings' | 'gml' |
+  'gmlBytes' | 'next' | 'searched' | 'boxCount' | 'connectorCount';
 
 /** What a transaction hands to its function. The promises need not be awaited: the transaction fails with the first that does. */
 export type Edits = { readonly [Name in Edit | Read]: Later<direct.Session[Name]> };

@@ -129,7 +129,7 @@ export class Reroute {
 
 const EDITS = ['addBox', 'move', 'resize', 'drop', 'addPin', 'dropPin', 'connect', 'reconnect', 'setClasses', 'cut', 'addCheckpoint',
   'dropCheckpoint', 'set', 'labelBox', 'labelConnector', 'preview', 'previewChanges'];
-const READS = ['lines', 'changes', 'cost', 'scene', 'boxes', 'connectors', 'settings', 'gml', 'gmlBytes'];
+const READS = ['lines', 'changes', 'cost', 'sharedPaths', 'crossings', 'check', 'scene', 'boxes', 'connectors', 'settings', 'gml', 'gmlBytes'];
 const NUMBERS = ['next', 'searched', 'boxCount', 'connectorCount'];
 const STEPS = ['begin', 'commit', 'abort', 'undo', 'redo', 'play'];
 

@@ -3,7 +3,7 @@ export type Corner = readonly [x: number, y: number];
 export type Lines = Map<number, readonly Corner[]>;
 export type Id = number | bigint;
 
-/** A call that was refused. No transaction is open after it, and nothing else changed. */
+/** A call that was refused. Nothing is changed by it, but that no transaction is open any more, except after a label or a `check`. */
 export class Refused extends Error {
   constructor(code: number, value?: number | bigint | null, line?: number);
   /** As reroute.h numbers them: 4 for X4, 99 where there is no memory, from 101 on what is said of a diagram. */
@@ -48,6 +48,28 @@ export interface Connector {
 export interface Settings { readonly penalty: number; readonly buffer: number; readonly nudge: number }
 export interface Scene { readonly boxes: readonly Box[]; readonly connectors: readonly Connector[]; readonly settings: Settings }
 
+/** A path that the routes of two connectors share, before nudging: the runs of `a`, from 1, and those of `b`. */
+export interface SharedPath {
+  readonly a: number;
+  readonly b: number;
+  readonly first: number;
+  readonly last: number;
+  readonly bFirst: number;
+  readonly bLast: number;
+  /** Seen along `a`: the hand on which it is where the routes part, or `tie` where both stop. */
+  readonly back: 'tie' | 'left' | 'right';
+  readonly ahead: 'tie' | 'left' | 'right';
+  /** The hand on which `a` belongs all along. */
+  readonly side: 'left' | 'right' | null;
+}
+/** What a line costs, or its first breach, with the place of the segment or of the checkpoint, from 1, and the box that is hit. */
+export interface Verdict {
+  readonly breach: 'Slanted' | 'StartOff' | 'EndOff' | 'Hits' | 'MissesVia' | null;
+  readonly place: number | null;
+  readonly box: Id | null;
+  readonly cost: number | null;
+}
+
 export interface Options { gml?: string | BufferSource | null; engine?: Reroute }
 
 /** A scene of boxes, pins and connectors, with the lines of the connectors. */
@@ -78,8 +100,8 @@ export class Session {
   addPin(id: Id, pinClass: number, dx: number, dy: number, sides?: string): void;
   dropPin(id: Id, place: number): void;
   connect(start: Id, end: Id, startClass?: number, endClass?: number): number;
-  /** Moves the ends of a connector to other boxes or classes, and answers its new number. */
-  reconnect(edge: number, ends: { from?: Id; to?: Id; fromClass?: number; toClass?: number }): number;
+  /** Moves an end of a connector to another box, and answers its new number. The other end and the checkpoints stay. */
+  reconnect(edge: number, end: 'start' | 'end', id: Id, pinClass?: number): number;
   setClasses(edge: number, startClass: number, endClass: number): void;
   cut(edge: number): void;
   addCheckpoint(edge: number, place: number, x: number, y: number): void;
@@ -102,6 +124,12 @@ export class Session {
   /** What the route of a connector of the present scene costs, or null if it has none. */
   cost(edge: number): number | null;
   readonly searched: number;
+
+  /** Of the present scene, whether or not a transaction is open: the paths that the routes share, and how often the lines cross. */
+  sharedPaths(): readonly SharedPath[];
+  crossings(): number;
+  /** Judges a line of any origin as that of a connector of the present scene. */
+  check(edge: number, corners: readonly Corner[]): Verdict;
 
   /** The scene: that of the open transaction if one is open, otherwise the present one. */
   boxes(): readonly Box[];

@@ -26,7 +26,10 @@ const NAMES = { 1: 'Syntax', 2: 'NoTransaction', 3: 'AlreadyOpen', 4: 'UnknownNo
   135: 'TooMany via' };
 const WITHOUT_VALUE = new Set([1, 2, 3, 14, 15, 98, 99, 103, 111, 121, 132, 133, 134, 135]);
 
-/** A call that was refused. No transaction is open after it, and nothing else changed. */
+const HANDS = ['tie', 'left', 'right'];
+const BREACHES = [null, 'Slanted', 'StartOff', 'EndOff', 'Hits', 'MissesVia'];
+
+/** A call that was refused. Nothing is changed by it, but that no transaction is open any more, except after a label or a `check`. */
 export class Refused extends Error {
   constructor(code, value = null, line = 0) {
     const words = [code < 98 ? `X${code}` : '', NAMES[code] ?? code, WITHOUT_VALUE.has(code) ? '' : value];
@@ -268,6 +271,12 @@ export class Session {
     this.#do('connect', whole(start), count(startClass), whole(end), count(endClass), this.#out + 16);
     return this.#word(this.#out + 16);
   }
+  /** Moves the `start` or the `end` of a connector to another box, and answers its new number. The other end and the checkpoints stay. */
+  reconnect(edge, end, id, pinClass = 0) {
+    if (!['start', 'end'].includes(end)) throw new RangeError(`${end} is no end`);
+    this.#do('reconnect', count(edge), end === 'end', whole(id), count(pinClass), this.#out + 16);
+    return this.#word(this.#out + 16);
+  }
   setClasses(edge, startClass, endClass) { this.#do('set_classes', count(edge), count(startClass), count(endClass)); }
   cut(edge) { this.#do('cut', count(edge)); }
   addCheckpoint(edge, place, x, y) { this.#do('add_checkpoint', count(edge), count(place), milli(x), milli(y)); }
@@ -276,17 +285,6 @@ export class Session {
   set(setting, value) {
     if (!['penalty', 'buffer', 'nudge'].includes(setting)) throw new RangeError(`${setting} is no setting`);
     this.#do(`set_${setting}`, milli(value));
-  }
-
-  /** Moves the ends of a connector to other boxes, by a cut and a new connector with the same checkpoints; answers its number. */
-  reconnect(edge, { from, to, fromClass, toClass } = {}) {
-    const old = this.connectors().find(one => one.number === edge);
-    if (!old) throw new Refused(5, edge);
-    this.cut(edge);
-    const number = this.connect(from ?? old.from, to ?? old.to, fromClass ?? (from === undefined ? old.fromClass : 0),
-      toClass ?? (to === undefined ? old.toClass : 0));
-    old.checkpoints.forEach(([x, y], at) => this.addCheckpoint(number, at + 1, x, y));
-    return number;
   }
 
   // --- Labels: no transaction need be open, and no undo takes them back
@@ -326,6 +324,40 @@ export class Session {
   cost(edge) { return this.#call('cost', this.#handle, count(edge), this.#out + 16) ? this.#number() / 1000 : null; }
   /** How many searches were made. */
   get searched() { return Number(this.#call('searched', this.#handle)); }
+
+  // --- Questions about the present scene, whether or not a transaction is open
+
+  /** The paths that the routes share before nudging: the runs from `first` to `last` of `a`, counted from 1, and those from `bFirst`
+      to `bLast` of `b`. `back` and `ahead` are its ends, seen along `a`: `left` or `right` where the routes part, for the hand on
+      which `a` is, or `tie` where both stop. `side` is the hand on which `a` belongs all along, or null. */
+  sharedPaths() {
+    this.#do('shared', this.#out, 0, this.#out + 16);
+    const room = this.#number(), paths = this.#engine.alloc(36 * room + 1);
+    try {
+      this.#do('shared', paths, room, this.#out + 16);
+      return Array.from({ length: room }, (_, nth) => this.#shared(paths + 36 * nth));
+    } finally {
+      this.#call('free', paths);
+    }
+  }
+  #shared(at) {
+    const [a, b, first, last, bFirst, bLast, back, ahead, side] = Array.from({ length: 9 }, (_, nth) => this.#word(at + 4 * nth));
+    return { a, b, first, last, bFirst, bLast, back: HANDS[back], ahead: HANDS[ahead], side: side ? HANDS[side] : null };
+  }
+  /** How often the lines cross. */
+  crossings() {
+    this.#do('crossings', this.#out + 16);
+    return this.#number();
+  }
+  /** Judges a line of any origin as that of a connector: its first breach, `Slanted`, `StartOff`, `EndOff`, `Hits` or `MissesVia`, with
+      the place of the segment or of the checkpoint, from 1, and the box that is hit, or else its cost. What does not apply is null. */
+  check(edge, corners) {
+    const at = this.#out + 32, numbers = corners.flatMap(([x, y]) => [milli(x), milli(y)]);
+    this.#withBytes(BigInt64Array.from(numbers), points => this.#do('check', count(edge), points, corners.length, at));
+    const breach = BREACHES[this.#word(at)];
+    return { breach, place: this.#word(at + 4) || null, box: breach === 'Hits' ? this.#id(at + 8) : null,
+      cost: breach ? null : this.#units(at + 16) };
+  }
 
   // --- The scene: that of the open transaction if one is open, otherwise the present one
 

@@ -130,6 +130,8 @@ await part('refusals have the code, the name, the value and the words of the pro
   const s = pair();
   refused(() => s.addBox(3, 0, 0, 1, 1), 2, 'X2 NoTransaction');
   refused(() => s.transaction(t => t.addBox(3, 1e12, 0, 1, 1)), 9);
+  refused(() => s.transaction(t => t.addBox(10n ** 18n, 0, 0, 1, 1)), 9, 'X9 OutOfRange 2');
+  s.transaction(t => { t.addBox(10n ** 18n - 1n, 0, 300, 1, 1); t.drop(10n ** 18n - 1n); });
   refused(() => s.transaction(t => t.addPin(1, 1, 0, 0, '')), 1, 'X1 Syntax');
   refused(() => s.transaction(t => t.drop(999999999999999999n)), 4, 'X4 UnknownNode 999999999999999999');
   refused(() => s.transaction(t => { t.move(1, 5, 5); t.cut(7); }), 5, 'X5 UnknownEdge 7');
@@ -176,15 +178,54 @@ await part('the scene is read, and a connector moves to another box', () => {
   const number = s.transaction(t => {
     t.move(9, 100, -90.5);
     assert.deepStrictEqual(t.boxes()[2], { id: 9, x: 100, y: -90.5, w: 30, h: 30, isGroup: false, pins: [] });
-    return t.reconnect(1, { to: -7 });
+    return t.reconnect(1, 'end', -7);
   });
   assert.deepStrictEqual(s.connectors().map(({ number: one, from, to, fromClass, checkpoints }) => [one, from, to, fromClass, checkpoints.length]),
     [[2, 9, 9, 0, 0], [3, 1, -7, 3, 1]]);
   assert.deepStrictEqual([number, s.next, [...s.lines().keys()]], [3, 4, [3]]);
   s.undo();
   assert.deepStrictEqual([s.next, s.connectors()[1]], [3, { number: 2, from: 9, fromClass: 0, to: 9, toClass: 0, checkpoints: [] }]);
-  refused(() => s.transaction(t => t.reconnect(7, { to: 9 })), 5);
+  const refuses = (code, ...words) => refused(() => s.transaction(t => t.reconnect(...words)), code);
+  refuses(5, 7, 'end', 9);
+  refuses(4, 1, 'end', 8);
+  refuses(8, 1, 'start', 9);
+  refuses(11, 1, 'end', -7, 3);
+  assert.throws(() => s.transaction(t => t.reconnect(1, 'target', -7)), RangeError);
+  assert.deepStrictEqual([s.next, s.connectors().length], [3, 2]);
   s.close();
+});
+
+await part('shared paths, crossings and verdicts are of the present scene', () => {
+  const s = pair(), around = [[0, 0], [0, -24], [100, -24], [100, 0]], verdict = (...words) => Object.values(s.check(...words));
+  assert.deepStrictEqual([s.sharedPaths(), s.crossings()], [[], 0]);
+  s.transaction(t => {
+    t.addBox(3, 50, 0, 20, 40);
+    t.connect(2, 1);
+    assert.deepStrictEqual(t.sharedPaths(), []);
+  });
+  assert.deepStrictEqual(s.sharedPaths(), [{ a: 1, b: 2, first: 1, last: 3, bFirst: 3, bLast: 1, back: 'tie', ahead: 'tie', side: null }]);
+  const parting = Session.fromGml('graph [ node [ id 1 graphics [ x 0 y 0 w 20 h 20 ] ] node [ id 2 graphics [ x 100 y 100 w 20 h 20 ] ]\n' +
+    'node [ id 3 graphics [ x 200 y 300 w 20 h 20 ] ] edge [ source 1 target 2 ] edge [ source 1 target 3 ] ]');
+  assert.deepStrictEqual(parting.sharedPaths().map(({ back, ahead, side }) => [back, ahead, side]), [['tie', 'right', 'right']]);
+  assert.deepStrictEqual(verdict(1, around), [null, null, null, 248]);
+  assert.deepStrictEqual(verdict(1, [[0, 0], [100, 0]]), ['Hits', 1, 3, null]);
+  assert.deepStrictEqual(verdict(1, []), ['StartOff', null, null, null]);
+  assert.deepStrictEqual(verdict(1, around.slice(0, 3)), ['EndOff', null, null, null]);
+  assert.deepStrictEqual(verdict(1, [[0, 0], [100, 1]]), ['Slanted', 1, null, null]);
+  s.transaction(t => {
+    t.addCheckpoint(1, 1, 50, 30);
+    t.addBox(4, 30, -80, 10, 10);
+    t.addBox(5, 30, 80, 10, 10);
+    t.connect(4, 5);
+    refused(() => t.check(9, around), 5, 'X5 UnknownEdge 9');
+    refused(() => t.check(1, [[0, 0], [2000001, 0]]), 9, 'X9 OutOfRange 5');
+  });
+  assert.deepStrictEqual(verdict(1, around), ['MissesVia', 1, null, null]);
+  assert.strictEqual(s.crossings(), 2);
+  assert.throws(() => s.check(1, [[NaN, 0]]), RangeError);
+  s.close();
+  parting.close();
+  for (const call of [t => t.sharedPaths(), t => t.crossings(), t => t.check(1, []), t => t.reconnect(1, 'end', 2)]) refused(() => call(s), 98);
 });
 
 await part('labels of what was added are written, and no undo takes them back', () => {
@@ -231,6 +272,10 @@ await part('the thread has the same calls as promises, and transactions wait for
     own.trialChanges(t => t.move(1, 0, 40)), '1.5 is no whole ']);
   assert.deepStrictEqual(await s.changes(), own.changes());
   assert.deepStrictEqual(await s.scene(), own.scene());
+  assert.deepStrictEqual([await s.sharedPaths(), await s.crossings()], [[], 0]);
+  assert.deepStrictEqual(await s.check(1, [[0, 0], [100, 51]]), { breach: 'Slanted', place: 1, box: null, cost: null });
+  await assert.rejects(s.check(9, []), error => error instanceof worker.Refused && error.code === 5);
+  assert.deepStrictEqual(await s.trial(t => { t.reconnect(1, 'start', 9); }).catch(error => error.code), 4);
   assert.deepStrictEqual(Buffer.from(await s.gmlBytes()), Buffer.from(own.gmlBytes()));
   await assert.rejects(worker.Session.fromGml('node [ ]'), error => error instanceof worker.Refused && error.code === 103);
   await s.undo();
@@ -293,11 +338,12 @@ await part('a call that lacks memory changes nothing, and the session goes on as
   const wanted = Session.fromGml(gml, { engine: await Reroute.load(module) });
   const seen = { done: 0, refused: 0 };
   for (let step = 0; step < 300; step++) {
-    const id = Math.ceil(draw() * 36), [x, y] = [Math.round(draw() * 400), Math.round(draw() * 300)];
-    const doing = [t => t.transaction(e => e.move(id, x, y)), t => t.undo(), t => t.redo(), t => t.lines()][step % 4];
+    const id = Math.ceil(draw() * 36), nth = Math.floor(draw() * 25), [x, y] = [Math.round(draw() * 400), Math.round(draw() * 300)];
+    const doing = [t => t.transaction(e => e.move(id, x, y)), t => t.undo(), t => t.redo(), t => t.lines(), t => t.sharedPaths(),
+      t => t.transaction(e => e.reconnect(e.connectors()[nth].number, 'end', id)), t => t.crossings(), t => t.check(2, t.lines().get(2) ?? [])][step % 8];
     const before = s.gml(), free = fill(engine, [0, 2e4, 1e5, 2e5, 4e5, 8e5, 2e6, 6e6][Math.floor(draw() * 8)], draw);
-    let fault = null;
-    try { doing(s); } catch (error) { fault = error; }
+    let fault = null, answer = null;
+    try { answer = doing(s); } catch (error) { fault = error; }
     free();
     if (fault && !(fault instanceof Refused)) throw fault;
     if (fault) {
@@ -306,7 +352,7 @@ await part('a call that lacks memory changes nothing, and the session goes on as
       if (fault.code !== 99) refused(() => doing(wanted), fault.code);
     } else {
       seen.done += 1;
-      doing(wanted);
+      assert.deepStrictEqual(doing(wanted), answer);
     }
     assert.strictEqual(s.gml(), wanted.gml());
     assert.deepStrictEqual([...s.lines()], [...wanted.lines()]);

@@ -61,6 +61,15 @@ class Exports(unittest.TestCase):
         self.assertIn('define void @reroute_begin(i32 %out, ', text)
         self.assertIn('store { i32, i64 } %r, ptr %o', text)
 
+    def test_a_bool_is_a_number(self):
+        types = build_wasm.exports()['reroute_reconnect'][1]
+        words = ['ptr %x'] * types.count('Global') + ['ptr %h', 'i32 %a', 'i1 noundef zeroext %b', 'i64 %c', 'i32 %d', 'ptr %e']
+        text = self.shown('{ i32, i64 }', 'reroute_reconnect', words, 'Fault')
+        at = len(words) - 4
+        self.assertIn(f'i32 %a{at}, i64 %a{at + 1}', text)
+        self.assertIn(f'%b{at} = icmp ne i32 %a{at}, 0', text)
+        self.assertIn(f'i1 zeroext %b{at}, i64 %a{at + 1}', text)
+
     def test_ids_and_lengths_keep_64_bits(self):
         types = build_wasm.exports()['reroute_move_box'][1]
         words = ['ptr %x'] * types.count('Global') + ['ptr %h', 'i64 %a', 'i64 %b', 'i64 %c']
