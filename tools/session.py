@@ -50,7 +50,7 @@ class Session:
                 found[int(words[2])] = None
             elif words[0] == b'why':
                 found[int(words[1])] = [word.decode() for word in words[2:]]
-            else:
+            elif words[0] in (b'ok', b'refused'):
                 left -= 1
                 if words[0] == b'refused' and not refusal:
                     refusal = b' '.join(words).decode()

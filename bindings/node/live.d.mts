@@ -3,7 +3,28 @@ export type Corner = readonly [x: number, y: number];
 export type Lines = Map<number, readonly Corner[]>;
 export type Id = number | bigint;
 
-/** A command that was refused. No transaction is open after it, and nothing else changed. */
+/** A path that the routes of two connectors share, before nudging: `first` and `last` are runs of `a`, counted from 1. */
+export interface SharedPath {
+  readonly a: number;
+  readonly b: number;
+  readonly first: number;
+  readonly last: number;
+  /** Seen along `a`: the hand on which it is where the routes part, or `tie` where both stop. */
+  readonly back: 'tie' | 'left' | 'right';
+  readonly ahead: 'tie' | 'left' | 'right';
+  /** The hand on which `a` belongs all along. */
+  readonly side: 'left' | 'right' | null;
+}
+
+/** What a line costs, or its first breach, with the place of the segment or of the checkpoint, from 1, and the box that is hit. */
+export interface Verdict {
+  readonly breach: 'Slanted' | 'StartOff' | 'EndOff' | 'Hits' | 'MissesVia' | null;
+  readonly place: number | null;
+  readonly box: Id | null;
+  readonly cost: number | null;
+}
+
+/** A command that was refused. Nothing is changed by it, but that no transaction is open any more, except after a label or a `check`. */
 export class Refused extends Error {
   /** As reroute.h numbers them: 4 for X4, 99 where no memory is left. */
   readonly code: number;
@@ -42,6 +63,8 @@ export class Session {
   addPin(box: Id, pinClass: number, dx: number, dy: number, sides?: string): Promise<void>;
   dropPin(box: Id, place: number): Promise<void>;
   connect(start: Id, end: Id, startClass?: number, endClass?: number): Promise<number>;
+  /** Moves an end of a connector to another box, and answers its new number. The other end and the checkpoints stay. */
+  reconnect(edge: number, end: 'start' | 'end', box: Id, pinClass?: number): Promise<number>;
   setClasses(edge: number, startClass: number, endClass: number): Promise<void>;
   cut(edge: number): Promise<void>;
   addCheckpoint(edge: number, place: number, x: number, y: number): Promise<void>;
@@ -59,6 +82,11 @@ export class Session {
   preview(): Promise<Lines>;
   /** What `changes` would tell after that commit. */
   previewChanges(): Promise<Lines>;
+
+  /** Of the present scene, whether or not a transaction is open. */
+  sharedPaths(): Promise<readonly SharedPath[]>;
+  crossings(): Promise<number>;
+  check(edge: number, corners: readonly Corner[]): Promise<Verdict>;
 
   gmlBytes(): Promise<Uint8Array>;
   gml(): Promise<string>;

@@ -27,7 +27,7 @@ const SETTINGS = ['penalty', 'buffer', 'nudge'];
 // Beyond it the thousandths of a number are no longer exact; the engine has nearer limits, and names them.
 const FARTHEST = 2 ** 53 / 1000;
 
-/** A command that was refused. No transaction is open after it, and nothing else changed. */
+/** A command that was refused. Nothing is changed by it, but that no transaction is open any more, except after a label or a `check`. */
 export class Refused extends Error {
   constructor(why) {
     super(why);
@@ -73,6 +73,12 @@ function letters(sides) {
   return sides;
 }
 
+/** The word of the program for an end of a connector. */
+function endWord(end) {
+  if (end !== 'start' && end !== 'end') throw new TypeError(`${inspect(end)} is neither start nor end`);
+  return end === 'start' ? 'source' : 'target';
+}
+
 function known(setting) {
   if (!SETTINGS.includes(setting)) throw new TypeError(`${inspect(setting)} is none of ${SETTINGS.join(', ')}`);
   return setting;
@@ -91,6 +97,20 @@ function apply(reported, lines) {
     }
   }
   return lines;
+}
+
+/** The path of a line as `shared 1 2 runs 1-3: back tie, ahead left, side left`. */
+function sharedPath(line) {
+  const [, a, b, , runs, , back, , ahead, , side] = line.replace(/[:,]/g, '').split(' ');
+  const [first, last] = runs.split('-').map(Number);
+  return { a: Number(a), b: Number(b), first, last, back, ahead, side: side === 'none' ? null : side };
+}
+
+/** The verdict of a line as `edge 1: cost 248.000`, `edge 1: EndOff` or `edge 1: Hits 1 node 3`. */
+function verdict(line) {
+  const [, , breach, place, , box] = line.split(' ');
+  if (breach === 'cost') return { breach: null, place: null, box: null, cost: Number(place) };
+  return { breach, place: place ? Number(place) : null, box: box ? number(box) : null, cost: null };
 }
 
 /** The lines that are other ones now; a connector whose line is gone has no corners. */
@@ -312,6 +332,10 @@ export class Session {
   connect(start, end, startClass = 0, endClass = 0) {
     return this.#edit(() => `edge ${id(start)} ${id(end)} ${count(startClass)} ${count(endClass)}`, () => this.#next++);
   }
+  /** Moves the `start` or the `end` of a connector to another box, and answers its new number. The other end and the checkpoints stay. */
+  reconnect(edge, end, box, pinClass = 0) {
+    return this.#edit(() => `reconnect ${count(edge)} ${endWord(end)} ${id(box)} ${count(pinClass)}`, () => this.#next++);
+  }
   setClasses(edge, startClass, endClass) {
     return this.#edit(() => `classes ${count(edge)} ${count(startClass)} ${count(endClass)}`);
   }
@@ -381,6 +405,18 @@ export class Session {
     const woken = [...this.#watching];
     this.#watching.clear();
     woken.forEach(done => done());
+  }
+
+  // ---- questions about the present scene, whether or not a transaction is open ----
+
+  /** The paths that the routes share, before nudging; `first` and `last` are runs of `a`, counted from 1. */
+  async sharedPaths() { return (await this.say('shared')).map(sharedPath); }
+  /** How often the lines cross. */
+  async crossings() { return Number((await this.say('crossings'))[0].split(' ')[1]); }
+  /** Judges a line of any origin as that of a connector. */
+  async check(edge, corners) {
+    const words = corners.flatMap(([x, y]) => [unit(x), unit(y)]);
+    return verdict((await this.say(['check', count(edge), ...words].join(' ')))[0]);
   }
 
   // ---- texts ----

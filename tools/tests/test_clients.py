@@ -78,6 +78,40 @@ class PythonTest(LiveTest):
         session.label_box(3, '')
         self.assertNotIn(b'Ship', session.gml())
 
+    def test_an_end_moves_to_another_box(self):
+        session = self.drawn()
+        with session.transaction():
+            session.add_pin(3, 7, 0, -20, 'N')
+            self.assertEqual((session.reconnect(1, 'end', 3, 7), session.connect(1, 2)), (2, 3))
+        self.assertEqual(sorted(session.changes()), [2, 3])
+        with session.transaction():
+            self.assertEqual((session.connect(2, 3), session.reconnect(3, 'start', 3)), (4, 5))
+            self.assertEqual(session.say('next'), ['next 6'])
+        for words, wanted in (((9, 'end', 3), 'X5 UnknownEdge 9'), ((2, 'end', 9), 'X4 UnknownNode 9')):
+            with self.assertRaisesRegex(Refused, f'^{wanted}$'), session.transaction():
+                session.reconnect(*words)
+        with self.assertRaises(ValueError), session.transaction():
+            session.reconnect(2, 'target', 3)
+        self.assertEqual(sorted(session.lines()), [2, 4, 5])
+
+    def test_questions_about_the_present_scene(self):
+        session = self.drawn()
+        self.assertEqual((session.shared_paths(), session.crossings()), ([], 0))
+        with session.transaction():
+            session.connect(2, 1)
+            session.move(3, 50, 0)
+            self.assertEqual(session.shared_paths(), [])
+        self.assertEqual(session.shared_paths(), [(1, 2, 1, 3, 'tie', 'tie', None)])
+        with session.transaction():
+            for corners, wanted in ((AROUND, (None, None, None, 248)), (STRAIGHT, ('Hits', 1, 3, None)),
+                                    ([], ('StartOff', None, None, None)), ([(0, 0), (100, 1)], ('Slanted', 1, None, None))):
+                self.assertEqual(session.check(1, corners), wanted)
+            for words, wanted in (((9, AROUND), 'X5 UnknownEdge 9'), ((1, [(0, 0), (2_000_001, 0)]), 'X9 OutOfRange 5')):
+                with self.assertRaisesRegex(Refused, f'^{wanted}$'):
+                    session.check(*words)
+            session.cut(2)
+        self.assertEqual(sorted(session.lines()), [1])
+
     def test_words_that_are_none(self):
         session = self.drawn()
         for fault, call, words in (
@@ -207,6 +241,40 @@ say(gml.includes('id 3\\n    label "Ship & bill"\\n'), gml.includes('target 2\\n
 await session.labelBox(3, '');
 say((await session.gml()).includes('Ship'));
 await session.close();''', 'Refused X1 Syntax', 'true true', 'false')
+
+    def test_an_end_moves_to_another_box(self):
+        self.assert_says('''
+const session = await drawn();
+await session.transaction(async () => {
+  session.addPin(3, 7, 0, -20, 'N');
+  say(...await Promise.all([session.reconnect(1, 'end', 3, 7), session.connect(1, 2), session.reconnect(3, 'start', 3), session.connect(2, 1)]));
+  say(await session.say('next'));
+});
+say([...session.changes().keys()]);
+await tried(() => session.transaction(() => session.reconnect(9, 'end', 3)));
+await tried(() => session.transaction(() => session.reconnect(2, 'end', 9)));
+await tried(() => session.transaction(() => session.reconnect(2, 'target', 3)));
+await session.close();''', '^2 3 4 5$', '^next 6$', '^2,4,5$', 'Refused X5 UnknownEdge 9', 'Refused X4 UnknownNode 9', 'TypeError')
+
+    def test_questions_about_the_present_scene(self):
+        self.assert_says('''
+const session = await drawn();
+const all = (...values) => say(...values.map(value => JSON.stringify(value)));
+await session.transaction(async () => { session.connect(2, 1); session.move(3, 50, 0); all(await session.sharedPaths()); });
+all(await session.sharedPaths(), await session.crossings());
+const around = [[0, 0], [0, -24], [100, -24], [100, 0]];
+for (const corners of [around, [[0, 0], [100, 0]], [], [[0, 0], [100, 1]]]) all(Object.values(await session.check(1, corners)));
+await session.transaction(async () => {
+  await tried(() => session.check(9, around));
+  await tried(() => session.check(1, [[0, 0], [2_000_001, 0]]));
+  await tried(() => session.check(1, [[NaN, 0]]));
+  await session.cut(2);
+});
+say(session.lines().size);
+await session.close();''', r'^\[\]$',
+                         r'^\[{"a":1,"b":2,"first":1,"last":3,"back":"tie","ahead":"tie","side":null}\] 0$',
+                         r'^\[null,null,null,248\]$', r'^\["Hits",1,3,null\]$', r'^\["StartOff",null,null,null\]$',
+                         r'^\["Slanted",1,null,null\]$', 'Refused X5 UnknownEdge 9', 'Refused X9 OutOfRange 5', 'RangeError', '^1$')
 
     def test_a_line_end_in_a_command(self):
         self.assert_says(r'''

@@ -16,12 +16,12 @@ import os
 import subprocess
 import tempfile
 import threading
-from typing import Any, BinaryIO, Iterable, Iterator, List, Tuple, Union
+from typing import Any, BinaryIO, Iterable, Iterator, List, NamedTuple, Optional, Tuple, Union
 
 from ._faults import Refused, milli, whole
-from ._session import Lines
+from ._session import Lines, Verdict, is_target
 
-__all__ = ['Ended', 'Refused', 'Session']
+__all__ = ['Ended', 'Refused', 'Session', 'SharedPath', 'Verdict']
 
 SIDES = 'ESWN'
 SETTINGS = ('penalty', 'buffer', 'nudge')
@@ -31,6 +31,17 @@ Reply = List[Union[str, bytes]]
 
 class Ended(Exception):
     """The program could not be started, or has ended."""
+
+
+class SharedPath(NamedTuple):
+    """As `reroute.SharedPath`, without the runs of `b`, which the program does not tell."""
+    a: int
+    b: int
+    first: int
+    last: int
+    back: str
+    ahead: str
+    side: Optional[str]
 
 
 def units(value: float) -> str:
@@ -54,6 +65,21 @@ def apply(reported: Iterable[Any], lines: Lines) -> None:
         else:
             numbers = [float(word) for word in words[2:]]
             lines[int(words[1])] = list(zip(numbers[::2], numbers[1::2]))
+
+
+def shared_path(line: str) -> SharedPath:
+    """The path of a line as `shared 1 2 runs 1-3: back tie, ahead left, side left`."""
+    _, a, b, _, runs, _, back, _, ahead, _, side = line.replace(':', '').replace(',', '').split()
+    first, last = map(int, runs.split('-'))
+    return SharedPath(int(a), int(b), first, last, back, ahead, None if side == 'none' else side)
+
+
+def verdict(line: str) -> Verdict:
+    """The verdict of a line as `edge 1: cost 248.000`, `edge 1: EndOff` or `edge 1: Hits 1 node 3`."""
+    word, *rest = line.split()[2:]
+    if word == 'cost':
+        return Verdict(None, None, None, float(rest[0]))
+    return Verdict(word, int(rest[0]) if rest else None, int(rest[2]) if word == 'Hits' else None, None)
 
 
 def copied(lines: Lines) -> Lines:
@@ -255,6 +281,16 @@ class Session:
             self._next += 1
             return self._next - 1
 
+    def reconnect(self, connector: int, end: str, box: int, pin_class: int = 0) -> int:
+        """Moves the `start` or the `end` of a connector to another box, and answers its new number. The other end and the
+        checkpoints stay."""
+        which = 'target' if is_target(end) else 'source'
+        with self._lock:
+            replies = self.say(f'reconnect {whole(connector, 32)} {which} {whole(box, 64)} {whole(pin_class, 32)}')
+            number = int(str(replies[0]).split()[1])
+            self._next = number + 1
+            return number
+
     def set_classes(self, connector: int, start_class: int, end_class: int) -> None:
         self.say(f'classes {whole(connector, 32)} {whole(start_class, 32)} {whole(end_class, 32)}')
 
@@ -307,6 +343,19 @@ class Session:
     def preview_changes(self) -> Lines:
         """What `changes` would tell after that commit. What was told last stays."""
         return differences(self._told, self.preview())
+
+    def shared_paths(self) -> List[SharedPath]:
+        """The paths that the routes of the present scene share."""
+        return [shared_path(str(line)) for line in self.say('shared')]
+
+    def crossings(self) -> int:
+        """How often the lines of the present scene cross."""
+        return int(str(self.say('crossings')[0]).split()[1])
+
+    def check(self, connector: int, corners: Iterable[Tuple[float, float]]) -> Verdict:
+        """Judges a line of any origin as that of a connector of the present scene."""
+        words = [f'{units(x)} {units(y)}' for x, y in corners]
+        return verdict(str(self.say(' '.join(['check', str(whole(connector, 32)), *words]))[0]))
 
     def gml(self) -> bytes:
         """The diagram in GML, with the present scene, its lines and the labels put in."""
