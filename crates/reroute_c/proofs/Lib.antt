@@ -1,4 +1,6 @@
 -- The lemmas of the exports.
 mod Aborted
 mod Answered
+mod Reconnected
 mod Unpreviewed
+mod Writing

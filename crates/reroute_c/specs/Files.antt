@@ -65,11 +65,11 @@ open_fault opens.Memory = memory_fault
 abbrev pub IsUnopened : List ℕ → Fault → Type 0
 IsUnopened text fault = (why : OpenFault) × IsOpenFault text why × (fault ≡ open_fault why)
 
--- the first bytes of a text, as many as there is room for, and then what was there
-abbrev pub put_front : ℕ → List ℕ → List ℕ → List ℕ
+-- the first bytes of a text, or items of a list, as many as there is room for, and then what was there
+abbrev pub put_front : {X : Type 0} → ℕ → List X → List X → List X
 put_front n text old = take n text ++ drop n old
 
-abbrev pub overlaid : List ℕ → List ℕ → List ℕ
+abbrev pub overlaid : {X : Type 0} → List X → List X → List X
 overlaid text old = put_front (min (length text) (length old)) text old
 
 -- the diagram is written as far as there is room, and its whole length is reported

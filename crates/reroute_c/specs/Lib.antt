@@ -1,4 +1,5 @@
 -- The definitions of the exports to C.
+pub mod Checks
 pub mod Codes
 pub mod Edits
 pub mod Files

@@ -1,10 +1,10 @@
 //! The edits of an open transaction.
 //!
 //! Each is refused as the working scene refuses it; then no transaction is open any more.
-ghost use Rattle.std.specs.Prelude.{◌≡◌, ◌≢◌, IfSome, IsNone, IsSome, false, true};
-ghost use Rattle.reroute_c.specs.Codes.{IsAnswered};
+ghost use Rattle.std.specs.Prelude.{◌≡◌, ◌≢◌, ◌<◌, ◌≤◌, ◌^◌, IfSome, IsNone, IsSome, false, true, unsigned_abs};
+ghost use Rattle.reroute_c.specs.Codes.{IsAnswered, syntax_fault};
 ghost use Rattle.drawing.specs.Drawing.{next_edge};
-ghost use Rattle.reroute_c.specs.Edits.{IsRolledBack, dirs_of, has_direction};
+ghost use Rattle.reroute_c.specs.Edits.{IsRolledBack, Reconnects, dirs_of, end_of, has_direction, long_id_fault};
 ghost use Rattle.reroute_c.specs.Open.{IfOpen, IsRefusedClosed};
 ghost use Rattle.scene_model.specs.Edits.{IsDirected};
 ghost use Rattle.scene_model.specs.declared.edit.Command.TheVariants as commands;
@@ -12,9 +12,14 @@ ghost use Rattle.scene_model.specs.declared.edit.Edit.TheVariants as edits;
 ghost use Rattle.scene_model.specs.declared.settings.Setting.TheVariants as settings;
 
 use crate::calls::call;
-use crate::fault::Fault;
+use crate::fault::{Fault, numbered, of_call};
 use crate::handle::Handle;
+use drawing::End;
 use scene_model::{Command, Dirs, Edit, Setting};
+use std::alloc::Global;
+
+/// The least id, without its sign, that no diagram has.
+const LEAST_LONG_ID: u64 = 1_000_000_000_000_000_000;
 
 /// The directions in which lines may leave a pin.
 #[repr(C)]
@@ -37,6 +42,8 @@ fn edit(handle: &mut Handle, edit: Edit) -> Fault
 }
 
 /// Adds a box by its centre, and by its whole width and height.
+///
+/// An id has at most 18 digits, as in a diagram. If it has more, the fault is 9 with 2, and the transaction is dropped.
 #[unsafe(no_mangle)]
 pub extern "C" fn reroute_add_box(
     handle: &mut Handle,
@@ -48,8 +55,12 @@ pub extern "C" fn reroute_add_box(
 ) -> Fault
     ensures closed { IsNone handle.old.drawing → IsRefusedClosed result handle.new.drawing }
     ensures open { IsSome handle.old.drawing → IsSome handle.new.drawing }
-    ensures call { IfOpen handle.old.drawing handle.new.drawing (IsAnswered (commands.Edit (edits.AddNode id x y w h)) result) }
+    ensures call { unsigned_abs id < 10 ^ 18 → IfOpen handle.old.drawing handle.new.drawing (IsAnswered (commands.Edit (edits.AddNode id x y w h)) result) }
+    ensures long { 10 ^ 18 ≤ unsigned_abs id → IfOpen handle.old.drawing handle.new.drawing (IsRolledBack long_id_fault result) }
 {
+    if LEAST_LONG_ID <= id.unsigned_abs() {
+        return roll_back(handle, numbered(9, 2));
+    }
     edit(handle, Edit::AddNode { id, x, y, w, h })
 }
 
@@ -98,7 +109,7 @@ pub extern "C" fn reroute_add_pin(
     ensures closed { IsNone handle.old.drawing → IsRefusedClosed result handle.new.drawing }
     ensures open { IsSome handle.old.drawing → IsSome handle.new.drawing }
     ensures call { has_direction directions ≡ true → IfOpen handle.old.drawing handle.new.drawing (IsAnswered (commands.Edit (edits.AddPin id class dx dy (dirs_of directions))) result) }
-    ensures undirected { has_direction directions ≡ false → IfOpen handle.old.drawing handle.new.drawing (IsRolledBack result) }
+    ensures undirected { has_direction directions ≡ false → IfOpen handle.old.drawing handle.new.drawing (IsRolledBack syntax_fault result) }
 {
     let Directions {
         east,
@@ -113,7 +124,7 @@ pub extern "C" fn reroute_add_pin(
         north,
     };
     if !(east || south || west || north) {
-        return roll_back(handle);
+        return roll_back(handle, Fault::syntax());
     }
     edit(
         handle,
@@ -127,18 +138,18 @@ pub extern "C" fn reroute_add_pin(
     )
 }
 
-/// Drops the transaction if one is open, since what was asked for is not valid.
-fn roll_back(handle: &mut Handle) -> Fault
+/// Drops the transaction if one is open, since what was asked for is not valid for this reason.
+fn roll_back(handle: &mut Handle, why: Fault) -> Fault
     ensures closed { IsNone handle.old.drawing → IsRefusedClosed result handle.new.drawing }
     ensures open { IsSome handle.old.drawing → IsSome handle.new.drawing }
-    ensures rolled_back { IfOpen handle.old.drawing handle.new.drawing (IsRolledBack result) }
+    ensures rolled_back { IfOpen handle.old.drawing handle.new.drawing (IsRolledBack why result) }
 {
     let Some(mut drawing) = handle.take() else {
         return Fault::closed();
     };
     drawing.roll_back();
     handle.put(drawing);
-    Fault::syntax()
+    why
 }
 
 /// Removes the pin at a place of a box, from 1.
@@ -198,6 +209,48 @@ pub extern "C" fn reroute_next(handle: &mut Handle) -> u32
     let next = drawing.next_number();
     handle.put(drawing);
     next
+}
+
+/// The end where a connector begins, or its target.
+fn end_of(target: bool) -> End
+    ensures { result ≡ end_of target }
+{
+    if target { End::To } else { End::From }
+}
+
+/// Moves an end of a connector to another box, at a pin of a class: the one where it begins, or with `target` the one where
+/// it ends.
+///
+/// The connector is cut, and a new one with its other end, that end's class and its checkpoints is added. `number` becomes
+/// that of the new one; after a refusal, or 98 or 99, it is as before.
+#[unsafe(no_mangle)]
+pub extern "C" fn reroute_reconnect(
+    alloc: Global,
+    handle: &mut Handle,
+    connector: u32,
+    target: bool,
+    id: i64,
+    class: u32,
+    number: &mut u32,
+) -> Fault
+    ensures closed { IsNone handle.old.drawing → IsRefusedClosed result handle.new.drawing }
+    ensures open { IsSome handle.old.drawing → IsSome handle.new.drawing }
+    ensures call { IfOpen handle.old.drawing handle.new.drawing (Reconnects connector (end_of target) id class result) }
+    ensures number { result.code ≡ 0 → IfSome handle.old.drawing (λ s. number.new ≡ next_edge s.session.world) }
+    ensures kept { result.code ≢ 0 → number.new ≡ number.old }
+{
+    let Some(mut drawing) = handle.take() else {
+        return Fault::closed();
+    };
+    let answer = drawing.reconnect(alloc, connector, end_of(target), id, class);
+    handle.put(drawing);
+    match answer {
+        Ok(next) => {
+            *number = next;
+            Fault::none()
+        }
+        Err(fault) => of_call(fault),
+    }
 }
 
 /// Removes a connector.

@@ -73,7 +73,7 @@ pub(crate) fn of_call(fault: SessionFault) -> Fault
 }
 
 /// A fault that names a number.
-fn numbered(code: u32, number: u32) -> Fault
+pub(crate) fn numbered(code: u32, number: u32) -> Fault
     ensures { result ≡ numbered code number }
 {
     Fault {
@@ -83,7 +83,7 @@ fn numbered(code: u32, number: u32) -> Fault
 }
 
 /// Why an edit is refused.
-fn of_edit(fault: SceneFault) -> Fault
+pub(crate) fn of_edit(fault: SceneFault) -> Fault
     ensures fault { result ≡ edit_fault fault }
     ensures refused { 1 ≤ result.code }
 {

@@ -4,6 +4,7 @@
 #![tactic(auto)]
 
 mod calls;
+mod checks;
 mod counts;
 mod edits;
 mod fault;
