@@ -12,7 +12,10 @@ use Rattle.channel_bundles.specs.declared.member.Member.{Member}
 use Rattle.channel_bundles.specs.declared.channel.RunBundle.{RunBundle}
 use Rattle.channel_bundles.specs.Classes.{AreClasses, Connected, Rise}
 use Rattle.channel_bundles.specs.Links.{IsLink, IsMember, IsNudge, item_of, link, member_at, no_member, rule_if, rules_after, rules_from}
-use Rattle.channel_bundles.specs.Bundles.{AreBundlesOf, IsBundleOf, members_at}
+use Rattle.channel_bundles.specs.Bundles.{members_at}
+use Rattle.channel_bundles.specs.Kept.{IsLinkRule}
+use Rattle.channel_bundles.specs.Listed.{AreListed, AreListedOf, IsListed}
+use Rattle.channel_bundles.specs.declared.channel.Listing.{Listing}
 use Rattle.channel_bundles.specs.Placed.{AreRising}
 use Rattle.channel_bundles.proofs.Trees.{cases_below, cases_same}
 
@@ -47,18 +50,26 @@ good_rule ms rising rule leads =
       ordered = omega (arith, ints, want rule.left (omega (arith, leads.0, leads.1)), want rule.right leads.1, rising.rise rule.left rule.right (omega (arith, leads.0)) leads.1);
     }
 
-pub good_bundle : (nudge : ℤ) (ms : List Member) (b : Bundle) → All IsMember ms → length ms ≤ most_items → AreRising ms → IsNudge nudge → b.items.items ≡ map item_of ms → b.rules.items ≡ rules_after nudge 0 ms → b.wanted ≡ nudge → IsBundle b
-good_bundle nudge ms b members few rising wanted items rules is_nudge =
+-- rules that are listed lead on
+listed_lead : (listing : Listing) (nudge : ℤ) (ms : List Member) (rules : List Rule) → AreListed listing nudge ms rules → All (LeadsOn (length ms)) rules
+listed_lead Listing.All nudge ms rules is = All-same (LeadsOn (length ms)) rules (rules_after nudge 0 ms) is (all_lead_on nudge (length ms) 0 ms (omega arith))
+listed_lead Listing.Few nudge ms rules is = All-weaker (IsLinkRule nudge ms) (LeadsOn (length ms)) (λ r of. (of.forward, of.within)) rules is.each
+
+pub good_listed : (listing : Listing) (nudge : ℤ) (ms : List Member) (b : Bundle) → All IsMember ms → length ms ≤ most_items → AreRising ms → IsNudge nudge → b.items.items ≡ map item_of ms →
+    AreListed listing nudge ms b.rules.items → b.wanted ≡ nudge → IsBundle b
+good_listed listing nudge ms b members few rising wanted items rules is_nudge =
     let count : length (map item_of ms) ≡ length ms = length-map {B = Item} ms item_of in
     record {
       few = omega (arith, few, count, ap length items);
       items = All-same IsItem b.items.items (map item_of ms) items (All-map IsItem item_of ms members);
       rules = subst (λ xs. All (IsRule xs) b.rules.items) (sym items)
-          (All-same (IsRule (map item_of ms)) b.rules.items (rules_after nudge 0 ms) rules
-          (All-weaker (LeadsOn (length ms)) (IsRule (map item_of ms)) (good_rule ms rising) (rules_after nudge 0 ms) (all_lead_on nudge (length ms) 0 ms (omega arith))));
+          (All-weaker (LeadsOn (length ms)) (IsRule (map item_of ms)) (good_rule ms rising) b.rules.items (listed_lead listing nudge ms b.rules.items rules));
       wanted_low = omega (arith, ints, wanted.low, is_nudge);
       wanted_high = omega (arith, ints, wanted.high, is_nudge);
     }
+
+pub good_bundle : (nudge : ℤ) (ms : List Member) (b : Bundle) → All IsMember ms → length ms ≤ most_items → AreRising ms → IsNudge nudge → b.items.items ≡ map item_of ms → b.rules.items ≡ rules_after nudge 0 ms → b.wanted ≡ nudge → IsBundle b
+good_bundle = good_listed Listing.All
 
 -- the members at rising places below their number are rising themselves, and no more of them
 rise_above : (places : List ℕ) (k : ℕ) → Rise places → k < length places → k ≤ get_or places k 0
@@ -89,35 +100,35 @@ chosen_rising members places rise within rising =
     }
 
 -- the bundles of the first i classes
-pub record IsBundling (nudge : ℤ) (members : List Member) (classes : List (List ℕ)) (found : List RunBundle) (i : ℕ) : Type 0 where
+pub record IsBundling (listing : Listing) (nudge : ℤ) (members : List Member) (classes : List (List ℕ)) (found : List RunBundle) (i : ℕ) : Type 0 where
   pub count : length found ≡ i
-  pub each : (k : ℕ) (d : RunBundle) → k < i → IsBundleOf nudge (members_at members (get_or classes k [])) (get_or found k d)
+  pub each : (k : ℕ) (d : RunBundle) → k < i → IsListed listing nudge (members_at members (get_or classes k [])) (get_or found k d)
   pub good : All (λ (b : RunBundle). IsBundle b.bundle) found
 
-pub bundling_begins : (nudge : ℤ) (members : List Member) (classes : List (List ℕ)) (found : List RunBundle) → found ≡ [] → IsBundling nudge members classes found 0
-bundling_begins nudge members classes found none = record {
+pub bundling_begins : (listing : Listing) (nudge : ℤ) (members : List Member) (classes : List (List ℕ)) (found : List RunBundle) → found ≡ [] → IsBundling listing nudge members classes found 0
+bundling_begins listing nudge members classes found none = record {
   count = ap length none;
   each = λ k d h. absurd (omega arith);
   good = All-same (λ (b : RunBundle). IsBundle b.bundle) found [] none (All-nil (λ (b : RunBundle). IsBundle b.bundle));
 }
 
-pub bundling_more : (nudge : ℤ) (members : List Member) (classes : List (List ℕ)) (found made : List RunBundle) (i : ℕ) (b : RunBundle) (runs : List Member) → IsBundling nudge members classes found i →
-    runs ≡ members_at members (get_or classes i []) → IsBundleOf nudge runs b → IsBundle b.bundle → made ≡ found ++ b ∷ [] → IsBundling nudge members classes made (i + 1)
-bundling_more nudge members classes found made i b runs is are of good e =
+pub bundling_more : (listing : Listing) (nudge : ℤ) (members : List Member) (classes : List (List ℕ)) (found made : List RunBundle) (i : ℕ) (b : RunBundle) (runs : List Member) → IsBundling listing nudge members classes found i →
+    runs ≡ members_at members (get_or classes i []) → IsListed listing nudge runs b → IsBundle b.bundle → made ≡ found ++ b ∷ [] → IsBundling listing nudge members classes made (i + 1)
+bundling_more listing nudge members classes found made i b runs is are of good e =
     let more = found ++ b ∷ [] in
     let count = is.count in
-    subst (λ xs. IsBundling nudge members classes xs (i + 1)) (sym e) (record {
+    subst (λ xs. IsBundling listing nudge members classes xs (i + 1)) (sym e) (record {
       count = length_push found b ∙ ap (λ n. n + 1) is.count;
       each = λ k d h. cases_same k i
-          (λ now. subst (λ n. IsBundleOf nudge (members_at members (get_or classes n [])) (get_or more n d)) (sym now)
-          (subst (λ x. IsBundleOf nudge (members_at members (get_or classes i [])) x) (sym (get_or_push found b d i is.count)) (subst (λ ms. IsBundleOf nudge ms b) are of)))
-          (λ ne. subst (λ x. IsBundleOf nudge (members_at members (get_or classes k [])) x) (sym (get_or_append_left found (b ∷ []) d k (omega arith))) (is.each k d (omega arith)));
+          (λ now. subst (λ n. IsListed listing nudge (members_at members (get_or classes n [])) (get_or more n d)) (sym now)
+          (subst (λ x. IsListed listing nudge (members_at members (get_or classes i [])) x) (sym (get_or_push found b d i is.count)) (subst (λ ms. IsListed listing nudge ms b) are of)))
+          (λ ne. subst (λ x. IsListed listing nudge (members_at members (get_or classes k [])) x) (sym (get_or_append_left found (b ∷ []) d k (omega arith))) (is.each k d (omega arith)));
       good = All-push (λ (x : RunBundle). IsBundle x.bundle) found b is.good good;
     })
 
-pub bundling_ends : (nudge : ℤ) (members : List Member) (classes : List (List ℕ)) (found : List RunBundle) (i : ℕ) → IsBundling nudge members classes found i → i ≡ length classes →
-    AreClasses (Connected (IsLink nudge members)) (length members) classes → AreBundlesOf nudge members found
-bundling_ends nudge members classes found i is all are = record {
+pub bundling_ends : (listing : Listing) (nudge : ℤ) (members : List Member) (classes : List (List ℕ)) (found : List RunBundle) (i : ℕ) → IsBundling listing nudge members classes found i → i ≡ length classes →
+    AreClasses (Connected (IsLink nudge members)) (length members) classes → AreListedOf listing nudge members found
+bundling_ends listing nudge members classes found i is all are = record {
   classes = classes;
   are_classes = are;
   count = is.count ∙ all;

@@ -1,5 +1,5 @@
 -- Groups: the trees of a forest, runs that a link leaves together, and the next run of each group.
-use Rattle.std.proofs.Common.{◌≡◌, ◌≢◌, ℕ, suc, zero, ◌+◌, ◌<◌, ◌≤◌, ℤ, ◌+ℤ◌, ◌<ℤ◌, Bool, true, false, Option, Some, None, List, length, get_or, set, replicate, if◌then◌else◌, refl, sym, ap, subst, ◌∙◌, arith, inl, inr, true≢false}
+use Rattle.std.proofs.Common.{◌≡◌, ◌≢◌, ℕ, suc, zero, ◌+◌, ◌<◌, ◌≤◌, ◌/◌, ◌%◌, ◌⊎◌, ⊎_elim, ℤ, ◌+ℤ◌, ◌<ℤ◌, Bool, true, false, Option, Some, None, List, length, get_or, set, replicate, if◌then◌else◌, refl, sym, ap, subst, ◌∙◌, arith, inl, inr, true≢false}
 use Rattle.std.specs.Prelude.{All, IsSome, ◌==◌}
 use Rattle.std.proofs.lemmas.Bool.{cases_Bool}
 use Rattle.std.proofs.lemmas.Bool.Decides.{nat_tests}
@@ -8,7 +8,7 @@ use Rattle.std.proofs.lemmas.List.{get_or-set_same, get_or-set_other, length-set
 use Rattle.std.proofs.lemmas.List.Elements.{All-from_get_or, All-get_or}
 use Rattle.segment_order.specs.declared.run.Run.{Run}
 use Rattle.channel_bundles.specs.declared.member.Member.{Member}
-use Rattle.channel_bundles.specs.declared.groups.By.TheVariants.{Limits, Ranges, Edges}
+use Rattle.channel_bundles.specs.declared.groups.By.TheVariants.{Limits, Ranges, Edges, Fours, LaterFours}
 use Rattle.channel_bundles.specs.Classes.{AreTreeNumbers, Connected, LeadsUp}
 use Rattle.channel_bundles.specs.Groups.{AreGroups, AreNext, AreTogether, Meet, span_at}
 use Rattle.channel_bundles.specs.Links.{IsLink, IsMember, IsNudge, asks, asks_movable, link, linked, member_at, no_member, is_second_next, overlap}
@@ -106,6 +106,42 @@ edges_meet nudge members groups i j e same = record {
   before = omega (arith, ints, e);
   behind = omega (arith, ints, e);
 }
+
+second_next : (r s : Run) → is_second_next r s ≡ true → (r.place + 2 ≡ s.place) ⊎ (s.place + 2 ≡ r.place)
+second_next r s e = grind (arith, nat_tests)
+
+-- of two numbers of fours that are next but one to each other, one is shared
+fours_shared : (p q : ℕ) → p + 2 ≡ q → (p / 2 / 2 ≡ q / 2 / 2) ⊎ ((p / 2 + 1) / 2 ≡ (q / 2 + 1) / 2)
+fours_shared p q e = cases_same (p / 2 % 2) 0 (λ even. inl (omega (arith, e, even))) (λ odd. inr (omega (arith, e, odd)))
+
+next_if : (same next both : Bool) (f g : Bool) → same ≡ true → next ≡ false →
+    (if f then (if g then None else (if same then (if next then Some false else None) else (if both then Some true else None))) else (if same then (if next then Some false else None) else (if both then Some true else None))) ≡ None
+next_if true false both f g e h = if_movable f g None refl
+next_if true true both f g e h = cc
+next_if false next both f g e h = cc
+
+same_number : (m n : ℕ) → m ≡ n → (m == n) ≡ true
+same_number m n e = grind (arith, nat_tests)
+
+-- two runs of an edge that are linked are together by fours, from 0 or from 2 on
+pub in_a_four : (nudge : ℤ) (members : List Member) (edges early late : List ℕ) (i j : ℕ) → IsLink nudge members i j → (member_at members i).run.edge ≡ (member_at members j).run.edge → AreTogether edges i j →
+    (Meet (span_at Fours nudge members edges i) (span_at Fours nudge members edges j) → AreTogether early i j) →
+    (Meet (span_at LaterFours nudge members edges i) (span_at LaterFours nudge members edges j) → AreTogether late i j) → AreTogether early i j ⊎ AreTogether late i j
+in_a_four nudge members edges early late i j l same together on_early on_late =
+    let a = member_at members i in
+    let b = member_at members j in
+    let shared_four : ((a.run.place / 2 / 2 ≡ b.run.place / 2 / 2) ⊎ ((a.run.place / 2 + 1) / 2 ≡ (b.run.place / 2 + 1) / 2)) → AreTogether early i j ⊎ AreTogether late i j =
+    λ either. ⊎_elim
+    (λ e. inl (on_early (record { group = together; before = omega (arith, ints, e); behind = omega (arith, ints, e) })))
+    (λ e. inr (on_late (record { group = together; before = omega (arith, ints, e); behind = omega (arith, ints, e) }))) either in
+    elim (cases_Bool (is_second_next a.run b.run)) as (λ _. AreTogether early i j ⊎ AreTogether late i j) [
+      | inl next ↦ ⊎_elim
+          (λ e. shared_four (fours_shared a.run.place b.run.place e))
+          (λ e. shared_four (⊎_elim (λ f. inl (sym f)) (λ f. inr (sym f)) (fours_shared b.run.place a.run.place e)))
+          (second_next a.run b.run next)
+      | inr apart ↦ absurd (none_linked nudge members i j
+          (ap (linked nudge a b) (next_if (a.run.edge == b.run.edge) (is_second_next a.run b.run) (overlap a.run b.run) a.fixed b.fixed (same_number a.run.edge b.run.edge same) apart)) l)
+    ]
 
 -- from `at` on each place has its next one, and each group the first of its places
 pub record AreNextFrom (groups first next : List ℕ) (at : ℕ) : Type 0 where

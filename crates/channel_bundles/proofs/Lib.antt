@@ -13,3 +13,8 @@ pub mod Leading
 pub mod Placing
 pub mod Bundling
 pub mod Chained
+pub mod Ordered
+pub mod Whole
+pub mod Fewer
+pub mod Looking
+pub mod Keeping

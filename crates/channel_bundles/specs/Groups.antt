@@ -1,8 +1,8 @@
 -- Groups of runs that no link leaves, and what parts them. No public clause cites this module.
-use Rattle.std.specs.Prelude.{◌≡◌, ◌≢◌, ℕ, ◌<◌, ℤ, pos, ◌+ℤ◌, ◌<ℤ◌, List, length, All, slice_index}
+use Rattle.std.specs.Prelude.{◌≡◌, ◌≢◌, ℕ, ◌+◌, ◌/◌, ◌<◌, ℤ, pos, ◌+ℤ◌, ◌<ℤ◌, List, length, All, slice_index}
 use Rattle.channel_bundles.specs.declared.member.Member.{Member}
 use Rattle.channel_bundles.specs.declared.groups.By.{By}
-use Rattle.channel_bundles.specs.declared.groups.By.TheVariants.{Limits, Ranges, Edges}
+use Rattle.channel_bundles.specs.declared.groups.By.TheVariants.{Limits, Ranges, Edges, Fours, LaterFours}
 use Rattle.channel_bundles.specs.declared.groups.Span.{Span}
 use Rattle.channel_bundles.specs.Links.{member_at}
 
@@ -11,12 +11,16 @@ abbrev pub begin_of : By → Member → ℤ
 begin_of Limits m = m.low
 begin_of Ranges m = m.run.lo
 begin_of Edges m = pos m.run.edge
+begin_of Fours m = pos (m.run.place / 2 / 2)
+begin_of LaterFours m = pos ((m.run.place / 2 + 1) / 2)
 
 -- where it ends
 abbrev pub end_of : By → ℤ → Member → ℤ
 end_of Limits nudge m = (m.high +ℤ nudge) +ℤ pos 1
 end_of Ranges nudge m = m.run.hi
 end_of Edges nudge m = pos m.run.edge +ℤ pos 1
+end_of Fours nudge m = pos (m.run.place / 2 / 2) +ℤ pos 1
+end_of LaterFours nudge m = pos ((m.run.place / 2 + 1) / 2) +ℤ pos 1
 
 -- what the run at the place takes up in its group
 abbrev pub span_at : By → ℤ → List Member → List ℕ → ℕ → Span

@@ -4,6 +4,9 @@ pub mod Limits
 pub mod Links
 pub mod Classes
 pub mod Groups
+pub mod Kept
 pub mod Bundles
+pub mod Listed
+pub mod Few
 pub mod Leaders
 pub mod Placed

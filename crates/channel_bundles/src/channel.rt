@@ -8,16 +8,20 @@ ghost use Rattle.channel_bundles.specs.Route.{IsPhaseRoute, runs_of_way};
 ghost use Rattle.channel_bundles.specs.Limits.{MayMove};
 ghost use Rattle.channel_bundles.specs.Classes.{Rise};
 ghost use Rattle.channel_bundles.specs.Links.{IsMember, IsNudge, item_of};
-ghost use Rattle.channel_bundles.specs.Bundles.{AreBundles, AreBundlesOf, AreInOrder, IsBundleOf, members_at};
+ghost use Rattle.channel_bundles.specs.Few.{AreFewBundles};
+ghost use Rattle.channel_bundles.specs.Bundles.{AreBundles, AreInOrder, members_at};
+ghost use Rattle.channel_bundles.specs.Listed.{AreListed, AreListedOf, IsListed};
+ghost use Rattle.channel_bundles.specs.declared.channel.Listing.TheVariants as listings;
 ghost use Rattle.channel_bundles.specs.Placed.{AreRising, IsPlaced, pairs_of, standings_of};
 
+use crate::few::few_rules;
 use crate::leaders::{is_same_but_for_edge, leader_of, runs_at};
 use crate::links::{linked_classes, rules_of};
 use crate::member::Member;
 use crate::route::PhaseRoute;
 use plane_geom::{Solid, Way};
 use segment_order::{Run, line_order};
-use separation_model::{Bundle, Item};
+use separation_model::{Bundle, Item, Rule};
 use std::alloc::{AllocError, Global};
 use std::cmp::Ordering;
 
@@ -28,6 +32,13 @@ use std::cmp::Ordering;
 pub struct RunBundle {
     pub bundle: Bundle,
     pub runs: Vec<Run>,
+}
+
+/// Which links are rules of a bundle: all, or few whose chains stand for all.
+#[derive(Clone, Copy)]
+enum Listing {
+    All,
+    Few,
 }
 
 /// A run with its limits, its route, and the index of a route that goes the same way.
@@ -150,18 +161,42 @@ fn own_runs(alloc: Global, members: &[Member]) -> Result<Vec<Run>, AllocError>
     members.iter().map(|m| m.run).collect(alloc)
 }
 
-/// The bundle of the runs.
-fn bundle_of(alloc: Global, members: &[Member], nudge: i64) -> Result<RunBundle, AllocError>
+/// The rules between the runs.
+fn listed_rules(
+    alloc: Global,
+    members: &[Member],
+    nudge: i64,
+    listing: Listing,
+) -> Result<Vec<Rule>, AllocError>
     requires members { All IsMember members.now }
     requires few { length members.now ≤ most_items }
     requires rising { AreRising members.now }
     requires nudge { IsNudge nudge }
-    ensures bundle { IfOk result (λ b. IsBundleOf nudge members.now b) }
+    ensures { IfOk result (λ rules. AreListed listing nudge members.now rules.items) }
+{
+    match listing {
+        Listing::All => rules_of(alloc, members, nudge),
+        Listing::Few => few_rules(alloc, members, nudge),
+    }
+}
+
+/// The bundle of the runs.
+fn bundle_of(
+    alloc: Global,
+    members: &[Member],
+    nudge: i64,
+    listing: Listing,
+) -> Result<RunBundle, AllocError>
+    requires members { All IsMember members.now }
+    requires few { length members.now ≤ most_items }
+    requires rising { AreRising members.now }
+    requires nudge { IsNudge nudge }
+    ensures bundle { IfOk result (λ b. IsListed listing nudge members.now b) }
     ensures good { IfOk result (λ b. IsBundle b.bundle) }
 {
     let bundle = Bundle {
         items: items_of(alloc, members)?,
-        rules: rules_of(alloc, members, nudge)?,
+        rules: listed_rules(alloc, members, nudge, listing)?,
         wanted: nudge,
     };
     Ok(RunBundle {
@@ -188,6 +223,7 @@ fn class_bundle(
     members: &[Member],
     places: &[usize],
     nudge: i64,
+    listing: Listing,
 ) -> Result<RunBundle, AllocError>
     requires members { All IsMember members.now }
     requires few { length members.now ≤ most_items }
@@ -195,28 +231,57 @@ fn class_bundle(
     requires nudge { IsNudge nudge }
     requires within { All (λ i. i < length members.now) places.now }
     requires places { Rise places.now }
-    ensures bundle { IfOk result (λ b. IsBundleOf nudge (members_at members.now places.now) b) }
+    ensures bundle { IfOk result (λ b. IsListed listing nudge (members_at members.now places.now) b) }
     ensures good { IfOk result (λ b. IsBundle b.bundle) }
 {
     let runs = chosen(alloc, members, places)?;
-    bundle_of(alloc, &runs, nudge)
+    bundle_of(alloc, &runs, nudge, listing)
 }
 
 /// The bundles of the runs, which are in their order on the line.
-fn bundles_of(alloc: Global, members: &[Member], nudge: i64) -> Result<Vec<RunBundle>, AllocError>
+fn bundles_of(
+    alloc: Global,
+    members: &[Member],
+    nudge: i64,
+    listing: Listing,
+) -> Result<Vec<RunBundle>, AllocError>
     requires members { All IsMember members.now }
     requires few { length members.now ≤ most_items }
     requires rising { AreRising members.now }
     requires nudge { IsNudge nudge }
-    ensures bundles { IfOk result (λ found. AreBundlesOf nudge members.now found.items) }
+    ensures bundles { IfOk result (λ found. AreListedOf listing nudge members.now found.items) }
     ensures each { IfOk result (λ found. All (λ b. IsBundle b.bundle) found.items) }
 {
     let classes = linked_classes(alloc, members, nudge)?;
     let mut found = Vec::new(alloc);
     for class in &classes {
-        found.push(class_bundle(alloc, members, class, nudge)?)?;
+        found.push(class_bundle(alloc, members, class, nudge, listing)?)?;
     }
     Ok(found)
+}
+
+/// The bundles of a phase, in the order of their first runs.
+fn listed_bundles(
+    alloc: Global,
+    solids: &[Solid],
+    routes: &[PhaseRoute],
+    way: Way,
+    nudge: i64,
+    listing: Listing,
+) -> Result<Vec<RunBundle>, AllocError>
+    requires solids { All IsSolid solids.now }
+    requires routes { All IsPhaseRoute routes.now }
+    requires edges { AllPairs (λ r s. r.edge ≢ s.edge) routes.now }
+    requires movable { All (MayMove solids.now way) routes.now }
+    requires few { length (runs_of_way way routes.now) ≤ most_items }
+    requires nudge { IsNudge nudge }
+    ensures all { listing ≡ listings.All → IfOk result (λ found. AreBundles solids.now routes.now way nudge found.items) }
+    ensures few { listing ≡ listings.Few → IfOk result (λ few. AreFewBundles solids.now routes.now way nudge few.items) }
+    ensures each { IfOk result (λ found. All (λ b. IsBundle b.bundle) found.items) }
+{
+    let placed = runs_in_order(alloc, solids, routes, way)?;
+    let members = own_members(alloc, &placed)?;
+    bundles_of(alloc, &members, nudge, listing)
 }
 
 /// The bundles of a phase, in the order of their first runs. The only error is out of memory.
@@ -241,7 +306,29 @@ pub fn bundles(
     ensures bundles { IfOk result (λ found. AreBundles solids.now routes.now way nudge found.items) }
     ensures each { IfOk result (λ found. All (λ b. IsBundle b.bundle) found.items) }
 {
-    let placed = runs_in_order(alloc, solids, routes, way)?;
-    let members = own_members(alloc, &placed)?;
-    bundles_of(alloc, &members, nudge)
+    listed_bundles(alloc, solids, routes, way, nudge, Listing::All)
+}
+
+/// The bundles of a phase, as `bundles`, each with few of its rules, whose chains stand for all.
+/// The only error is out of memory.
+///
+/// The widest gap and the least positions of a bundle are those that it has with all its rules.
+/// The conditions are those of `bundles`.
+pub fn few_bundles(
+    alloc: Global,
+    solids: &[Solid],
+    routes: &[PhaseRoute],
+    way: Way,
+    nudge: i64,
+) -> Result<Vec<RunBundle>, AllocError>
+    requires solids { All IsSolid solids.now }
+    requires routes { All IsPhaseRoute routes.now }
+    requires edges { AllPairs (λ r s. r.edge ≢ s.edge) routes.now }
+    requires movable { All (MayMove solids.now way) routes.now }
+    requires few { length (runs_of_way way routes.now) ≤ most_items }
+    requires nudge { IsNudge nudge }
+    ensures bundles { IfOk result (λ few. AreFewBundles solids.now routes.now way nudge few.items) }
+    ensures each { IfOk result (λ few. All (λ b. IsBundle b.bundle) few.items) }
+{
+    listed_bundles(alloc, solids, routes, way, nudge, Listing::Few)
 }

@@ -9,12 +9,23 @@ use crate::forest::Forest;
 use crate::member::Member;
 use std::alloc::{AllocError, Global};
 
-/// By what runs are parted: their limits, their ranges along the way, or their edges.
+/// By what runs are parted: their limits, their ranges along the way, their edges, or fours of
+/// places in a route, from 0 or from 2 on.
 #[derive(Clone, Copy)]
 pub(crate) enum By {
     Limits,
     Ranges,
     Edges,
+    Fours,
+    LaterFours,
+}
+
+/// Two ways to part the runs of an edge, so that two with one run between them are together in one
+/// of them.
+#[derive(Drop)]
+pub(crate) struct Fours {
+    pub(crate) early: Vec<usize>,
+    pub(crate) late: Vec<usize>,
 }
 
 /// What the run at the place takes up, from `lo` to before `hi`, among the runs of its group.
@@ -34,6 +45,8 @@ fn begin_of(member: &Member, by: By) -> i64
         By::Limits => member.low,
         By::Ranges => member.run.lo,
         By::Edges => i64::from(member.run.edge),
+        By::Fours => i64::from(member.run.place / 2 / 2),
+        By::LaterFours => i64::from((member.run.place / 2 + 1) / 2),
     }
 }
 
@@ -47,6 +60,8 @@ fn end_of(member: &Member, by: By, nudge: i64) -> i64
         By::Limits => member.high + nudge + 1,
         By::Ranges => member.run.hi,
         By::Edges => i64::from(member.run.edge) + 1,
+        By::Fours => i64::from(member.run.place / 2 / 2) + 1,
+        By::LaterFours => i64::from((member.run.place / 2 + 1) / 2) + 1,
     }
 }
 
@@ -184,6 +199,22 @@ pub(crate) fn edges(alloc: Global, members: &[Member], nudge: i64) -> Result<Vec
 {
     let all = vec![in alloc; 0; members.len()]?;
     parted(alloc, members, &all, By::Edges, nudge)
+}
+
+/// The runs of one edge, parted by fours in two ways.
+pub(crate) fn in_fours(alloc: Global, members: &[Member], nudge: i64) -> Result<Fours, AllocError>
+    requires members { All IsMember members.now }
+    requires nudge { IsNudge nudge }
+    ensures early { IfOk result (λ fours. AreGroups (length members.now) fours.early.items) }
+    ensures late { IfOk result (λ fours. AreGroups (length members.now) fours.late.items) }
+    ensures together { IfOk result (λ fours. (i j : ℕ) → IsLink nudge members.now i j →
+        (member_at members.now i).run.edge ≡ (member_at members.now j).run.edge →
+        AreTogether fours.early.items i j ⊎ AreTogether fours.late.items i j) }
+{
+    let edges = edges(alloc, members, nudge)?;
+    let early = parted(alloc, members, &edges, By::Fours, nudge)?;
+    let late = parted(alloc, members, &edges, By::LaterFours, nudge)?;
+    Ok(Fours { early, late })
 }
 
 /// For each run the next one of its group; where there is none, the number of all runs.

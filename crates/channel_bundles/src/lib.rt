@@ -4,6 +4,7 @@
 #![tactic(auto)]
 
 mod channel;
+mod few;
 mod forest;
 mod groups;
 mod laws;
@@ -13,7 +14,7 @@ mod links;
 mod member;
 mod route;
 
-pub use channel::{RunBundle, bundles};
+pub use channel::{RunBundle, bundles, few_bundles};
 pub use laws::reduced_connects;
 pub use member::Member;
 pub use route::{PhaseRoute, RouteAnchors};

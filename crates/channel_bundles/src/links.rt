@@ -20,7 +20,7 @@ fn lower_limits(alloc: Global, members: &[Member]) -> Result<Vec<i64>, AllocErro
 }
 
 /// For each run, the least lower limit of the runs from it on, in their order.
-fn first_clear(alloc: Global, members: &[Member]) -> Result<Vec<i64>, AllocError>
+pub(crate) fn first_clear(alloc: Global, members: &[Member]) -> Result<Vec<i64>, AllocError>
     ensures { IfOk result (λ clear. AreClear members.now clear.items) }
 {
     let mut clear = lower_limits(alloc, members)?;

@@ -1,5 +1,6 @@
 //! Runs with their limits, and which of them are linked.
-ghost use Rattle.std.specs.Prelude.{◌≡◌, ◌↔◌, ◌+ℤ◌, ◌≤ℤ◌, IsTrue};
+ghost use Rattle.std.specs.Prelude.{◌≡◌, ◌↔◌, ◌+ℤ◌, ◌≤ℤ◌, IsTrue, true, Some};
+ghost use Rattle.channel_bundles.specs.Kept.{Hides};
 ghost use Rattle.channel_bundles.specs.Links.{IsMember, IsNudge, asks, asks_movable, is_second_next, item_of, link, overlap, presses};
 
 use segment_order::Run;
@@ -82,6 +83,24 @@ impl Member {
         ensures { IsTrue result ↔ ((self.now.high +ℤ nudge) ≤ℤ low) }
     {
         self.high + nudge <= low
+    }
+
+    /// Whether a spaced rule links the run to a later one.
+    pub(crate) fn is_apart(&self, later: &Member, nudge: i64) -> bool
+        requires member { IsMember self.now }
+        requires nudge { IsNudge nudge }
+        ensures { IsTrue result → link nudge self.now later.now ≡ Some true }
+    {
+        matches!(self.link(later, nudge), Some(true))
+    }
+
+    /// Whether this run hides the other from behind: it may move, covers the range of the other, and
+    /// reaches as far.
+    pub(crate) fn hides(&self, other: &Member) -> bool
+        ensures { IsTrue result → Hides self.now other.now }
+    {
+        let covers = self.run.lo <= other.run.lo && other.run.hi <= self.run.hi;
+        !self.fixed && covers && other.high <= self.high
     }
 
     /// The run as an item of a bundle, wanted at its present coordinate.

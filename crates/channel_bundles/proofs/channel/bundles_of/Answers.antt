@@ -59,7 +59,7 @@ class_bundle-requires-clause-places c = (class_here (goal.at.class_bundle-requir
 pub loop-class-init : goal.loop-class-init
 loop-class-init c =
     let fits : FitsSigned w64 c.args.nudge = search rules in
-    simp to_z-of_z (bundling_begins c.args.nudge c.args.members.now (items_of c.deref-class-items.result.now) c.new-found.result.items c.new-found.ensures.items)
+    simp to_z-of_z (bundling_begins c.args.listing c.args.nudge c.args.members.now (items_of c.deref-class-items.result.now) c.new-found.result.items c.new-found.ensures.items)
 
 pub loop-class-preserved : goal.loop-class-preserved
 loop-class-preserved c =
@@ -68,7 +68,7 @@ loop-class-preserved c =
     let fits : FitsSigned w64 c.args.nudge = search rules in
     let is = simp to_z-of_z at c.loop-class.invariant in
     let of = simp to_z-of_z at c.in_ok-class_bundle.ensures.bundle in
-    simp to_z-of_z (bundling_more c.args.nudge members (items_of c.deref-class-items.result.now) c.loop-class.found.items _ c.loop-class.class-index c.in_ok-class_bundle.field-0 (members_at members c.deref.result.now)
+    simp to_z-of_z (bundling_more c.args.listing c.args.nudge members (items_of c.deref-class-items.result.now) c.loop-class.found.items _ c.loop-class.class-index c.in_ok-class_bundle.field-0 (members_at members c.deref.result.now)
     is (ap (members_at members) same) of c.in_ok-class_bundle.ensures.good c.in_ok-push.ensures.items)
 
 pub returns : goal.returns
@@ -76,7 +76,7 @@ returns c =
     let fits : FitsSigned w64 c.args.nudge = search rules in
     let is = simp to_z-of_z at c.loop-class.invariant in
     record {
-      bundles = bundling_ends c.args.nudge c.args.members.now (items_of c.deref-class-items.result.now) c.loop-class.found.items c.loop-class.class-index is
+      bundles = bundling_ends c.args.listing c.args.nudge c.args.members.now (items_of c.deref-class-items.result.now) c.loop-class.found.items c.loop-class.class-index is
           (omega (arith, length-map {B = List ℕ} c.deref-class-items.result.now (λ l. l.items), c.loop-class-test.false, c.loop-class.auto.class-index-end)) (classes_here (goal.at.returns c).After-deref-class-items);
       each = is.good;
     }

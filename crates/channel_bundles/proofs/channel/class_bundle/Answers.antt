@@ -5,7 +5,7 @@ use Rattle.std.proofs.lemmas.Int.{to_z-of_z}
 use Rattle.std.proofs.lemmas.List.{length-map}
 use Rattle.channel_bundles.specs.declared.member.Member.{Member}
 use Rattle.channel_bundles.specs.Links.{IsMember, member_at}
-use Rattle.channel_bundles.specs.Bundles.{IsBundleOf}
+use Rattle.channel_bundles.specs.Listed.{IsListed}
 use Rattle.channel_bundles.specs.Placed.{AreRising}
 use Rattle.channel_bundles.proofs.Bundling.{chosen_members, chosen_rising, few_places}
 use Rattle.channel_bundles.proofs.channel.class_bundle.Goals as goal
@@ -27,4 +27,4 @@ pub returns-clause-bundle : goal.returns-clause-bundle
 returns-clause-bundle c =
     let fits : FitsSigned w64 c.args.nudge = search rules in
     let of = simp to_z-of_z at c.bundle_of.ensures.bundle in
-    subst (λ ms. IfOk c.bundle_of.result (λ b. IsBundleOf c.args.nudge ms b)) (c.deref.ensures.value ∙ c.in_ok-runs.ensures) of
+    subst (λ ms. IfOk c.bundle_of.result (λ b. IsListed c.args.listing c.args.nudge ms b)) (c.deref.ensures.value ∙ c.in_ok-runs.ensures) of
