@@ -1,5 +1,5 @@
 -- The steps of a phase are the phase, and its result is accepted by the next one.
-use Rattle.std.proofs.Common.{◌≡◌, ◌≢◌, ℕ, ◌+◌, ◌-◌, ◌<◌, ℤ, pos, ◌<ℤ◌, Some, List, length, get_or, inl, inr, sym, ap, subst, subst₂, ◌∙◌, arith, if◌then◌else◌, true≢false}
+use Rattle.std.proofs.Common.{◌≡◌, ◌≢◌, ℕ, ◌+◌, ◌-◌, ◌<◌, ℤ, pos, ◌<ℤ◌, Some, List, length, get_or, inl, inr, sym, ap, subst, ◌∙◌, arith, if◌then◌else◌, true≢false}
 use Rattle.std.specs.Prelude.{slice_get, All, AllPairs}
 use Rattle.std.proofs.lemmas.Bool.{cases_Bool, cases_lt}
 use Rattle.std.proofs.lemmas.List.{get_or-map}
@@ -28,7 +28,7 @@ use Rattle.nudge_phases.proofs.EachPhase.PhaseKept.{phase_ready}
 use Rattle.nudge_phases.proofs.AlongRuns.FromTheWalk.{from_walk}
 use Rattle.nudge_phases.specs.Ready.{HasLegalWalk}
 use Rattle.nudge_phases.specs.Rising.{EdgesRise}
-use Rattle.nudge_phases.specs.Steps.{AreBundlesIn, AreEach, AreSolutionsOf, HasFollowed, IsPut, coordinates}
+use Rattle.nudge_phases.specs.Steps.{AreEach, AreSolutionsOf, HasFollowed, IsPut, coordinates}
 use Rattle.nudge_phases.proofs.RouteRuns.{all_read, run_is, some_read, still_rise}
 
 abbrev at_z : Run → ℤ → Run
@@ -104,18 +104,6 @@ is_phase solids before between after way nudge found solutions bundles solved pu
       let q = some_read between k (omega (arith, slice_get_within before k r at_r, puts.count)) in
       moved way found solutions r q.0 s (puts.each k r q.0 at_r q.1) (follows.each k q.0 s q.1 at_s);
 }
-
--- the same, of what is equal
-pub phase_of : (solids : List Solid) (routes first second put followed : List PhaseRoute) (way : Way) (nudge : ℤ) (found bundled : List RunBundle) (solutions solved : List Solution) →
-    first ≡ routes → bundled ≡ found → solved ≡ solutions → second ≡ put → AreBundles solids routes way nudge found → AreBundlesIn routes way found → AreSolutionsOf found solutions →
-    ((w : Way) → AreBundlesIn first w bundled → AreEach (IsPut w bundled solved) first put) → AreEach (HasFollowed way) second followed → IsPhase solids routes way nudge followed solutions
-phase_of solids routes first second put followed way nudge found bundled solutions solved e f g h bundles are settled puts follows =
-    is_phase solids routes put followed way nudge found solutions bundles settled
-    (subst (λ rs. AreEach (IsPut way found solutions) rs put) e
-    (subst (λ bs. AreEach (IsPut way bs solutions) first put) f
-    (subst (λ ss. AreEach (IsPut way bundled ss) first put) g
-    (puts way (subst₂ (λ rs bs. AreBundlesIn rs way bs) (sym e) (sym f) are)))))
-    (subst (λ rs. AreEach (HasFollowed way) rs followed) h follows)
 
 module _ (solids : List Solid) (before : List PhaseRoute) (way : Way) (nudge : ℤ) (after : List PhaseRoute) (solutions : List Solution) (phase : IsPhase solids before way nudge after solutions) where
   -- a phase keeps the order of the edges

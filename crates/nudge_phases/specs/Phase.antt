@@ -1,5 +1,6 @@
 -- One phase.
-use Rattle.std.specs.Prelude.{◌≡◌, ℕ, ℤ, List, length, slice_get, Some}
+use Rattle.std.specs.Prelude.{◌≡◌, ℕ, ℤ, List, Vec, length, slice_get, Some}
+use Rattle.std.specs.declared.alloc.Global.{Global}
 use Rattle.plane_geom.specs.declared.point.Way.{Way}
 use Rattle.plane_geom.specs.declared.rect.Solid.{Solid}
 use Rattle.separation_model.specs.declared.bundle.Bundle.{Bundle}
@@ -12,11 +13,15 @@ use Rattle.channel_bundles.specs.declared.channel.RunBundle.{RunBundle}
 use Rattle.channel_bundles.specs.Bundles.{AreBundles}
 use Rattle.nudge_phases.specs.Moved.{IsMoved}
 
--- the solution is for the bundle's gap, its positions are least, and its multipliers show it
+-- there are multipliers of all rules of the bundle that show, with the solution's own of its limits, that its positions are least
+abbrev pub IsShown : Bundle → Solution → Type 0
+IsShown b s = (mult : Vec ℤ Global) × IsAccepted b (record s { mult = mult })
+
+-- the solution is for the bundle's gap, its positions are least, and there are multipliers that show it
 pub record IsSolutionOf (b : Bundle) (s : Solution) : Type 0 where
   pub gap : IsWidestGap b s.gap
   pub least : IsLeast b s.gap s.den.items s.pos.items
-  pub shown : IsAccepted b s
+  pub shown : IsShown b s
 
 -- the phase of the way: for each bundle of its input a solution, in their order, and the routes with their runs where the solutions put them
 pub record IsPhase (solids : List Solid) (before : List PhaseRoute) (way : Way) (nudge : ℤ) (after : List PhaseRoute) (solutions : List Solution) : Type 0 where

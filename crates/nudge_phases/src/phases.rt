@@ -10,12 +10,13 @@ ghost use Rattle.nudge_phases.specs.Rising.{EdgesRise};
 
 use crate::moves::{follow_all, put_all};
 use crate::solutions::settle_all;
-use channel_bundles::{PhaseRoute, bundles};
+use channel_bundles::{PhaseRoute, few_bundles};
 use plane_geom::{Solid, Way};
 use separation_solve::Solution;
 use std::alloc::{AllocError, Global};
 
-/// The routes after a phase, and the solutions of its bundles in their order.
+/// The routes after a phase, and the solutions of its bundles in their order. Their multipliers are those of few rules of a
+/// bundle that stand for all.
 #[derive(Debug, Drop)]
 pub struct Moved {
     pub routes: Vec<PhaseRoute>,
@@ -26,7 +27,7 @@ pub struct Moved {
 /// follow. The only error is out of memory.
 ///
 /// The routes are in the order of their edges, which differ. All other conditions are those of
-/// `channel_bundles::bundles`: there are at most 850,000,000 runs of the way, the wanted nudge is
+/// `channel_bundles::few_bundles`: there are at most 850,000,000 runs of the way, the wanted nudge is
 /// from 0 to 1,000,000 thousandths, and each movable run may stay at its coordinate.
 pub fn phase(
     alloc: Global,
@@ -43,7 +44,7 @@ pub fn phase(
     requires nudge { IsNudge nudge }
     ensures { IfOk result (λ p. IsPhase solids.now routes.items way nudge p.routes.items p.solutions.items) }
 {
-    let found = bundles(alloc, solids, &routes, way, nudge)?;
+    let found = few_bundles(alloc, solids, &routes, way, nudge)?;
     let solutions = settle_all(alloc, &found)?;
     put_all(&mut routes, &found, &solutions);
     follow_all(&mut routes, way);

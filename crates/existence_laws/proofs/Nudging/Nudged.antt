@@ -30,7 +30,8 @@ use Rattle.nudge_phases.proofs.SceneLines.{raw_are, raw_few, raw_legal}
 use Rattle.nudge_phases.proofs.Zips.{zip_count, zip_read}
 use Rattle.existence_laws.specs.Nudged.{HaveNudgedLines}
 use Rattle.existence_laws.proofs.Answering.Answered.{partners}
-use Rattle.existence_laws.proofs.Nudging.Phases.{some_phase, vec_of}
+use Rattle.channel_bundles.proofs.Whole.{vec_of}
+use Rattle.existence_laws.proofs.Nudging.Phases.{some_phase}
 
 -- a line has fewer runs than points
 few_along : (number place : ℕ) (points : List Point) → length (runs_along number place points) ≤ length points

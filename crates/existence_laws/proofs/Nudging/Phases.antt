@@ -1,15 +1,13 @@
 -- A phase: bundles of its runs, a solution of each, and the routes with their runs at the solutions' places.
-use Rattle.std.proofs.Common.{◌≡◌, ◌≢◌, ℕ, zero, suc, ◌*◌, ◌<◌, ◌≤◌, ◌^◌, ℤ, Bool, true, false, Option, Some, None, List, [], ◌∷◌, length, map, get_or, slice_get, refl, sym, ap, ◌∙◌, arith}
-use Rattle.std.specs.Prelude.{All, IsSome, Vec}
+use Rattle.std.proofs.Common.{◌≡◌, ◌≢◌, ℕ, zero, suc, ◌<◌, ◌≤◌, ℤ, Bool, true, false, Option, Some, None, List, [], ◌∷◌, length, map, get_or, slice_get, refl, sym, ap, ◌∙◌, arith}
+use Rattle.std.specs.Prelude.{All, IsSome}
 use Rattle.std.specs.List.{AllZip, range_with_len}
-use Rattle.std.specs.declared.alloc.Global.{Global}
 use Rattle.std.proofs.Math.Decide.{map_dec, dec_le}
-use Rattle.std.proofs.lemmas.List.{length-append, length-map}
+use Rattle.std.proofs.lemmas.List.{length-map}
 use Rattle.std.proofs.lemmas.List.Elements.{All-contains, recursion_from_All}
 use Rattle.std.proofs.lemmas.List.Sorted.{length_permutation}
 use Rattle.std.proofs.lemmas.List.FromFn.{get_or-map-range_with_len, length-map-range_with_len}
 use Rattle.std.proofs.lemmas.Option.{slice_get-get_or}
-use denote.RawPtr.{null_ptr}
 use Rattle.plane_geom.specs.declared.point.Way.{Way}
 use Rattle.plane_geom.specs.declared.rect.Solid.{Solid}
 use Rattle.segment_order.specs.declared.run.Run.{Run}
@@ -23,15 +21,17 @@ use Rattle.channel_bundles.specs.declared.member.Member.{Member}
 use Rattle.channel_bundles.specs.declared.channel.RunBundle.{RunBundle}
 use Rattle.channel_bundles.specs.Route.{IsPhaseRoute, runs_of_way}
 use Rattle.channel_bundles.specs.Limits.{MayMove}
-use Rattle.channel_bundles.specs.Links.{IsLink, IsNudge, item_of, link, member_at, rule_if, rules_after, rules_from}
+use Rattle.channel_bundles.specs.Links.{IsLink, IsNudge, link, member_at}
 use Rattle.channel_bundles.specs.Bundles.{AreBundles, IsBundleOf, members_at, members_of}
 use Rattle.channel_bundles.proofs.Bundling.{few_places}
+use Rattle.channel_bundles.proofs.Whole.{whole_bundle}
 use Rattle.nudge_phases.specs.Moved.{IsPutAt, moved_run}
 use Rattle.nudge_phases.specs.Phase.{IsPhase, IsSolutionOf}
 use Rattle.nudge_phases.proofs.EachPhase.Solvable.{solvable}
 use Rattle.nudge_phases.specs.Steps.{AreBundlesIn, AreEach, AreSolutionsOf, HasFollowed, IsPut, IsRunIn, coordinates}
 use Rattle.nudge_phases.proofs.BetweenPhases.{is_phase}
 use Rattle.nudge_phases.proofs.Covering.{bundles_in}
+use Rattle.nudge_phases.proofs.Fewer.{vec_like}
 use Rattle.nudge_phases.proofs.RouteRuns.{some_read}
 use Rattle.nudge_phases.proofs.Zips.{zip_count, zip_read}
 use Rattle.existence_laws.proofs.Answering.Answered.{partners}
@@ -39,11 +39,7 @@ use Rattle.existence_laws.proofs.Deciding.Decided.{both}
 use Rattle.existence_laws.proofs.Nudging.Classes.{some_classes}
 use Rattle.existence_laws.proofs.Nudging.Standings.{some_in_order}
 use Rattle.existence_laws.proofs.Sharing.Starts.{same_way}
-use Rattle.existence_laws.proofs.Solving.Solved.{some_solution, vec_like}
-
--- a `Vec` with the elements of the list
-abbrev pub vec_of : {X : Type 0} (xs : List X) → length xs < 2 ^ 63 → Vec X Global
-vec_of xs few = record { ptr = null_ptr; len = length xs; cap = length xs; alloc = record { memory = record { seal = tt } }; items = xs; ok = (refl, omega arith); small = few }
+use Rattle.existence_laws.proofs.Solving.Solved.{some_solution}
 
 -- lists side by side, element by element
 zip_at : {X Y : Type 0} (R : X → Y → Type 0) (xs : List X) (ys : List Y) → AllZip R xs ys → (k : ℕ) (d : X) (e : Y) → k < length xs → R (get_or xs k d) (get_or ys k e)
@@ -65,34 +61,6 @@ linked_decided nudge members i j = map_dec (λ h. record { forward = h.0; within
     some_decided None = no (λ is. (let e : false ≡ true = is in cc))
     some_decided (Some b) = yes refl
 
-few_from : (nudge : ℤ) (i j : ℕ) (m : Member) (rest : List Member) → length (rules_from nudge i m j rest) ≤ length rest
-few_from nudge i j m [] = omega arith
-few_from nudge i j m (s ∷ rest) =
-    let first = one_rule (link nudge m s) in
-    omega (arith, length-append (rule_if i j (link nudge m s)) (rules_from nudge i m (suc j) rest), first, few_from nudge i (suc j) m rest)
-  where
-    one_rule : (o : Option Bool) → length (rule_if i j o) ≤ 1
-    one_rule None = omega arith
-    one_rule (Some b) = omega arith
-
-few_rules : (nudge : ℤ) (i : ℕ) (ms : List Member) → length ms ≤ most_items → length (rules_after nudge i ms) ≤ length ms * 850000000
-few_rules nudge i [] few = omega arith
-few_rules nudge i (m ∷ rest) few =
-    omega (arith, few, length-append (rules_from nudge i m (suc i) rest) (rules_after nudge (suc i) rest), few_from nudge i (suc i) m rest, few_rules nudge (suc i) rest (omega (arith, few)))
-
-bundle_of : (nudge : ℤ) (ms : List Member) → length ms ≤ most_items → (b : RunBundle) × IsBundleOf nudge ms b
-bundle_of nudge ms few = (
-  record {
-    bundle = record {
-      items = vec_of (map item_of ms) (omega (arith, few, length-map ms item_of));
-      rules = vec_of (rules_after nudge 0 ms) (omega (arith, few, few_rules nudge 0 ms few));
-      wanted = nudge;
-    };
-    runs = vec_of (map (λ m. m.run) ms) (omega (arith, few, length-map {B = Run} ms (λ m. m.run)));
-  },
-  record { items = refl; rules = refl; wanted = refl; runs = refl },
-)
-
 module _ (solids : List Solid) (routes : List PhaseRoute) (way : Way) (nudge : ℤ) (good : All IsPhaseRoute routes) (movable : All (MayMove solids way) routes)
     (few : length (runs_of_way way routes) ≤ most_items) (is_nudge : IsNudge nudge) where
   pub some_bundles : (found : List RunBundle) × AreBundles solids routes way nudge found
@@ -110,7 +78,7 @@ module _ (solids : List Solid) (routes : List PhaseRoute) (way : Way) (nudge : �
       let classes = some_classes (IsLink nudge members) (linked_decided nudge members) n (λ i j l. (let f = l.forward in let w = l.within in omega (arith, f, w), l.within)) in
       let made = partners (λ places b. IsBundleOf nudge (members_at members places) b) classes.0
       (recursion_from_All (λ places. (b : RunBundle) × IsBundleOf nudge (members_at members places) b) classes.0
-      (λ k d h. bundle_of nudge (members_at members (get_or classes.0 k d))
+      (λ k d h. whole_bundle nudge (members_at members (get_or classes.0 k d))
       (let most = few_places (get_or classes.0 k d) n (classes.1.rising k d h) (classes.1.within k d h) in omega (arith, most, few_members, length-map (get_or classes.0 k d) (member_at members))))) in (
         made.0,
         record {

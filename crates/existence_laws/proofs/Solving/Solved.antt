@@ -1,8 +1,7 @@
 -- A solution of each bundle: least positions over small denominators, with the multipliers that balance them.
 use Rattle.std.proofs.Common.{◌≡◌, ℕ, zero, suc, ◌+◌, ◌<◌, ◌≤◌, ℤ, pos, negsuc, ◌+ℤ◌, ◌-ℤ◌, ◌*ℤ◌, ◌≤ℤ◌, List, [], ◌∷◌, length, get_or, map, refl, sym, ap, subst, ◌∙◌, ⊎_elim, arith}
 use Rattle.std.specs.List.{range_with_len}
-use Rattle.std.specs.Prelude.{EachIndex, Vec, unsigned_abs}
-use Rattle.std.specs.declared.alloc.Global.{Global}
+use Rattle.std.specs.Prelude.{EachIndex, unsigned_abs}
 use Rattle.std.proofs.lemmas.Int.{ints}
 use Rattle.std.proofs.lemmas.List.Elements.{All-from_get_or}
 use Rattle.std.proofs.lemmas.List.FromFn.{get_or-map-range_with_len, length-map-range_with_len}
@@ -29,6 +28,7 @@ use Rattle.separation_model.proofs.Optimum.Positions.{MeetsOver, ends_within, in
 use Rattle.separation_model.proofs.Gaps.WidestExists.{widest_exists}
 use Rattle.separation_model.proofs.Verifying.Accepted.{accepted}
 use Rattle.nudge_phases.specs.Phase.{IsSolutionOf}
+use Rattle.nudge_phases.proofs.Fewer.{vec_like}
 use Rattle.existence_laws.specs.Solutions.{HaveSolutions}
 use Rattle.existence_laws.proofs.Solving.Flows.{IsMet, flow_or_cut, gathered, here_sign, touch}
 use Rattle.existence_laws.proofs.Solving.Links.{Link, IsTight, IsTightLink, link, link_of_high, link_of_low, link_of_rule, link_sum, link_count, at_item, at_wall, ends_in, from, supply, supply_even, supply_item, supply_wall, tight_or, to}
@@ -59,10 +59,6 @@ sum_walled n i g l = sum_below-zero n (λ k. here n i (g k)) (λ k m. here_other
 abs_sum : (n : ℕ) (f : ℕ → ℤ) → pos (unsigned_abs (sum_below n f)) ≤ℤ sum_below n (λ i. pos (unsigned_abs (f i)))
 abs_sum zero f = omega (arith, ints)
 abs_sum (suc n) f = omega (arith, ints, abs_sum n f)
-
--- a `Vec` as long as another one, with the elements of the list
-abbrev pub vec_like : {X Y : Type 0} (v : Vec X Global) (ys : List Y) → length ys ≡ length v.items → Vec Y Global
-vec_like v ys e = record { ptr = v.ptr; len = v.len; cap = v.cap; alloc = v.alloc; items = ys; ok = (v.ok.0 ∙ sym e, v.ok.1); small = v.small }
 
 -- ---- the same places over other denominators
 
@@ -333,7 +329,7 @@ module _ (b : Bundle) (gap : ℤ) (ok : IsBundle b) (widest : IsWidestGap b gap)
   shown = accepted b solution widest.low widest.high lengths_are mults_are limits_kept rules_kept at_rest
 
   pub solved : IsSolutionOf b solution
-  solved = record { gap = widest; least = certified_least b solution ok shown.certified; shown = shown }
+  solved = record { gap = widest; least = certified_least b solution ok shown.certified; shown = (solution.mult, shown) }
 
 -- least positions over any denominators lead to a solution
 by_least : (b : Bundle) (gap : ℤ) (den : List ℕ) (place : List ℤ) → IsBundle b → IsWidestGap b gap → IsLeast b gap den place → (s : Solution) × IsSolutionOf b s

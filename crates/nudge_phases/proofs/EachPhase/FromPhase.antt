@@ -28,7 +28,8 @@ use Rattle.channel_bundles.specs.Limits.{IsReached, MayStandAt, HasLimits}
 use Rattle.channel_bundles.specs.Links.{IsLink, asks, asks_movable, is_second_next, item_of, link, linked, member_at, no_member, overlap, rules_after}
 use Rattle.channel_bundles.specs.Bundles.{Standing, IsStanding, IsBundleOf, AreBundles, AreBundlesOf, members_at, members_of}
 use Rattle.channel_bundles.specs.Classes.{Connected, Rise}
-use Rattle.nudge_phases.proofs.MovedRuns.Bundled.{IsRunOf, standing_run, one_class, rule_after}
+use Rattle.channel_bundles.proofs.Ordered.{rule_after}
+use Rattle.nudge_phases.proofs.MovedRuns.Bundled.{IsRunOf, standing_run, one_class}
 use Rattle.channel_bundles.proofs.Placing.{at_rises}
 use Rattle.channel_bundles.proofs.Trees.{connected_link}
 use Rattle.nudge_phases.proofs.MovedRuns.OnePlace.{one_place}

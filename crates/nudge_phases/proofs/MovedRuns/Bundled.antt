@@ -1,19 +1,16 @@
 -- The consequences of the bundles of a phase for single runs.
-use Rattle.std.proofs.Common.{◌≡◌, ℕ, suc, zero, ◌+◌, ◌<◌, ℤ, Bool, Some, List, [], ◌∷◌, map, length, get_or, inl, inr, refl, sym, ap, subst, ◌∙◌, arith, if◌then◌else◌}
-use Rattle.std.specs.Prelude.{slice_get, Contains, All}
+use Rattle.std.proofs.Common.{◌≡◌, ℕ, suc, ◌<◌, List, [], ◌∷◌, map, length, get_or, inl, inr, refl, ap, subst, arith, if◌then◌else◌}
+use Rattle.std.specs.Prelude.{Contains, All}
 use Rattle.std.specs.List.Sorted.{IsPermutation}
 use Rattle.std.proofs.lemmas.Bool.{cases_lt, cases_Bool}
 use Rattle.std.proofs.lemmas.List.{get_or-map, length-map}
-use Rattle.std.proofs.lemmas.List.Elements.{All-cons, All-nil, All-same, All-append, All-map, All-get_or, All-weaker, Contains-get_or, Contains-append_left, Contains-append_right}
+use Rattle.std.proofs.lemmas.List.Elements.{All-cons, All-nil, All-same, All-append, All-map, All-get_or, All-weaker, Contains-get_or, Contains-append_right}
 use Rattle.std.proofs.lemmas.List.Sorted.{All-permutation}
 use Rattle.plane_geom.specs.declared.point.Way.{Way}
 use Rattle.segment_order.specs.declared.run.Run.{Run}
 use Rattle.segment_order.specs.Run.{run_at}
-use Rattle.separation_model.specs.declared.bundle.Rule.{Rule}
 use Rattle.channel_bundles.specs.declared.route.PhaseRoute.{PhaseRoute}
-use Rattle.channel_bundles.specs.declared.member.Member.{Member}
 use Rattle.channel_bundles.specs.Route.{of_way, runs_of_way, is_way}
-use Rattle.channel_bundles.specs.Links.{link, rule_if, rules_from, rules_after}
 use Rattle.channel_bundles.specs.Bundles.{Standing}
 use Rattle.channel_bundles.specs.Classes.{AreClasses, Rise}
 use Rattle.channel_bundles.proofs.Listing.{first_least}
@@ -48,35 +45,6 @@ module _ (connected : ℕ → ℕ → Type 0) (count : ℕ) (classes : List (Lis
           | inr both ↦ omega arith
         ])
       ]
-
--- a link between two members of a bundle is one of its rules
-rule_from : (nudge : ℤ) (i j n : ℕ) (m s : Member) (rest : List Member) (spaced : Bool) → slice_get rest n ≡ Some s → link nudge m s ≡ Some spaced →
-    Contains (rules_from nudge i m j rest) (record { left = i; right = j + n; spaced = spaced })
-rule_from nudge i j n m s [] spaced at e = cc
-rule_from nudge i j zero m s (t ∷ rest) spaced at e =
-    let same : t ≡ s = cc in
-    let rule : Rule = record { left = i; right = j + 0; spaced = spaced } in
-    let here : rule_if i j (link nudge m t) ≡ rule ∷ [] = ap (λ u. rule_if i j (link nudge m u)) same ∙ ap (rule_if i j) e ∙ ap (λ k. (let r : Rule = record { left = i; right = k; spaced = spaced } in r) ∷ []) (let k : j ≡ j + 0 = omega arith in k) in
-    Contains-append_left (rule_if i j (link nudge m t)) (rules_from nudge i m (suc j) rest) rule (subst (λ rules. Contains rules rule) (sym here) (0, omega arith, refl))
-rule_from nudge i j (suc n) m s (t ∷ rest) spaced at e =
-    Contains-append_right (rule_if i j (link nudge m t)) (rules_from nudge i m (suc j) rest) _
-    (subst (λ k. Contains (rules_from nudge i m (suc j) rest) (record { left = i; right = k; spaced = spaced })) (omega arith) (rule_from nudge i (suc j) n m s rest spaced at e))
-
-pub rule_after : (nudge : ℤ) (base i j : ℕ) (m s : Member) (ms : List Member) (spaced : Bool) → slice_get ms i ≡ Some m → slice_get ms j ≡ Some s → i < j → link nudge m s ≡ Some spaced →
-    Contains (rules_after nudge base ms) (record { left = base + i; right = base + j; spaced = spaced })
-rule_after nudge base i j m s [] spaced at to h e = cc
-rule_after nudge base i zero m s (t ∷ rest) spaced at to h e = absurd (omega arith)
-rule_after nudge base zero (suc j) m s (t ∷ rest) spaced at to h e =
-    let same : t ≡ m = cc in
-    Contains-append_left (rules_from nudge base t (suc base) rest) (rules_after nudge (suc base) rest) _
-    (subst (λ k. Contains (rules_from nudge base t (suc base) rest) (record { left = k; right = base + suc j; spaced = spaced })) (omega arith)
-    (subst (λ k. Contains (rules_from nudge base t (suc base) rest) (record { left = base; right = k; spaced = spaced })) (omega arith)
-    (rule_from nudge base (suc base) j t s rest spaced to (ap (λ u. link nudge u s) same ∙ e))))
-rule_after nudge base (suc i) (suc j) m s (t ∷ rest) spaced at to h e =
-    Contains-append_right (rules_from nudge base t (suc base) rest) (rules_after nudge (suc base) rest) _
-    (subst (λ k. Contains (rules_after nudge (suc base) rest) (record { left = k; right = base + suc j; spaced = spaced })) (omega arith)
-    (subst (λ k. Contains (rules_after nudge (suc base) rest) (record { left = suc base + i; right = k; spaced = spaced })) (omega arith)
-    (rule_after nudge (suc base) i j m s rest spaced at to (omega arith) e)))
 
 -- each run in order is a run of one of the routes
 pub record IsRunOf (routes : List PhaseRoute) (pair : PhaseRoute × Run) : Type 0 where

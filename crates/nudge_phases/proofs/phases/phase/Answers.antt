@@ -4,21 +4,21 @@ use Rattle.std.specs.Prelude.{All, AllPairs}
 use Rattle.std.proofs.lemmas.Int.{to_z-of_z}
 use Rattle.channel_bundles.specs.declared.route.PhaseRoute.{PhaseRoute}
 use Rattle.channel_bundles.specs.Limits.{MayMove}
-use Rattle.channel_bundles.specs.Bundles.{AreBundles}
+use Rattle.channel_bundles.specs.Few.{AreFewBundles}
 use Rattle.nudge_phases.specs.Phase.{IsPhase}
 use Rattle.nudge_phases.specs.Steps.{AreBundlesIn, AreSolutionsOf}
 use Rattle.nudge_phases.specs.Rising.{EdgesRise}
-use Rattle.nudge_phases.proofs.Covering.{bundles_in}
-use Rattle.nudge_phases.proofs.BetweenPhases.{phase_of, rising_differ}
+use Rattle.nudge_phases.proofs.BetweenPhases.{rising_differ}
+use Rattle.nudge_phases.proofs.Fewer.{few_in, phase_of}
 use Rattle.nudge_phases.proofs.RouteRuns.{take_whole}
 use Rattle.nudge_phases.proofs.phases.phase.Goals as goal
 
-pub bundles-requires-clause-edges : goal.bundles-requires-clause-edges
-bundles-requires-clause-edges c =
+pub few_bundles-requires-clause-edges : goal.few_bundles-requires-clause-edges
+few_bundles-requires-clause-edges c =
     subst (λ (rs : List PhaseRoute). AllPairs (λ (r s : PhaseRoute). r.edge ≢ s.edge) rs) (sym c.deref.ensures.value) (rising_differ c.args.routes.items c.requires.edges)
 
-pub bundles-requires-clause-movable : goal.bundles-requires-clause-movable
-bundles-requires-clause-movable c =
+pub few_bundles-requires-clause-movable : goal.few_bundles-requires-clause-movable
+few_bundles-requires-clause-movable c =
     subst (λ (rs : List PhaseRoute). All (MayMove c.args.solids.now c.args.way) rs) (sym c.deref.ensures.value) c.requires.movable
 
 pub put_all-requires-clause-edges : goal.put_all-requires-clause-edges
@@ -30,7 +30,7 @@ put_all-requires-clause-bundles c =
     let way = c.args.way in
     let found = c.in_ok-found.found.items in
     let bundles = simp to_z-of_z at c.in_ok-found.ensures.bundles in
-    let are = bundles_in c.args.solids.now c.deref.result.now way c.args.nudge found bundles c.in_ok-found.ensures.each in
+    let are = few_in c.args.solids.now c.deref.result.now way c.args.nudge found bundles c.in_ok-found.ensures.each in
     (way, subst₂ (λ rs bs. AreBundlesIn rs way bs) (c.deref.ensures.value ∙ sym c.deref_mut.ensures.value) (sym c.deref-3.ensures.value) are)
 
 pub returns : goal.returns
@@ -42,8 +42,8 @@ returns c =
     let found = c.in_ok-found.found.items in
     let solutions = c.in_ok-solutions.solutions.items in
     let read = simp to_z-of_z at c.in_ok-found.ensures.bundles in
-    let bundles = subst (λ (rs : List PhaseRoute). AreBundles solids rs way c.args.nudge found) c.deref.ensures.value read in
-    let are = bundles_in solids routes way c.args.nudge found bundles c.in_ok-found.ensures.each in
+    let bundles = subst (λ (rs : List PhaseRoute). AreFewBundles solids rs way c.args.nudge found) c.deref.ensures.value read in
+    let are = few_in solids routes way c.args.nudge found bundles c.in_ok-found.ensures.each in
     let settled = subst (λ bs. AreSolutionsOf bs solutions) c.deref-2.ensures.value c.in_ok-solutions.ensures in
     let count = c.args.routes.ok.0 in
     let first = c.deref_mut.ensures.value in
