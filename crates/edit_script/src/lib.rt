@@ -9,5 +9,5 @@ mod script;
 mod values;
 
 pub use laws::{line_numbers_rise, scripts_have_directions};
-pub use script::commands;
-pub use values::{count_of, id_of};
+pub use script::{commands, words};
+pub use values::{count_of, id_of, number_of};

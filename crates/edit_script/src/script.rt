@@ -28,6 +28,22 @@ pub fn commands(alloc: Global, bytes: &[u8]) -> Result<Vec<(usize, Command)>, Al
     Ok(list)
 }
 
+/// The words of a line, which spaces and tabs separate, without one carriage return at its end.
+///
+/// The only error is out of memory.
+pub fn words(alloc: Global, line: &[u8]) -> Result<Vec<&[u8]>, AllocError>
+    ensures { IfOk result (λ list. map (λ w. w.now) list.items ≡ words line.now) }
+{
+    let mut list = Vec::new(alloc);
+    for word in without_return(line)
+        .split(|byte| *byte == b' ' || *byte == b'\t')
+        .filter(|word| !word.is_empty())
+    {
+        list.push(word)?;
+    }
+    Ok(list)
+}
+
 /// The command of a line, if it has one.
 fn command_in(line: &[u8]) -> Option<Command>
     ensures { result ≡ command_of (words line.now) }

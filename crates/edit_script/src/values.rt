@@ -12,7 +12,7 @@ const BEYOND: i64 = 1_000_000_000_000_001;
 
 /// A number in thousandths. A number out of range is read as one thousandth beyond the range, with
 /// its sign.
-pub(crate) fn number_of(word: &[u8]) -> Option<i64>
+pub fn number_of(word: &[u8]) -> Option<i64>
     ensures { result ≡ number_of word.now }
 {
     match read_milli(word) {
