@@ -6,12 +6,14 @@ use Rattle.scene_model.specs.Scene.{Scene}
 use Rattle.scene_model.specs.declared.edit.Command.{Command}
 use Rattle.scene_model.specs.declared.edit.Command.TheVariants.{Begin, Edit, Commit, Abort, Undo, Redo, Bad}
 use Rattle.live_replies.specs.declared.request.Request.{Request}
-use Rattle.live_replies.specs.declared.request.Request.TheVariants.{Nothing, Do, Label, Preview, Lines, Gml, Next, Why, Quit as AskForEnd}
+use Rattle.live_replies.specs.declared.request.Request.TheVariants.{Nothing, Do, Label, Reconnect, Preview, Lines, Gml, Next, Why, Shared, Crossings, Check, Quit as AskForEnd}
 use Rattle.live_replies.specs.declared.serving.End.{End}
 use Rattle.live_replies.specs.declared.serving.End.TheVariants.{Input, Quit}
 use Rattle.live_replies.specs.declared.serving.ServeFault.{ServeFault}
 use Rattle.live_replies.specs.declared.serving.ServeFault.TheVariants.{Read, Write, Memory, Exhausted}
-use Rattle.drawing.specs.Drawing.{DrawingState}
+use Rattle.drawing.specs.Drawing.{DrawingState, edited_scene}
+use Rattle.drawing.specs.Reconnect.{reconnection}
+use Rattle.drawing.proofs.Reconnecting.{made_keeps}
 use Rattle.live_replies.specs.Answers.{Answers, AnswersCommand, AnswersPreview, AnswersRead}
 use Rattle.live_replies.specs.Requests.{request_of}
 use Rattle.live_replies.specs.Serves.{AreTurns, DiagramsStay, EndsTurn, Moment, Turn}
@@ -39,6 +41,8 @@ module _ (old new : DrawingState) (said : List ℕ) where
   after_request (Label what text) (inl h) = h.0.document
   after_request (Label what text) (inr (inl h)) = h.1.0.keeps.document
   after_request (Label what text) (inr (inr h)) = same h.0
+  after_request (Reconnect number end id class) h =
+      (made_keeps (reconnection (edited_scene old.session.world.working old.session.world.present) number end id class) h.answer old new h.reconnected).document
   after_request Preview (inl h) = after_preview old.session.world.working h
   after_request Preview (inr h) = same h.0
   after_request Lines (inl h) = h.document
@@ -49,6 +53,12 @@ module _ (old new : DrawingState) (said : List ℕ) where
   after_request Next (inr h) = same h.0
   after_request Why (inl h) = same h.0
   after_request Why (inr h) = same h.0
+  after_request Shared (inl h) = same h.0
+  after_request Shared (inr h) = same h.0
+  after_request Crossings (inl h) = same h.0
+  after_request Crossings (inr h) = same h.0
+  after_request (Check number corners) (inl h) = same h.0
+  after_request (Check number corners) (inr h) = same h.0
   after_request AskForEnd h = same h.0
 
   after_reading : (read : LineRead) (line : List ℕ) → AnswersRead read line old new said → new.document ≡ old.document

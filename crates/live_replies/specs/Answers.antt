@@ -18,8 +18,10 @@ use Rattle.drawing.specs.Labelled.{GivesLabel}
 use Rattle.drawing.specs.declared.labels.Labelled.{Labelled}
 use Rattle.drawing.specs.Lines.{AreDrawn, AreProposed}
 use Rattle.live_replies.specs.declared.request.Request.{Request}
-use Rattle.live_replies.specs.declared.request.Request.TheVariants.{Nothing, Do, Label, Preview, Lines, Gml, Next, Why, Quit}
+use Rattle.live_replies.specs.declared.request.Request.TheVariants.{Nothing, Do, Label, Reconnect, Preview, Lines, Gml, Next, Why, Shared, Crossings, Check, Quit}
 use Rattle.live_replies.specs.Changes.{changes, changes_text}
+use Rattle.live_replies.specs.Checks.{SaysCrossings, SaysShared, SaysVerdict}
+use Rattle.live_replies.specs.Reconnect.{AnswersReconnect}
 use Rattle.live_replies.specs.Requests.{request_of}
 use Rattle.live_replies.specs.Texts.{drawn_texts, gml_text, next_text, no_memory_line, ok_line, refused_line, too_long_line, unreported_line}
 use Rattle.live_replies.specs.Why.{SaysWhy}
@@ -108,11 +110,15 @@ abbrev pub Answers : Request → DrawingState → DrawingState → List ℕ → 
 Answers Nothing old new said = (new ≡ old) × (said ≡ ok_line)
 Answers (Do command) old new said = AnswersCommand command old new said
 Answers (Label what text) old new said = AnswersLabel what text old new said
+Answers (Reconnect number end id class) old new said = AnswersReconnect number end id class old new said
 Answers Preview old new said = AnswersPreview old.session.world.working old new said ⊎ AnswersNoMemory old new said
 Answers Lines old new said = ReportsLines old new said ⊎ AnswersNoMemory old new said
 Answers Gml old new said = ReportsDiagram old new said ⊎ AnswersNoMemory old new said
 Answers Next old new said = ReportsNext old new said ⊎ AnswersNoMemory old new said
 Answers Why old new said = ((new ≡ old) × SaysWhy old.session said) ⊎ AnswersNoMemory old new said
+Answers Shared old new said = ((new ≡ old) × SaysShared old.session said) ⊎ AnswersNoMemory old new said
+Answers Crossings old new said = ((new ≡ old) × SaysCrossings old.session said) ⊎ AnswersNoMemory old new said
+Answers (Check number corners) old new said = ((new ≡ old) × SaysVerdict number corners old.session said) ⊎ AnswersNoMemory old new said
 Answers Quit old new said = (new ≡ old) × (said ≡ ok_line)
 
 -- the reply to a line that was read so: one that is too long, and one that finds no memory, rolls back the transaction

@@ -1,15 +1,16 @@
 -- What a line of input asks for.
-use Rattle.std.specs.Prelude.{⊤, ℕ, ◌+◌, ◌==◌, Bool, List, [], ◌∷◌, take, drop, position, codes, bytes_eq, Option, None, Some, option_map, if◌then◌else◌}
+use Rattle.std.specs.Prelude.{⊤, ℕ, ◌+◌, ◌==◌, Bool, List, [], ◌∷◌, take, drop, position, codes, bytes_eq, Option, None, Some, option_map, unwrap_or, if◌then◌else◌}
 use Rattle.std.specs.Str.Lines.{strip_carriage_return}
 use Rattle.scene_model.specs.declared.edit.Command.{Command}
 use Rattle.scene_model.specs.declared.edit.Command.TheVariants.{Bad}
 use Rattle.scene_model.specs.World.{IsDirectedCommand}
-use Rattle.edit_script.specs.Script.{commands}
+use Rattle.edit_script.specs.Script.{commands, words}
 use Rattle.edit_script.specs.Values.{count_of, id_of_word}
 use Rattle.drawing.specs.declared.labels.Labelled.{Labelled}
 use Rattle.drawing.specs.declared.labels.Labelled.TheVariants as labelled
 use Rattle.live_replies.specs.declared.request.Request.{Request}
-use Rattle.live_replies.specs.declared.request.Request.TheVariants.{Nothing, Do, Label, Preview, Lines, Gml, Next, Why, Quit}
+use Rattle.live_replies.specs.declared.request.Request.TheVariants.{Nothing, Do, Label, Reconnect, Preview, Lines, Gml, Next, Why, Shared, Crossings, Check, Quit}
+use Rattle.live_replies.specs.Forms.{named_request}
 
 -- the first of the commands, or nothing
 abbrev pub first_of : List (ℕ × Command) → Request
@@ -71,18 +72,24 @@ request_of line =
     else if is_word (codes "gml") line then Gml
     else if is_word (codes "next") line then Next
     else if is_word (codes "why") line then Why
+    else if is_word (codes "shared") line then Shared
+    else if is_word (codes "crossings") line then Crossings
     else if is_quit line then Quit
     else if is_label line then label_request (after_word (strip_carriage_return line))
-    else command_request line
+    else unwrap_or (named_request (words line)) (command_request line)
 
 -- each pin that the request adds has a direction
 abbrev pub IsDirectedRequest : Request → Type 0
 IsDirectedRequest (Do command) = IsDirectedCommand command
 IsDirectedRequest Nothing = ⊤
 IsDirectedRequest (Label what text) = ⊤
+IsDirectedRequest (Reconnect number end id class) = ⊤
 IsDirectedRequest Preview = ⊤
 IsDirectedRequest Lines = ⊤
 IsDirectedRequest Gml = ⊤
 IsDirectedRequest Next = ⊤
 IsDirectedRequest Why = ⊤
+IsDirectedRequest Shared = ⊤
+IsDirectedRequest Crossings = ⊤
+IsDirectedRequest (Check number corners) = ⊤
 IsDirectedRequest Quit = ⊤

@@ -33,7 +33,7 @@ corner_text p = (codes " " ++ milli_text p.x) ++ codes " " ++ milli_text p.y
 abbrev pub corners_text : List Point → List ℕ
 corners_text ps = flat_map corner_text ps
 
--- a connector has this line, has none any more, or gets this number
+-- a connector has this line, has none any more, gets this number if it is the next one, or got it when it was moved
 abbrev pub drawn_text : WrittenRoute → List ℕ
 drawn_text l = line (codes "line " ++ decimal l.edge ++ corners_text l.points)
 
@@ -45,6 +45,9 @@ gone_text edge = line (codes "no line " ++ decimal edge)
 
 abbrev pub next_text : ℕ → List ℕ
 next_text number = line (codes "next " ++ decimal number)
+
+abbrev pub connector_text : ℕ → List ℕ
+connector_text number = line (codes "connector " ++ decimal number)
 
 -- a diagram, after a line that says how many bytes it has
 abbrev pub gml_text : List ℕ → List ℕ

@@ -2,9 +2,12 @@
 #![tactic(auto)]
 
 mod change;
+mod checks;
+mod form;
 mod laws;
 mod line;
 mod live;
+mod reconnect;
 mod reply;
 mod request;
 mod serving;

@@ -2,7 +2,7 @@
 ghost use Rattle.std.specs.Prelude.{◌≡◌, ◌++◌, OnOk, codes, decimal};
 ghost use Rattle.std.specs.List.{flat_map};
 ghost use Rattle.fixed_milli.specs.Milli.{milli_text};
-ghost use Rattle.live_replies.specs.Texts.{corner_text, corners_text, drawn_text, drawn_texts, gml_text, gone_text, next_text, ok_line};
+ghost use Rattle.live_replies.specs.Texts.{connector_text, corner_text, corners_text, drawn_text, drawn_texts, gml_text, gone_text, next_text, ok_line};
 
 use fixed_milli::write_milli;
 use itoa::Buffer;
@@ -86,6 +86,15 @@ pub(crate) fn push_next(out: &mut Vec<u8>, number: u32) -> Result<(), AllocError
     ensures { OnOk result (out.new.items ≡ out.old.items ++ next_text number) }
 {
     push_numbered(out, b"next ", u64::from(number))?;
+    out.push(b'\n')?;
+    Ok(())
+}
+
+/// Appends the line that says which number a connector got that was moved.
+pub(crate) fn push_connector(out: &mut Vec<u8>, number: u32) -> Result<(), AllocError>
+    ensures { OnOk result (out.new.items ≡ out.old.items ++ connector_text number) }
+{
+    push_numbered(out, b"connector ", u64::from(number))?;
     out.push(b'\n')?;
     Ok(())
 }

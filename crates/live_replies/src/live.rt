@@ -17,6 +17,8 @@ ghost use Rattle.live_replies.specs.Texts.{drawn_texts, ok_line};
 ghost use Rattle.live_replies.specs.declared.request.Request.TheVariants as requests;
 ghost use Rattle.host_edge.specs.declared.line_source.LineRead.TheVariants as reads;
 
+use crate::checks::{crossings_text, report_verdict, shared_text};
+use crate::reconnect::report_reconnect;
 use crate::reply::{Said, refused};
 use crate::request::{Request, is_quit, request_of};
 use crate::text::{changes_text, gml_text, lines_text, next_text};
@@ -250,11 +252,22 @@ impl Live {
             Request::Do(Command::Bad) => self.refuse_line(),
             Request::Do(command) => self.do_command(rt, &command, workers, gate),
             Request::Label(what, text) => self.label(what, text.as_slice()),
+            Request::Reconnect {
+                number,
+                end,
+                id,
+                class,
+            } => report_reconnect(self.alloc, &mut self.drawing, number, end, id, class),
             Request::Preview => self.report_preview(rt, workers, gate),
             Request::Lines => self.report_lines(),
             Request::Gml => Said::of(self.diagram()),
             Request::Next => Said::of(self.next()),
             Request::Why => Said::of(why_text(self.alloc, self.drawing.session())),
+            Request::Shared => Said::of(shared_text(self.alloc, &self.drawing)),
+            Request::Crossings => Said::of(crossings_text(self.alloc, &self.drawing)),
+            Request::Check { number, corners } => {
+                report_verdict(self.alloc, &self.drawing, number, corners.as_slice())
+            }
         }
     }
 

@@ -1,14 +1,17 @@
 //! What a line of input asks for.
-ghost use Rattle.std.specs.Prelude.{◌≡◌, ◌==◌, ◌<◌, IfOk, IfSome, length, position};
+ghost use Rattle.std.specs.Prelude.{◌≡◌, ◌==◌, ◌<◌, IfOk, IfSome, length, position, unwrap_or};
 ghost use Rattle.std.specs.Str.Lines.{strip_carriage_return};
+ghost use Rattle.live_replies.specs.Forms.{named_request};
 ghost use Rattle.live_replies.specs.Requests.{IsDirectedRequest, after_word, command_request, first_of, first_word, is_label, is_quit};
 ghost use Rattle.live_replies.specs.Requests.{is_word, label_request, labelled_of, request_of};
 ghost use Rattle.script_replay.specs.Replies.{AreDirected};
-ghost use Rattle.edit_script.specs.Script.{HaveDirections};
+ghost use Rattle.edit_script.specs.Script.{HaveDirections, words};
 
-use drawing::Labelled;
+use crate::form::named_request;
+use drawing::{End, Labelled};
 use edit_script::{commands, count_of, id_of, scripts_have_directions};
 use gml_text::Bytes;
+use plane_geom::Points;
 use scene_model::Command;
 use std::alloc::{AllocError, Global};
 
@@ -21,6 +24,13 @@ pub enum Request {
     Do(Command),
     /// A label for a box or a connector.
     Label(Labelled, Bytes),
+    /// Moving an end of a connector to another box, at a pin of a class.
+    Reconnect {
+        number: u32,
+        end: End,
+        id: i64,
+        class: u32,
+    },
     /// What a commit would change.
     Preview,
     /// The corners of all lines.
@@ -31,6 +41,15 @@ pub enum Request {
     Next,
     /// Why connectors have no route.
     Why,
+    /// The paths that routes share.
+    Shared,
+    /// How often lines cross.
+    Crossings,
+    /// The verdict on a line for a connector.
+    Check {
+        number: u32,
+        corners: Points,
+    },
     /// The end.
     Quit,
 }
@@ -135,6 +154,17 @@ fn is_label(line: &[u8]) -> bool
     word == b"label".as_slice()
 }
 
+/// A request that has words after its name, or a line of a script.
+fn other_request(alloc: Global, line: &[u8]) -> Result<Request, AllocError>
+    ensures request { IfOk result (λ request. request ≡ unwrap_or (named_request (words line.now)) (command_request line.now)) }
+    ensures directed { IfOk result IsDirectedRequest }
+{
+    match named_request(alloc, line)? {
+        Some(request) => Ok(request),
+        None => command_request(alloc, line),
+    }
+}
+
 /// What a line asks for. The only error is out of memory.
 pub(crate) fn request_of(alloc: Global, line: &[u8]) -> Result<Request, AllocError>
     ensures request { IfOk result (λ request. request ≡ request_of line.now) }
@@ -150,12 +180,16 @@ pub(crate) fn request_of(alloc: Global, line: &[u8]) -> Result<Request, AllocErr
         Ok(Request::Next)
     } else if is_word(b"why", line) {
         Ok(Request::Why)
+    } else if is_word(b"shared", line) {
+        Ok(Request::Shared)
+    } else if is_word(b"crossings", line) {
+        Ok(Request::Crossings)
     } else if is_quit(line) {
         Ok(Request::Quit)
     } else if is_label(line) {
         let (_, rest) = split_word(without_return(line));
         label_request(alloc, rest)
     } else {
-        command_request(alloc, line)
+        other_request(alloc, line)
     }
 }

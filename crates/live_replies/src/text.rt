@@ -1,10 +1,10 @@
 //! The texts of replies.
 ghost use Rattle.std.specs.Prelude.{◌≡◌, ◌++◌, IfOk};
 ghost use Rattle.live_replies.specs.Changes.{changes, changes_text};
-ghost use Rattle.live_replies.specs.Texts.{drawn_texts, gml_text, next_text, ok_line};
+ghost use Rattle.live_replies.specs.Texts.{connector_text, drawn_texts, gml_text, next_text, ok_line};
 
 use crate::change::push_changes;
-use crate::line::{push_all_drawn, push_gml, push_next, push_ok};
+use crate::line::{push_all_drawn, push_connector, push_gml, push_next, push_ok};
 use drawing::Compared;
 use std::alloc::{AllocError, Global};
 use walk_model::WrittenRoute;
@@ -45,6 +45,16 @@ pub(crate) fn next_text(alloc: Global, number: u32) -> Result<Vec<u8>, AllocErro
 {
     let mut text = Vec::new(alloc);
     push_next(&mut text, number)?;
+    push_ok(&mut text)?;
+    Ok(text)
+}
+
+/// The text that reports which number a connector got that was moved.
+pub(crate) fn connector_text(alloc: Global, number: u32) -> Result<Vec<u8>, AllocError>
+    ensures { IfOk result (λ text. text.items ≡ connector_text number ++ ok_line) }
+{
+    let mut text = Vec::new(alloc);
+    push_connector(&mut text, number)?;
     push_ok(&mut text)?;
     Ok(text)
 }
