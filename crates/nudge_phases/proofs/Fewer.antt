@@ -19,7 +19,7 @@ use Rattle.channel_bundles.specs.declared.route.PhaseRoute.{PhaseRoute}
 use Rattle.channel_bundles.specs.declared.channel.RunBundle.{RunBundle}
 use Rattle.channel_bundles.specs.Few.{AreAmong, AreFewBundles, IsFewOf}
 use Rattle.nudge_phases.specs.Moved.{IsPutAt}
-use Rattle.nudge_phases.specs.Phase.{IsPhase, IsShown, IsSolutionOf}
+use Rattle.nudge_phases.specs.Phase.{IsPhase, IsShownLeast, IsSolutionOf}
 use Rattle.nudge_phases.specs.Steps.{AreBundlesIn, AreEach, AreSolutionsOf, HasFollowed, IsPut, IsRunIn}
 use Rattle.nudge_phases.proofs.BetweenPhases.{is_phase}
 use Rattle.nudge_phases.proofs.Covering.{bundles_in}

@@ -14,14 +14,14 @@ use Rattle.channel_bundles.specs.Bundles.{AreBundles}
 use Rattle.nudge_phases.specs.Moved.{IsMoved}
 
 -- there are multipliers of all rules of the bundle that show, with the solution's own of its limits, that its positions are least
-abbrev pub IsShown : Bundle → Solution → Type 0
-IsShown b s = (mult : Vec ℤ Global) × IsAccepted b (record s { mult = mult })
+abbrev pub IsShownLeast : Bundle → Solution → Type 0
+IsShownLeast b s = (mult : Vec ℤ Global) × IsAccepted b (record s { mult = mult })
 
 -- the solution is for the bundle's gap, its positions are least, and there are multipliers that show it
 pub record IsSolutionOf (b : Bundle) (s : Solution) : Type 0 where
   pub gap : IsWidestGap b s.gap
   pub least : IsLeast b s.gap s.den.items s.pos.items
-  pub shown : IsShown b s
+  pub shown : IsShownLeast b s
 
 -- the phase of the way: for each bundle of its input a solution, in their order, and the routes with their runs where the solutions put them
 pub record IsPhase (solids : List Solid) (before : List PhaseRoute) (way : Way) (nudge : ℤ) (after : List PhaseRoute) (solutions : List Solution) : Type 0 where
