@@ -1,6 +1,6 @@
 -- Solutions of bundles with few rules are solutions of the bundles with all.
-use Rattle.std.proofs.Common.{◌≡◌, ℕ, ◌<◌, ◌^◌, ℤ, pos, ◌+ℤ◌, ◌≤ℤ◌, Some, List, [], ◌∷◌, Vec, Global, length, get_or, refl, sym, ap, subst, subst₂, ◌∙◌, arith}
-use Rattle.std.specs.Prelude.{All, Contains, EachIndex, slice_get}
+use Rattle.std.proofs.Common.{◌≡◌, ℕ, ◌<◌, ◌^◌, ℤ, pos, ◌≤ℤ◌, Some, List, [], ◌∷◌, Vec, Global, length, get_or, sym, ap, subst, subst₂, ◌∙◌, arith}
+use Rattle.std.specs.Prelude.{All, Contains, slice_get}
 use Rattle.std.proofs.lemmas.Int.{ints}
 use Rattle.std.proofs.lemmas.List.Elements.{All-get_or, All-from_get_or}
 use Rattle.std.proofs.lemmas.Option.{slice_get_within, slice_get-get_or, get_or_from_slice_get}
@@ -8,9 +8,8 @@ use Rattle.plane_geom.specs.declared.point.Way.{Way}
 use Rattle.plane_geom.specs.declared.rect.Solid.{Solid}
 use Rattle.segment_order.specs.declared.run.Run.{Run}
 use Rattle.separation_model.specs.declared.bundle.Rule.{Rule}
-use Rattle.separation_model.specs.declared.bundle.Bundle.{Bundle}
 use Rattle.separation_model.specs.declared.bundle.Solution.{Solution}
-use Rattle.separation_model.specs.Bundle.{IsBundle, int_at}
+use Rattle.separation_model.specs.Bundle.{IsBundle}
 use Rattle.separation_model.specs.Certified.{IsAccepted, IsSmall, all_multipliers}
 use Rattle.separation_model.specs.Padded.{ArePadded}
 use Rattle.separation_model.proofs.Chains.{one_least, one_widest_gap}
@@ -19,9 +18,10 @@ use Rattle.channel_bundles.specs.declared.route.PhaseRoute.{PhaseRoute}
 use Rattle.channel_bundles.specs.declared.channel.RunBundle.{RunBundle}
 use Rattle.channel_bundles.specs.Few.{AreAmong, AreFewBundles, IsFewOf}
 use Rattle.nudge_phases.specs.Moved.{IsPutAt}
-use Rattle.nudge_phases.specs.Phase.{IsPhase, IsShownLeast, IsSolutionOf}
+use Rattle.nudge_phases.specs.Phase.{IsPhase, IsSolutionOf}
 use Rattle.nudge_phases.specs.Steps.{AreBundlesIn, AreEach, AreSolutionsOf, HasFollowed, IsPut, IsRunIn}
 use Rattle.nudge_phases.proofs.BetweenPhases.{is_phase}
+use Rattle.nudge_phases.proofs.ByFew.{shown_by_fewer}
 use Rattle.nudge_phases.proofs.Covering.{bundles_in}
 use Rattle.nudge_phases.proofs.RouteRuns.{some_read}
 
@@ -84,6 +84,7 @@ solution_of_all b few s good is_few is =
       gap = one_widest_gap b.bundle few.bundle s.gap good is_few.reduced is.gap;
       least = one_least b.bundle few.bundle s.gap s.den.items s.pos.items good is_few.reduced is.gap.low is.least;
       shown = ((whole b few own good is_few is.shown.1).mult, accepted b few own good is_few is.shown.1);
+      by_few = shown_by_fewer b.bundle few.bundle s is_few.reduced is.by_few;
     }
 
 module _ (solids : List Solid) (routes : List PhaseRoute) (way : Way) (nudge : ℤ) (few : List RunBundle) (are : AreFewBundles solids routes way nudge few) where

@@ -10,6 +10,7 @@ pub mod Covering
 pub mod Following
 pub mod Cornering
 pub mod BetweenPhases
+pub mod ByFew
 pub mod Fewer
 pub mod Zips
 pub mod Turning

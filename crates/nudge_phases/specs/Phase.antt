@@ -6,6 +6,7 @@ use Rattle.plane_geom.specs.declared.rect.Solid.{Solid}
 use Rattle.separation_model.specs.declared.bundle.Bundle.{Bundle}
 use Rattle.separation_model.specs.declared.bundle.Solution.{Solution}
 use Rattle.separation_model.specs.Certified.{IsAccepted}
+use Rattle.separation_model.specs.Chains.{IsReducedBundle}
 use Rattle.separation_model.specs.Gap.{IsWidestGap}
 use Rattle.separation_model.specs.Least.{IsLeast}
 use Rattle.channel_bundles.specs.declared.route.PhaseRoute.{PhaseRoute}
@@ -17,11 +18,18 @@ use Rattle.nudge_phases.specs.Moved.{IsMoved}
 abbrev pub IsShownLeast : Bundle → Solution → Type 0
 IsShownLeast b s = (mult : Vec ℤ Global) × IsAccepted b (record s { mult = mult })
 
--- the solution is for the bundle's gap, its positions are least, and there are multipliers that show it
+-- the solution's own multipliers show it for some of the bundle's rules, whose chains stand for all
+pub record IsShownByFew (b : Bundle) (s : Solution) : Type 0 where
+  pub few : Bundle
+  pub reduced : IsReducedBundle b few
+  pub accepted : IsAccepted few s
+
+-- the solution is for the bundle's gap, its positions are least, and multipliers show it: some of all rules, and its own of few
 pub record IsSolutionOf (b : Bundle) (s : Solution) : Type 0 where
   pub gap : IsWidestGap b s.gap
   pub least : IsLeast b s.gap s.den.items s.pos.items
   pub shown : IsShownLeast b s
+  pub by_few : IsShownByFew b s
 
 -- the phase of the way: for each bundle of its input a solution, in their order, and the routes with their runs where the solutions put them
 pub record IsPhase (solids : List Solid) (before : List PhaseRoute) (way : Way) (nudge : ℤ) (after : List PhaseRoute) (solutions : List Solution) : Type 0 where
