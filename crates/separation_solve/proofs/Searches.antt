@@ -5,3 +5,4 @@ pub mod Extending
 pub mod Searching
 pub mod Sending
 pub mod Pushing
+pub mod Sweeping

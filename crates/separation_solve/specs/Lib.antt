@@ -12,4 +12,5 @@ pub mod Network
 pub mod Block
 pub mod Reach
 pub mod Push
+pub mod Sweep
 pub mod Start

@@ -22,6 +22,10 @@ impl Network {
             (All (λ z. z ≡ pos 0) self.new.excess.items)
             (λ block. IsBlock self.new (start_of block) block)) }
     {
+        self.sweep();
+        // Now what is pulled to the left.
+        self.mirror();
+        self.sweep();
         let mut reach = Reach::new(alloc, self.places.len())?;
         while let Some(start) = self.next_start() {
             match reach.search(self, start)? {

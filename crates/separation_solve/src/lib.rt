@@ -16,6 +16,7 @@ mod release;
 mod shift;
 mod solver;
 mod start;
+mod sweep;
 mod tight;
 
 pub use separation_model::{

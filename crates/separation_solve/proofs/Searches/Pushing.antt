@@ -39,14 +39,14 @@ total_size-set zs i z h =
     let long : total_size new ≡ sum_below (length zs) (size new) = ap (λ k. sum_below k (size new)) (length-set zs i z) in
     omega (arith, ints, same, change, long)
 
--- the excess after an amount was sent from one node to another
-pub record IsSettled (old new : List ℤ) (from to : ℕ) (a : ℤ) : Type 0 where
+-- the excess after an amount was sent from one node to another, which lets its size fall at least so far
+pub record IsSettled (old new : List ℤ) (from to : ℕ) (a fall : ℤ) : Type 0 where
   pub long : length new ≡ length old
   pub each : (i : ℕ) → i < length old → int_at new i ≡ (int_at old i +ℤ here from i a) -ℤ here to i a
-  pub less : (total_size new +ℤ a) ≤ℤ total_size old
+  pub less : (total_size new +ℤ fall) ≤ℤ total_size old
 
 -- to the wall
-pub settled_at_wall : (zs : List ℤ) (from to : ℕ) (a : ℤ) → from < length zs → to ≡ length zs → pos 0 <ℤ a → a ≤ℤ neg_ℤ (int_at zs from) → IsSettled zs (set zs from (int_at zs from +ℤ a)) from to a
+pub settled_at_wall : (zs : List ℤ) (from to : ℕ) (a : ℤ) → from < length zs → to ≡ length zs → pos 0 <ℤ a → a ≤ℤ neg_ℤ (int_at zs from) → IsSettled zs (set zs from (int_at zs from +ℤ a)) from to a a
 settled_at_wall zs from to a h wall some capacity =
     let z = int_at zs from +ℤ a in
     record {
@@ -62,9 +62,9 @@ settled_at_wall zs from to a h wall some capacity =
     }
 
 -- to an item
-pub settled_at_item : (zs : List ℤ) (from to : ℕ) (a : ℤ) → from < length zs → to < length zs → from ≢ to → pos 0 <ℤ a → a ≤ℤ neg_ℤ (int_at zs from) → a ≤ℤ int_at zs to →
-    IsSettled zs (set (set zs from (int_at zs from +ℤ a)) to (int_at zs to -ℤ a)) from to a
-settled_at_item zs from to a h k apart some capacity takes =
+pub settled_at_item : (zs : List ℤ) (from to : ℕ) (a fall : ℤ) → from < length zs → to < length zs → from ≢ to → pos 0 <ℤ a → a ≤ℤ neg_ℤ (int_at zs from) → (pos (unsigned_abs (int_at zs to -ℤ a)) +ℤ fall) ≤ℤ (pos (unsigned_abs (int_at zs to)) +ℤ a) →
+    IsSettled zs (set (set zs from (int_at zs from +ℤ a)) to (int_at zs to -ℤ a)) from to a fall
+settled_at_item zs from to a fall h k apart some capacity takes =
     let z = int_at zs from +ℤ a in
     let w = int_at zs to -ℤ a in
     let mid = set zs from z in
@@ -90,7 +90,7 @@ settled_at_item zs from to a h k apart some capacity takes =
 
 -- the network with the flow sent on
 pub pushed : (n : Network) (flow excess : Vec ℤ Global) (r : Reach) (target : ℕ) (a : ℤ) → IsSound n → IsReach n (start_of r) r → target < length r.steps.items → pos 0 <ℤ a →
-    IsSent n r target 0 a flow.items → IsSettled n.excess.items excess.items (start_of r) (step_at r.steps.items target).node a → IsSound (record n { flow = flow; excess = excess })
+    IsSent n r target 0 a flow.items → IsSettled n.excess.items excess.items (start_of r) (step_at r.steps.items target).node a a → IsSound (record n { flow = flow; excess = excess })
 pushed n flow excess r target a sound reach h some sent settled =
     let m : Network = record n { flow = flow; excess = excess } in
     let frame = sound.frame in

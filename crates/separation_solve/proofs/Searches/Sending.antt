@@ -88,7 +88,7 @@ total_flow-set flow j d h =
     omega (arith, ints, same, change, long)
 
 -- what holds of each number still does after one was changed
-each_set : (flow : List ℤ) (j : ℕ) (z : ℤ) (P : ℕ → ℤ → Type 0) → j < length flow → P j z → ((i : ℕ) → i < length flow → P i (int_at flow i)) → (i : ℕ) → i < length (set flow j z) → P i (int_at (set flow j z) i)
+pub each_set : (flow : List ℤ) (j : ℕ) (z : ℤ) (P : ℕ → ℤ → Type 0) → j < length flow → P j z → ((i : ℕ) → i < length flow → P i (int_at flow i)) → (i : ℕ) → i < length (set flow j z) → P i (int_at (set flow j z) i)
 each_set flow j z P h here rest i m =
     ⊎_elim
     (λ (e : i ≡ j). subst (λ k. P k (int_at (set flow j z) k)) (sym e) (subst (P j) (sym (get_or-set_same flow j z (pos 0) h)) here))

@@ -149,7 +149,7 @@ lowered n now r k a s t x y way sent e read end last =
     ∙ ap (set mid i) (to_z-of_z end.fits.1)
 
 -- the network that a push leaves
-left : (n now : Network) (excess : Vec ℤ Global) (r : Reach) (k : ℕ) (a : ℤ) → IsSound n → IsWay n (start_of r) r k → pos 0 <ℤ a → Sent n now r k a → KeepsRest n now → IsSettled n.excess.items excess.items (start_of r) (step_at r.steps.items k).node a → IsSound (record now { excess = excess })
+left : (n now : Network) (excess : Vec ℤ Global) (r : Reach) (k : ℕ) (a : ℤ) → IsSound n → IsWay n (start_of r) r k → pos 0 <ℤ a → Sent n now r k a → KeepsRest n now → IsSettled n.excess.items excess.items (start_of r) (step_at r.steps.items k).node a a → IsSound (record now { excess = excess })
 left n now excess r k a sound way some sent rest settled =
     subst IsSound (sym (ap (λ (m : Network). record m { excess = excess }) (rest_is n now rest))) (pushed n now.flow excess r k a sound way.reach way.target some sent.sent settled)
 
@@ -163,7 +163,7 @@ falls t u a some less = omega (arith, ints)
 -- the excess that is left where an item takes the flow
 settled_then : (c : After-index_mut-then-end-wall) → IsSettled c.args.self.now.excess.items
     (lowered_at (raised_at c.send.new.self.excess.items c.index.result.now.node c.index_mut.result.now c.sendable-amount.result) c.index-2.result.now.node c.index_mut-then-end-wall.result.now c.sendable-amount.result)
-    (start_of c.args.reach.now) (step_at c.args.reach.now.steps.items c.args.target).node c.sendable-amount.result
+    (start_of c.args.reach.now) (step_at c.args.reach.now.steps.items c.args.target).node c.sendable-amount.result c.sendable-amount.result
 settled_then c =
     let n = c.args.self.now in
     let r = c.args.reach.now in
@@ -173,13 +173,13 @@ settled_then c =
     let end = end_here here.Then-end-wall in
     let node = (step_at r.steps.items c.args.target).node in
     let is = lowered n c.send.new.self r c.args.target a c.index.result.now c.index-2.result.now c.index_mut.result.now c.index_mut-then-end-wall.result.now c.requires.way k c.index.ensures c.index_mut.ensures.value end c.index_mut-then-end-wall.ensures.value in
-    subst (λ es. IsSettled n.excess.items es (start_of r) node a) (sym is)
-    (settled_at_item n.excess.items (start_of r) node a k.start_in end.inside end.apart c.sendable-amount.ensures.some k.capacity end.capacity)
+    subst (λ es. IsSettled n.excess.items es (start_of r) node a a) (sym is)
+    (settled_at_item n.excess.items (start_of r) node a a k.start_in end.inside end.apart c.sendable-amount.ensures.some k.capacity (omega (arith, ints, end.capacity)))
 
 -- and where the wall takes it
 settled_else : (c : Else-end-wall) → IsSettled c.args.self.now.excess.items
     (raised_at c.send.new.self.excess.items c.index.result.now.node c.index_mut.result.now c.sendable-amount.result)
-    (start_of c.args.reach.now) (step_at c.args.reach.now.steps.items c.args.target).node c.sendable-amount.result
+    (start_of c.args.reach.now) (step_at c.args.reach.now.steps.items c.args.target).node c.sendable-amount.result c.sendable-amount.result
 settled_else c =
     let n = c.args.self.now in
     let r = c.args.reach.now in
@@ -189,7 +189,7 @@ settled_else c =
     let is = raised n c.send.new.self r c.args.target a c.index.result.now c.index_mut.result.now c.requires.way k c.index.ensures c.index_mut.ensures.value in
     let end : node ≡ length n.excess.items = at_wall n r c.args.target c.index-2.result.now c.requires.sound c.requires.way c.index-2.ensures
     (c.if-end-wall.false ∙ c.wall.ensures ∙ ap (λ (v : Vec ℤ Global). length v.items) c.send.ensures.rest.wants) in
-    subst (λ es. IsSettled n.excess.items es (start_of r) node a) (sym is)
+    subst (λ es. IsSettled n.excess.items es (start_of r) node a a) (sym is)
     (settled_at_wall n.excess.items (start_of r) node a k.start_in end c.sendable-amount.ensures.some k.capacity)
 
 pub returns-then-end-wall-clause-sound : goal.returns-then-end-wall-clause-sound
