@@ -40,7 +40,7 @@ fn line_crossings(alloc: Global, lines: &[WrittenRoute]) -> Result<u64, AllocErr
     ensures { IfOk result (λ count. count ≡ crossing_count (line_runs lines.now)) }
 {
     let drawn = drawn_lines(alloc, lines)?;
-    Ok(crossings(&drawn))
+    crossings(alloc, &drawn)
 }
 
 /// How often the nudged lines of the session's present scene cross. The only error is out of memory.

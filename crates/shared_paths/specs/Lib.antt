@@ -6,3 +6,4 @@ pub mod Listed
 pub mod Crossings
 pub mod Views
 pub mod Starts
+pub mod Columns

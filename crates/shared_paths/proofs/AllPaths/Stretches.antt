@@ -86,7 +86,7 @@ first_not_less Less p h = h
 first_not_less Equal p h = refl
 first_not_less Greater p h = refl
 
-not_less : (y z : ℤ) → is_lt (int_cmp y z) ≡ false → z ≤ℤ y
+pub not_less : (y z : ℤ) → is_lt (int_cmp y z) ≡ false → z ≤ℤ y
 not_less y z h =
     by_ranked (y <ℤ z) (y ≡ z) (z <ℤ y) (int_cmp y z) (int_ranked y z _ refl)
     (λ o l. (let t : true ≡ false = ap is_lt (sym o) ∙ h in cc)) (λ o e. omega (arith, ints)) (λ o l. omega (arith, ints))

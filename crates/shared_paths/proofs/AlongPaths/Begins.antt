@@ -1,6 +1,8 @@
 -- The path from a start is one of the shared paths.
 use Rattle.std.proofs.Common.{◌≡◌, ℕ, ◌<◌, ◌^◌, Bool, true, false, List, [], ◌∷◌, length, All, ap, ◌∙◌, subst, arith}
+use Rattle.std.proofs.lemmas.List.Concat.{length-flat_map}
 use Rattle.std.proofs.lemmas.List.Elements.{All-head, All-tail}
+use Rattle.std.proofs.lemmas.List.Sums.{get_or-le-sum_by}
 use Rattle.segment_order.specs.declared.run.Run.{Run}
 use Rattle.segment_order.specs.Run.{run_at}
 use Rattle.shared_paths.specs.declared.path.EdgeRuns.{EdgeRuns}
@@ -11,7 +13,6 @@ use Rattle.shared_paths.specs.Paths.{end_at, last_of}
 use Rattle.shared_paths.specs.Listed.{AreRoutes, IsPairedPath, no_route, route_at}
 use Rattle.shared_paths.specs.Starts.{IsStart, paired_from, pair_of}
 use Rattle.shared_paths.specs.Views.{EndsAt, IsSomeRoute}
-use Rattle.shared_paths.proofs.Counting.{line_is_short}
 use Rattle.shared_paths.proofs.AlongPaths.Steps.{alike_back, step_of, turns_there_back}
 
 -- the route at the place is a route
@@ -20,7 +21,7 @@ some_route routes are k l = ((route_at routes k).edge, are.each k no_route l)
 
 -- it has few runs
 pub few_runs : (routes : List EdgeRuns) → AreRoutes routes → (k : ℕ) → k < length routes → length (route_at routes k).runs < 2 ^ 32
-few_runs routes are k l = line_is_short routes k no_route l are.few
+few_runs routes are k l = omega (arith, are.few, length-flat_map (λ (r : EdgeRuns). r.runs) routes, get_or-le-sum_by (λ (r : EdgeRuns). length r.runs) routes k no_route l)
 
 -- a pair to which another goes on ahead goes on back
 goes_on_back : (a b : List Run) → IsSomeRoute a → IsSomeRoute b → (p : Pair) → IsPair a b p → GoesOn a b true p → GoesOn a b false (next_pair a b true p)
