@@ -1,9 +1,11 @@
 //! Pairs of runs of two routes, and where they go on.
 ghost use Rattle.std.specs.Prelude.{◌≡◌, ◌<◌, ◌↔◌, IsTrue, length, true};
+ghost use Rattle.segment_order.specs.Run.{run_at};
+ghost use Rattle.segment_order.specs.Ray.{reach_in};
 ghost use Rattle.shared_paths.specs.Pairs.{GoesOn, IsPair, first_entry, next_index};
 ghost use Rattle.shared_paths.specs.Pairs.{next_pair, outward};
 ghost use Rattle.shared_paths.specs.Paths.{end_at, other_side};
-ghost use Rattle.shared_paths.specs.Views.{EndsAt, IsSomeRoute, view};
+ghost use Rattle.shared_paths.specs.Views.{EndsAt, IsSomeRoute, entry_towards, view};
 
 use crate::path::End;
 use plane_geom::Dir;
@@ -46,6 +48,34 @@ fn next_index(route: &[Run], index: usize, dir: Dir) -> usize
     }
 }
 
+/// Whether both runs end at one coordinate in the direction.
+fn ends_alike(dir: Dir, one: &Run, other: &Run) -> bool
+    ensures { IsTrue result ↔ (reach_in dir one.now ≡ reach_in dir other.now) }
+{
+    match dir {
+        Dir::East | Dir::South => one.hi == other.hi,
+        Dir::West | Dir::North => one.lo == other.lo,
+    }
+}
+
+/// The direction in which the route goes on that leaves the run with this index in the direction;
+/// none at its end.
+fn heading_past(route: &[Run], index: usize, dir: Dir) -> Option<Dir>
+    requires { index < length route.now }
+    ensures { first_entry route.now index dir ≡ entry_towards (run_at route.now index) dir result }
+{
+    let run = &route[index];
+    let place = run.place as usize;
+    if run.heading == dir {
+        let next = route.get(place)?;
+        Some(next.heading)
+    } else {
+        let before = &route[..place.saturating_sub(1).min(route.len())];
+        let next = before.last()?;
+        Some(next.heading.opposite())
+    }
+}
+
 impl Routes<'_> {
     /// The direction in which the first route leaves the pair, ahead or back.
     fn outward(self, ahead: bool, pair: Pair) -> Dir
@@ -75,9 +105,16 @@ impl Routes<'_> {
         requires b { pair.b < length self.b.now }
         ensures { IsTrue result ↔ GoesOn self.entry.a.now self.entry.b.now ahead (view pair) }
     {
-        match self.entries(pair, self.outward(ahead, pair)) {
-            (Entry::Stop, _) => false,
-            (one, other) => one.compare(other) == Ordering::Equal,
+        let dir = self.outward(ahead, pair);
+        if !ends_alike(dir, &self.a[pair.a], &self.b[pair.b]) {
+            return false;
+        }
+        match (
+            heading_past(self.a, pair.a, dir),
+            heading_past(self.b, pair.b, dir),
+        ) {
+            (Some(one), Some(other)) => one == other && one.way() != dir.way(),
+            _ => false,
         }
     }
 
