@@ -1,9 +1,9 @@
 -- Each bundle that is built is accepted by a solver.
-use Rattle.std.proofs.Common.{◌≡◌, ℕ, suc, zero, ◌+◌, ◌<◌, ◌≤◌, ℤ, ◌≤ℤ◌, Bool, Option, Some, None, List, [], ◌∷◌, ◌++◌, map, length, get_or, sym, ap, subst, ◌∙◌, arith}
+use Rattle.std.proofs.Common.{◌≡◌, ℕ, suc, zero, ◌+◌, ◌<◌, ◌≤◌, ℤ, ◌≤ℤ◌, Bool, Option, Some, None, List, [], ◌∷◌, ◌++◌, map, length, get_or, take, sym, ap, subst, ◌∙◌, arith}
 use Rattle.std.specs.Prelude.{All}
 use Rattle.std.proofs.lemmas.Int.{ints}
-use Rattle.std.proofs.lemmas.List.{get_or-map, length-map, get_or_append_left, get_or_push, length_push}
-use Rattle.std.proofs.lemmas.List.Elements.{All-append, All-cons, All-get_or, All-map, All-nil, All-push, All-same, All-weaker}
+use Rattle.std.proofs.lemmas.List.{get_or-map, get_or_append_left, get_or_push, length-map, length_push, map-append, map_more}
+use Rattle.std.proofs.lemmas.List.Elements.{All-append, All-cons, All-get_or, All-map, All-nil, All-same, All-weaker}
 use Rattle.separation_model.specs.declared.bundle.Bundle.{Bundle}
 use Rattle.separation_model.specs.declared.bundle.Item.{Item}
 use Rattle.separation_model.specs.declared.bundle.Rule.{Rule}
@@ -76,6 +76,10 @@ rise_above : (places : List ℕ) (k : ℕ) → Rise places → k < length places
 rise_above places zero rise h = omega arith
 rise_above places (suc k) rise h = omega (arith, rise_above places k rise (omega arith), rise k (suc k) (omega arith) h)
 
+-- numbers that rise do not fall
+pub rise_to : (places : List ℕ) (i j : ℕ) → Rise places → i ≤ j → j < length places → get_or places i 0 ≤ get_or places j 0
+rise_to places i j rise before h = cases_below i j (λ less. omega (arith, rise i j less h)) (λ more. let same : i ≡ j = omega arith in omega (arith, ap (λ k. get_or places k 0) same))
+
 pub few_places : (places : List ℕ) (n : ℕ) → Rise places → All (λ i. i < n) places → length places ≤ n
 few_places [] n rise within = omega arith
 few_places (p ∷ ps) n rise within =
@@ -90,43 +94,48 @@ pub chosen_rising : (members : List Member) (places : List ℕ) → Rise places 
 chosen_rising members places rise within rising =
     let count : length (members_at members places) ≡ length places = length-map {B = Member} places (member_at members) in
     let at : (k : ℕ) → k < length places → member_at (members_at members places) k ≡ member_at members (get_or places k 0) = λ k h. get_or-map (member_at members) places k 0 no_member h in
-    let above : (i j : ℕ) → i ≤ j → j < length places → get_or places i 0 ≤ get_or places j 0 = λ i j before h. cases_below i j (λ less. omega (arith, rise i j less h)) (λ more. let same : i ≡ j = omega arith in omega (arith, ap (λ k. get_or places k 0) same)) in
     record {
       rise = λ i j before h.
           let in_j : j < length places = omega (arith, h, count) in
           subst (λ (m : Member). m.run.at ≤ℤ (member_at (members_at members places) j).run.at) (sym (at i (omega arith)))
           (subst (λ (m : Member). (member_at members (get_or places i 0)).run.at ≤ℤ m.run.at) (sym (at j in_j))
-          (rising.rise (get_or places i 0) (get_or places j 0) (above i j before in_j) (All-get_or (λ k. k < length members) places j 0 in_j within)));
+          (rising.rise (get_or places i 0) (get_or places j 0) (rise_to places i j rise before in_j) (All-get_or (λ k. k < length members) places j 0 in_j within)));
     }
 
--- the bundles of the first i classes
-pub record IsBundling (listing : Listing) (nudge : ℤ) (members : List Member) (classes : List (List ℕ)) (found : List RunBundle) (i : ℕ) : Type 0 where
-  pub count : length found ≡ i
-  pub each : (k : ℕ) (d : RunBundle) → k < i → IsListed listing nudge (members_at members (get_or classes k [])) (get_or found k d)
-  pub good : All (λ (b : RunBundle). IsBundle b.bundle) found
+-- what is made of one run more of those at the places
+pub made_more : {X : Type 0} (f : Member → X) (members : List Member) (places : List ℕ) (i : ℕ) (found made : List X) (x : X) → i < length places → found ≡ map f (members_at members (take i places)) →
+    x ≡ f (member_at members (get_or places i 0)) → made ≡ found ++ x ∷ [] → made ≡ map f (members_at members (take (i + 1) places))
+made_more f members places i found made x h is is_x e =
+    let m = member_at members (get_or places i 0) in
+    let front = members_at members (take i places) in
+    let all : map f (members_at members (take (i + 1) places)) ≡ map f front ++ f m ∷ [] = ap (map f) (map_more (member_at members) places i 0 h) ∙ map-append f front (m ∷ []) in
+    e ∙ ap (λ xs. xs ++ x ∷ []) is ∙ ap (λ y. map f front ++ y ∷ []) is_x ∙ sym all
 
-pub bundling_begins : (listing : Listing) (nudge : ℤ) (members : List Member) (classes : List (List ℕ)) (found : List RunBundle) → found ≡ [] → IsBundling listing nudge members classes found 0
-bundling_begins listing nudge members classes found none = record {
+-- the bundles of the first i classes
+pub record IsBundling (is_of : List Member → RunBundle → Type 0) (members : List Member) (classes : List (List ℕ)) (found : List RunBundle) (i : ℕ) : Type 0 where
+  pub count : length found ≡ i
+  pub each : (k : ℕ) (d : RunBundle) → k < i → is_of (members_at members (get_or classes k [])) (get_or found k d)
+
+pub bundling_begins : (is_of : List Member → RunBundle → Type 0) (members : List Member) (classes : List (List ℕ)) (found : List RunBundle) → found ≡ [] → IsBundling is_of members classes found 0
+bundling_begins is_of members classes found none = record {
   count = ap length none;
   each = λ k d h. absurd (omega arith);
-  good = All-same (λ (b : RunBundle). IsBundle b.bundle) found [] none (All-nil (λ (b : RunBundle). IsBundle b.bundle));
 }
 
-pub bundling_more : (listing : Listing) (nudge : ℤ) (members : List Member) (classes : List (List ℕ)) (found made : List RunBundle) (i : ℕ) (b : RunBundle) (runs : List Member) → IsBundling listing nudge members classes found i →
-    runs ≡ members_at members (get_or classes i []) → IsListed listing nudge runs b → IsBundle b.bundle → made ≡ found ++ b ∷ [] → IsBundling listing nudge members classes made (i + 1)
-bundling_more listing nudge members classes found made i b runs is are of good e =
+pub bundling_more : (is_of : List Member → RunBundle → Type 0) (members : List Member) (classes : List (List ℕ)) (found made : List RunBundle) (i : ℕ) (b : RunBundle) (places : List ℕ) → IsBundling is_of members classes found i →
+    places ≡ get_or classes i [] → is_of (members_at members places) b → made ≡ found ++ b ∷ [] → IsBundling is_of members classes made (i + 1)
+bundling_more is_of members classes found made i b places is are of e =
     let more = found ++ b ∷ [] in
     let count = is.count in
-    subst (λ xs. IsBundling listing nudge members classes xs (i + 1)) (sym e) (record {
+    subst (λ xs. IsBundling is_of members classes xs (i + 1)) (sym e) (record {
       count = length_push found b ∙ ap (λ n. n + 1) is.count;
       each = λ k d h. cases_same k i
-          (λ now. subst (λ n. IsListed listing nudge (members_at members (get_or classes n [])) (get_or more n d)) (sym now)
-          (subst (λ x. IsListed listing nudge (members_at members (get_or classes i [])) x) (sym (get_or_push found b d i is.count)) (subst (λ ms. IsListed listing nudge ms b) are of)))
-          (λ ne. subst (λ x. IsListed listing nudge (members_at members (get_or classes k [])) x) (sym (get_or_append_left found (b ∷ []) d k (omega arith))) (is.each k d (omega arith)));
-      good = All-push (λ (x : RunBundle). IsBundle x.bundle) found b is.good good;
+          (λ now. subst (λ n. is_of (members_at members (get_or classes n [])) (get_or more n d)) (sym now)
+          (subst (λ x. is_of (members_at members (get_or classes i [])) x) (sym (get_or_push found b d i is.count)) (subst (λ xs. is_of (members_at members xs) b) are of)))
+          (λ ne. subst (λ x. is_of (members_at members (get_or classes k [])) x) (sym (get_or_append_left found (b ∷ []) d k (omega arith))) (is.each k d (omega arith)));
     })
 
-pub bundling_ends : (listing : Listing) (nudge : ℤ) (members : List Member) (classes : List (List ℕ)) (found : List RunBundle) (i : ℕ) → IsBundling listing nudge members classes found i → i ≡ length classes →
+pub bundling_ends : (listing : Listing) (nudge : ℤ) (members : List Member) (classes : List (List ℕ)) (found : List RunBundle) (i : ℕ) → IsBundling (IsListed listing nudge) members classes found i → i ≡ length classes →
     AreClasses (Connected (IsLink nudge members)) (length members) classes → AreListedOf listing nudge members found
 bundling_ends listing nudge members classes found i is all are = record {
   classes = classes;
@@ -134,3 +143,16 @@ bundling_ends listing nudge members classes found i is all are = record {
   count = is.count ∙ all;
   each = λ k d h. is.each k d (omega (arith, h, is.count));
 }
+
+-- a solver accepts the bundles of the classes
+pub good_bundles : (listing : Listing) (nudge : ℤ) (members : List Member) (found : List RunBundle) → All IsMember members → length members ≤ most_items → AreRising members → IsNudge nudge → AreListedOf listing nudge members found →
+    All (λ (b : RunBundle). IsBundle b.bundle) found
+good_bundles listing nudge members found all few rising is_nudge are k d h =
+    let places = get_or are.classes k [] in
+    let is = are.each k d h in
+    let in_k : k < length are.classes = omega (arith, h, are.count) in
+    let within = are.are_classes.within k [] in_k in
+    let rise = are.are_classes.rising k [] in_k in
+    let count : length (members_at members places) ≡ length places = length-map {B = Member} places (member_at members) in
+    good_listed listing nudge (members_at members places) (get_or found k d).bundle (chosen_members members places within all) (omega (arith, count, few_places places (length members) rise within, few))
+    (chosen_rising members places rise within rising) is_nudge is.items is.rules is.wanted

@@ -72,7 +72,7 @@ limits_meet nudge members groups i j good rising wanted l same =
 shared : (r s : Run) → overlap r s ≡ true → (r.lo <ℤ s.hi) × (s.lo <ℤ r.hi)
 shared r s e = grind (arith, ints, clamps)
 
-other_number : (m n : ℕ) → m ≢ n → (m == n) ≡ false
+pub other_number : (m n : ℕ) → m ≢ n → (m == n) ≡ false
 other_number m n e = grind (arith, nat_tests)
 
 -- runs of different edges whose ranges share no stretch require nothing

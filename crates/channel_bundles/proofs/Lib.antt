@@ -18,3 +18,4 @@ pub mod Whole
 pub mod Fewer
 pub mod Looking
 pub mod Keeping
+pub mod Sharing

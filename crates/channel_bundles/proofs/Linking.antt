@@ -1,13 +1,13 @@
 -- How the links of one run after another are joined, and listed as rules.
-use Rattle.std.proofs.Common.{◌≡◌, ◌≢◌, ℕ, suc, ◌+◌, ◌<◌, ◌≤◌, ℤ, None, List, [], ◌∷◌, ◌++◌, length, get_or, drop, inl, inr, refl, sym, ap, subst, ◌∙◌, arith, add-one, append_assoc, true≢false, map, Vec, Global, Result, Ok, Err}
-use Rattle.std.specs.Prelude.{IsSome, All, IfOk}
-use Rattle.std.specs.declared.alloc.AllocError.{AllocError}
+use Rattle.std.proofs.Common.{◌≡◌, ◌≢◌, ℕ, suc, ◌+◌, ◌<◌, ◌≤◌, ℤ, None, List, [], ◌∷◌, ◌++◌, length, get_or, drop, inl, inr, refl, sym, ap, subst, ◌∙◌, arith, add-one, append_assoc, true≢false}
+use Rattle.std.specs.Prelude.{IsSome}
 use Rattle.std.proofs.lemmas.List.{drop_more}
 use Rattle.separation_model.specs.declared.bundle.Rule.{Rule}
 use Rattle.channel_bundles.specs.declared.member.Member.{Member}
 use Rattle.channel_bundles.specs.Classes.{AreClasses, Connected, FollowsLinks, IsForest, LeadsUp, LeadsUpOr}
 use Rattle.channel_bundles.specs.Groups.{AreNext, AreTogether}
 use Rattle.channel_bundles.specs.Links.{IsLink, link, member_at, no_member, rule_if, rules_after, rules_from}
+use Rattle.channel_bundles.proofs.Listing.{classes_by}
 use Rattle.channel_bundles.proofs.Trees.{connected_by, connected_link, cases_same, cases_below}
 
 unlinked : (nudge : ℤ) (members : List Member) (i j : ℕ) → link nudge (member_at members i) (member_at members j) ≡ None → IsLink nudge members i j → ⊥
@@ -165,28 +165,8 @@ rules_more nudge at members rules made all h so is_made =
     ∙ so
 
 -- the trees are the classes
-linked_classes : (nudge : ℤ) (members : List Member) (above : List ℕ) (at : ℕ) (lists : List (List ℕ)) → AreLinked nudge members above at → length members ≤ at →
+pub linked_classes : (nudge : ℤ) (members : List Member) (above : List ℕ) (at : ℕ) (lists : List (List ℕ)) → AreLinked nudge members above at → length members ≤ at →
     AreClasses (Connected (LeadsUp above)) (length above) lists → AreClasses (Connected (IsLink nudge members)) (length members) lists
 linked_classes nudge members above at lists are whole is =
-    let count = are.count in
-    record {
-      within = subst (λ n. All (All (λ i. i < n)) lists) count is.within;
-      some = is.some;
-      rising = is.rising;
-      firsts = is.firsts;
-      whole = λ i h. is.whole i (omega (arith, h, count));
-      linked = λ places i j has_places has_i h.
-          let was = is.linked places i j has_places has_i (omega (arith, h, count)) in (
-            λ c. connected_by are.only i j (was.0 c),
-            λ way. was.1 (connected_by (λ a b l. are.joined a b (omega (arith, l.forward, l.within)) l) i j way),
-          );
-    }
-
-abbrev Lists : Type 0
-Lists = Vec (Vec ℕ Global) Global
-
-pub linked_all : (nudge : ℤ) (members : List Member) (above : List ℕ) (at : ℕ) → AreLinked nudge members above at → length members ≤ at →
-    (r : Result Lists AllocError) → IfOk r (λ lists. AreClasses (Connected (LeadsUp above)) (length above) (map (λ list. list.items) lists.items)) →
-    IfOk r (λ lists. AreClasses (Connected (IsLink nudge members)) (length members) (map (λ list. list.items) lists.items))
-linked_all nudge members above at are whole (Ok lists) is = linked_classes nudge members above at (map (λ list. list.items) lists.items) are whole is
-linked_all nudge members above at are whole (Err e) is = tt
+    classes_by (length members) lists are.only (λ i j l. are.joined i j (omega (arith, l.forward, l.within)) l)
+    (subst (λ n. AreClasses (Connected (LeadsUp above)) n lists) are.count is)

@@ -3,8 +3,10 @@ use Rattle.std.proofs.Common.{◌≡◌, ◌≢◌, ◌↔◌, ℕ, suc, zero, �
 use Rattle.std.specs.Prelude.{All, Contains}
 use Rattle.std.proofs.lemmas.List.{get_or_append_left, get_or_push, length_push, get_or-set_same, get_or-set_other, length-set, get_or-map, length-map, get_or_default}
 use Rattle.std.proofs.lemmas.List.Elements.{All-from_get_or, All-contains, Contains-get_or, Contains-append_left, Contains-push, Contains-push_cases}
+use Rattle.channel_bundles.specs.declared.forest.Seat.{Seat}
 use Rattle.channel_bundles.specs.Classes.{Connected, LeadsUp, AreTreeNumbers, AreClasses, Rise}
-use Rattle.channel_bundles.proofs.Trees.{connected_on, connected_back, cases_same}
+use Rattle.channel_bundles.specs.Shares.{AreSeats, seat_at}
+use Rattle.channel_bundles.proofs.Trees.{cases_below, cases_same, connected_back, connected_by, connected_on}
 
 -- the numbers below i are listed by their trees
 pub record IsListing (numbers : List ℕ) (i : ℕ) (lists : List (List ℕ)) : Type 0 where
@@ -63,6 +65,41 @@ listed_more numbers i tree lists is tree_is in_tree =
           (λ ne. subst Rise (sym (other m ne)) (is.rising m (omega (arith, h, count))));
     }
 
+pub seated_none : (lists : List (List ℕ)) (seats : List Seat) → seats ≡ [] → ((m : ℕ) → m < length lists → length (get_or lists m []) ≡ 0) → AreSeats 0 lists seats
+seated_none lists seats none empty = record {
+  all = ap length none;
+  own = λ k p h g. absurd (omega (arith, g, empty k h));
+}
+
+-- the seats of the numbers of the list with this index
+abbrev SeatsOf : List Seat → ℕ → List ℕ → Type 0
+SeatsOf seats k list = (p : ℕ) → p < length list → seat_at seats (get_or list p 0) ≡ record { class = k; place = p }
+
+pub seated_more : (numbers : List ℕ) (i tree place : ℕ) (lists : List (List ℕ)) (seats : List Seat) → IsListing numbers i lists → AreSeats i lists seats → tree < length lists → place ≡ length (get_or lists tree []) →
+    AreSeats (i + 1) (set lists tree (get_or lists tree [] ++ i ∷ [])) (seats ++ record { class = tree; place = place } ∷ [])
+seated_more numbers i tree place lists seats is are in_tree is_place =
+    let none : Seat = record { class = 0; place = 0 } in
+    let own = get_or lists tree [] in
+    let made = set lists tree (own ++ i ∷ []) in
+    let new : Seat = record { class = tree; place = place } in
+    let more = seats ++ new ∷ [] in
+    let count : length made ≡ length lists = length-set lists tree (own ++ i ∷ []) in
+    let kept : (k : ℕ) → k < length lists → SeatsOf more k (get_or lists k []) = λ k h p g.
+    let before : get_or (get_or lists k []) p 0 < i = ((is.has k h (get_or (get_or lists k []) p 0)).0 (Contains-get_or (get_or lists k []) p 0 g)).0 in
+    get_or_append_left seats (new ∷ []) none (get_or (get_or lists k []) p 0) (omega (arith, before, are.all)) ∙ are.own k p h g in
+    let last : seat_at more i ≡ new = get_or_push seats new none i are.all in
+    let here : SeatsOf more tree (own ++ i ∷ []) = λ p g. cases_below p (length own)
+    (λ less. ap (seat_at more) (get_or_append_left own (i ∷ []) 0 p less) ∙ kept tree in_tree p less)
+    (λ from.
+    let at : length own ≡ p = omega (arith, from, g, length_push own i) in
+    ap (seat_at more) (get_or_push own i 0 p at) ∙ last ∙ ap (λ n. record { class = tree; place = n }) (is_place ∙ at)) in
+    record {
+      all = length_push seats new ∙ ap (λ n. n + 1) are.all;
+      own = λ k p h. cases_same k tree
+          (λ e. subst (λ n. SeatsOf more n (get_or made n [])) (sym e) (subst (SeatsOf more tree) (sym (get_or-set_same lists tree (own ++ i ∷ []) [] in_tree)) here) p)
+          (λ ne. subst (SeatsOf more k) (sym (get_or-set_other lists tree k (own ++ i ∷ []) [] ne)) (kept k (omega (arith, h, count))) p);
+    }
+
 -- what holds of each list holds of one that is among them
 at_list : (P : List ℕ → Type 0) (lists : List (List ℕ)) (places : List ℕ) → ((m : ℕ) → m < length lists → P (get_or lists m [])) → Contains lists places → P places
 at_list P lists places each c = All-contains P lists places (All-from_get_or P lists [] each) c
@@ -111,3 +148,18 @@ listed_all above roots numbers lists are count is =
           ))
           has_places has_i;
     }
+
+-- classes of a relation are those of another one that connects the same numbers
+pub classes_by : {linked other : ℕ → ℕ → Type 0} (count : ℕ) (classes : List (List ℕ)) → ((i j : ℕ) → linked i j → Connected other i j) → ((i j : ℕ) → other i j → Connected linked i j) →
+    AreClasses (Connected linked) count classes → AreClasses (Connected other) count classes
+classes_by count classes there back are = record {
+  within = are.within;
+  some = are.some;
+  rising = are.rising;
+  firsts = are.firsts;
+  whole = are.whole;
+  linked = λ places i j has_places has_i h. (
+      let was = are.linked places i j has_places has_i h in
+      (λ c. connected_by there i j (was.0 c), λ way. was.1 (connected_by back i j way))
+      );
+}

@@ -8,5 +8,6 @@ pub mod Kept
 pub mod Bundles
 pub mod Listed
 pub mod Few
+pub mod Shares
 pub mod Leaders
 pub mod Placed

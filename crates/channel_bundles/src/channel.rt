@@ -1,27 +1,27 @@
 //! The bundles of a phase.
 ghost use Rattle.std.specs.Prelude.{◌≡◌, ◌≢◌, ◌+◌, ◌<◌, ◌≤◌, All, AllPairs, IfOk, length, map, take};
 ghost use Rattle.plane_geom.specs.Floor.{IsSolid};
-ghost use Rattle.segment_order.specs.declared.run.Run.{Run};
 ghost use Rattle.separation_model.specs.Bundle.{IsBundle, most_items};
 ghost use Rattle.channel_bundles.specs.declared.route.PhaseRoute.{PhaseRoute};
 ghost use Rattle.channel_bundles.specs.Route.{IsPhaseRoute, runs_of_way};
 ghost use Rattle.channel_bundles.specs.Limits.{MayMove};
 ghost use Rattle.channel_bundles.specs.Classes.{Rise};
-ghost use Rattle.channel_bundles.specs.Links.{IsMember, IsNudge, item_of};
+ghost use Rattle.channel_bundles.specs.Links.{IsMember, IsNudge};
 ghost use Rattle.channel_bundles.specs.Few.{AreFewBundles};
 ghost use Rattle.channel_bundles.specs.Bundles.{AreBundles, AreInOrder, members_at};
-ghost use Rattle.channel_bundles.specs.Listed.{AreListed, AreListedOf, IsListed};
+ghost use Rattle.channel_bundles.specs.Listed.{AreListedOf, IsListed};
 ghost use Rattle.channel_bundles.specs.declared.channel.Listing.TheVariants as listings;
 ghost use Rattle.channel_bundles.specs.Placed.{AreRising, IsPlaced, pairs_of, standings_of};
 
-use crate::few::few_rules;
+use crate::bare::bare_bundle;
 use crate::leaders::{is_same_but_for_edge, leader_of, runs_at};
 use crate::links::{linked_classes, rules_of};
 use crate::member::Member;
 use crate::route::PhaseRoute;
+use crate::shares::few_bundles_of;
 use plane_geom::{Solid, Way};
 use segment_order::{Run, line_order};
-use separation_model::{Bundle, Item, Rule};
+use separation_model::Bundle;
 use std::alloc::{AllocError, Global};
 use std::cmp::Ordering;
 
@@ -147,64 +147,6 @@ fn own_members(alloc: Global, placed: &[Placed<'_>]) -> Result<Vec<Member>, Allo
     placed.iter().map(|p| p.member).collect(alloc)
 }
 
-/// The runs as items.
-fn items_of(alloc: Global, members: &[Member]) -> Result<Vec<Item>, AllocError>
-    ensures { IfOk result (λ items. items.items ≡ map item_of members.now) }
-{
-    members.iter().map(|m| m.item()).collect(alloc)
-}
-
-/// The runs without their limits.
-fn own_runs(alloc: Global, members: &[Member]) -> Result<Vec<Run>, AllocError>
-    ensures { IfOk result (λ runs. runs.items ≡ map (λ m. m.run) members.now) }
-{
-    members.iter().map(|m| m.run).collect(alloc)
-}
-
-/// The rules between the runs.
-fn listed_rules(
-    alloc: Global,
-    members: &[Member],
-    nudge: i64,
-    listing: Listing,
-) -> Result<Vec<Rule>, AllocError>
-    requires members { All IsMember members.now }
-    requires few { length members.now ≤ most_items }
-    requires rising { AreRising members.now }
-    requires nudge { IsNudge nudge }
-    ensures { IfOk result (λ rules. AreListed listing nudge members.now rules.items) }
-{
-    match listing {
-        Listing::All => rules_of(alloc, members, nudge),
-        Listing::Few => few_rules(alloc, members, nudge),
-    }
-}
-
-/// The bundle of the runs.
-fn bundle_of(
-    alloc: Global,
-    members: &[Member],
-    nudge: i64,
-    listing: Listing,
-) -> Result<RunBundle, AllocError>
-    requires members { All IsMember members.now }
-    requires few { length members.now ≤ most_items }
-    requires rising { AreRising members.now }
-    requires nudge { IsNudge nudge }
-    ensures bundle { IfOk result (λ b. IsListed listing nudge members.now b) }
-    ensures good { IfOk result (λ b. IsBundle b.bundle) }
-{
-    let bundle = Bundle {
-        items: items_of(alloc, members)?,
-        rules: listed_rules(alloc, members, nudge, listing)?,
-        wanted: nudge,
-    };
-    Ok(RunBundle {
-        bundle,
-        runs: own_runs(alloc, members)?,
-    })
-}
-
 /// The runs at the given places.
 fn chosen(alloc: Global, members: &[Member], places: &[usize]) -> Result<Vec<Member>, AllocError>
     requires { All (λ i. i < length members.now) places.now }
@@ -217,25 +159,44 @@ fn chosen(alloc: Global, members: &[Member], places: &[usize]) -> Result<Vec<Mem
     Ok(found)
 }
 
-/// The bundle of the runs at the given places, which rise.
+/// The bundle of the runs at the given places, which rise, with all their links as rules.
 fn class_bundle(
     alloc: Global,
     members: &[Member],
     places: &[usize],
     nudge: i64,
-    listing: Listing,
 ) -> Result<RunBundle, AllocError>
+    requires members { All IsMember members.now }
+    requires few { length members.now ≤ most_items }
+    requires nudge { IsNudge nudge }
+    requires within { All (λ i. i < length members.now) places.now }
+    requires places { Rise places.now }
+    ensures { IfOk result (λ b. IsListed listings.All nudge (members_at members.now places.now) b) }
+{
+    let runs = chosen(alloc, members, places)?;
+    let mut found = bare_bundle(alloc, members, places, nudge)?;
+    found.bundle.rules = rules_of(alloc, &runs, nudge)?;
+    Ok(found)
+}
+
+/// The bundles of the runs, each with all its links as rules.
+fn all_bundles_of(
+    alloc: Global,
+    members: &[Member],
+    nudge: i64,
+) -> Result<Vec<RunBundle>, AllocError>
     requires members { All IsMember members.now }
     requires few { length members.now ≤ most_items }
     requires rising { AreRising members.now }
     requires nudge { IsNudge nudge }
-    requires within { All (λ i. i < length members.now) places.now }
-    requires places { Rise places.now }
-    ensures bundle { IfOk result (λ b. IsListed listing nudge (members_at members.now places.now) b) }
-    ensures good { IfOk result (λ b. IsBundle b.bundle) }
+    ensures { IfOk result (λ found. AreListedOf listings.All nudge members.now found.items) }
 {
-    let runs = chosen(alloc, members, places)?;
-    bundle_of(alloc, &runs, nudge, listing)
+    let classes = linked_classes(alloc, members, nudge)?;
+    let mut found = Vec::new(alloc);
+    for class in &classes {
+        found.push(class_bundle(alloc, members, class, nudge)?)?;
+    }
+    Ok(found)
 }
 
 /// The bundles of the runs, which are in their order on the line.
@@ -252,12 +213,10 @@ fn bundles_of(
     ensures bundles { IfOk result (λ found. AreListedOf listing nudge members.now found.items) }
     ensures each { IfOk result (λ found. All (λ b. IsBundle b.bundle) found.items) }
 {
-    let classes = linked_classes(alloc, members, nudge)?;
-    let mut found = Vec::new(alloc);
-    for class in &classes {
-        found.push(class_bundle(alloc, members, class, nudge, listing)?)?;
+    match listing {
+        Listing::All => all_bundles_of(alloc, members, nudge),
+        Listing::Few => few_bundles_of(alloc, members, nudge),
     }
-    Ok(found)
 }
 
 /// The bundles of a phase, in the order of their first runs.

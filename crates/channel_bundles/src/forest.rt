@@ -2,6 +2,7 @@
 ghost use Rattle.std.specs.Prelude.{◌≡◌, ℕ, ◌<◌, [], All, IfOk, EachIndex, length, map, slice_set, slice_index};
 ghost use Rattle.channel_bundles.specs.Classes.{AreClasses, AreTreeNumbers, Connected, IsForest, LeadsUp, LeadsUpOr};
 ghost use Rattle.channel_bundles.specs.Groups.{AreGroups, AreTogether};
+ghost use Rattle.channel_bundles.specs.Shares.{AreSeats};
 
 use std::alloc::{AllocError, Global};
 
@@ -10,6 +11,20 @@ use std::alloc::{AllocError, Global};
 #[derive(Drop)]
 pub(crate) struct Forest {
     above: Vec<usize>,
+}
+
+/// The class that a number is in, and its place there.
+#[derive(Clone, Copy)]
+pub(crate) struct Seat {
+    pub(crate) class: usize,
+    pub(crate) place: usize,
+}
+
+/// The numbers of each class, in order, and for each number its seat.
+#[derive(Drop)]
+pub(crate) struct Classes {
+    pub(crate) lists: Vec<Vec<usize>>,
+    pub(crate) seats: Vec<Seat>,
 }
 
 /// The roots of the trees, and for each number which root it has.
@@ -113,19 +128,26 @@ impl Forest {
         Ok(trees.numbers)
     }
 
-    /// The numbers of each tree, in order, and the trees by their first numbers. The only error is
-    /// out of memory.
-    pub(crate) fn classes(&self, alloc: Global) -> Result<Vec<Vec<usize>>, AllocError>
+    /// The numbers of each tree, in order, the trees by their first numbers, and the seat of each
+    /// number. The only error is out of memory.
+    pub(crate) fn classes(&self, alloc: Global) -> Result<Classes, AllocError>
         requires { IsForest self.now.above.items }
-        ensures { IfOk result (λ lists. AreClasses (Connected (LeadsUp self.now.above.items)) (length self.now.above.items)
-            (map (λ list. list.items) lists.items)) }
+        ensures classes { IfOk result (λ c. AreClasses (Connected (LeadsUp self.now.above.items)) (length self.now.above.items)
+            (map (λ list. list.items) c.lists.items)) }
+        ensures seats { IfOk result (λ c. AreSeats (length self.now.above.items) (map (λ list. list.items) c.lists.items) c.seats.items) }
     {
         let trees = self.tree_numbers(alloc)?;
         let mut lists = empty_lists(alloc, trees.roots.len())?;
+        let mut seats = Vec::with_capacity(alloc, trees.numbers.len())?;
         for (number, tree) in trees.numbers.iter().enumerate() {
-            lists[*tree].push(number)?;
+            let list = &mut lists[*tree];
+            seats.push(Seat {
+                class: *tree,
+                place: list.len(),
+            })?;
+            list.push(number)?;
         }
-        Ok(lists)
+        Ok(Classes { lists, seats })
     }
 }
 

@@ -3,6 +3,7 @@
 //! Coordinates are whole thousandths of a GML unit.
 #![tactic(auto)]
 
+mod bare;
 mod channel;
 mod few;
 mod forest;
@@ -13,6 +14,7 @@ mod limits;
 mod links;
 mod member;
 mod route;
+mod shares;
 
 pub use channel::{RunBundle, bundles, few_bundles};
 pub use laws::reduced_connects;

@@ -93,7 +93,8 @@ pub(crate) fn linked_classes(
         join_links_of(&mut forest, members, &clear, &near, nudge, at);
         join_links_of(&mut forest, members, &clear, &own, nudge, at);
     }
-    forest.classes(alloc)
+    let classes = forest.classes(alloc)?;
+    Ok(classes.lists)
 }
 
 /// Appends the rules from the run at `at` to all later ones to which it is linked, in their order.

@@ -1,7 +1,7 @@
 -- The rules of one run after another are appended.
 use Rattle.std.proofs.Common.{arith, rules, w64, FitsSigned}
 use Rattle.std.proofs.lemmas.Int.{to_z-of_z}
-use Rattle.channel_bundles.proofs.Keeping.{keeping_begins, keeping_ends, keeping_more}
+use Rattle.channel_bundles.proofs.Keeping.{keeping_ends, keeping_more}
 use Rattle.channel_bundles.proofs.few.few_rules.Goals as goal
 
 pub loop-at-preserved : goal.loop-at-preserved

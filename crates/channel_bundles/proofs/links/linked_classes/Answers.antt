@@ -2,7 +2,7 @@
 use Rattle.std.proofs.Common.{subst, sym, rules, w64, FitsSigned}
 use Rattle.std.proofs.lemmas.Int.{to_z-of_z}
 use Rattle.channel_bundles.specs.Groups.{AreNext, AreTogether}
-use Rattle.channel_bundles.proofs.Linking.{linked_begins, linked_more_by, linked_all}
+use Rattle.channel_bundles.proofs.Linking.{linked_begins, linked_classes, linked_more_by}
 use Rattle.channel_bundles.proofs.links.linked_classes.Goals as goal
 
 pub loop-at-init : goal.loop-at-init
@@ -29,4 +29,4 @@ pub returns : goal.returns
 returns c =
     let fits : FitsSigned w64 c.args.nudge = search rules in
     let is = simp to_z-of_z at c.loop-at.invariant in
-    linked_all c.args.nudge c.args.members.now c.loop-at.forest.above.items c.loop-at.at is c.loop-at-test.false c.classes.result c.classes.ensures
+    linked_classes c.args.nudge c.args.members.now c.loop-at.forest.above.items c.loop-at.at _ is c.loop-at-test.false c.in_ok-classes.ensures.classes
