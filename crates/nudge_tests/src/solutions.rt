@@ -199,28 +199,42 @@ fn row(alloc: Global, item: Item, count: u32, wanted: i64) -> Result<Bundle, All
     })
 }
 
-/// Whether the solution is that of a thousand items around 0.
-fn is_of_thousand(solution: &Solution) -> bool {
-    solution.gap == 60
+/// The gap of a row of items, its first place and its last one.
+type Ends = (i64, i128, i128);
+
+/// Whether the solution has these ends, and whole places.
+fn has_ends(solution: &Solution, ends: Ends) -> bool {
+    solution.gap == ends.0
         && solution.den.iter().all(|den| *den == 1)
-        && solution.pos.first() == Some(&-29970)
-        && solution.pos.last() == Some(&29970)
+        && solution.pos.first() == Some(&ends.1)
+        && solution.pos.last() == Some(&ends.2)
 }
 
-fn solves_thousand(alloc: Global, bundle: &Bundle) -> Result<bool, AllocError>
+fn solves_ends(alloc: Global, bundle: &Bundle, ends: Ends) -> Result<bool, AllocError>
     requires { IsBundle bundle.now }
 {
     let solution = solved(alloc, bundle)?;
-    Ok(is_of_thousand(&solution) && verify(bundle, &solution))
+    Ok(has_ends(&solution, ends) && verify(bundle, &solution))
 }
 
 fn solves_row_of_thousand(alloc: Global) -> Result<bool, AllocError> {
     let bundle = row(alloc, small_item(0, 30000, 30000, false), 1000, 4000)?;
-    solves_thousand(alloc, &bundle)
+    solves_ends(alloc, &bundle, (60, -29970, 29970))
 }
 
 #[test]
 fn solves_a_long_row(rt: HostRuntime) -> Result<(), Fail> {
     assert!(rt; solves_row_of_thousand(rt.alloc())?);
+    Ok(())
+}
+
+fn solves_row_of_one(alloc: Global) -> Result<bool, AllocError> {
+    let bundle = row(alloc, small_item(700, 300, 300, true), 1, 4000)?;
+    solves_ends(alloc, &bundle, (4000, 700, 700))
+}
+
+#[test]
+fn solves_an_item_without_rules(rt: HostRuntime) -> Result<(), Fail> {
+    assert!(rt; solves_row_of_one(rt.alloc())?);
     Ok(())
 }

@@ -44,11 +44,14 @@ fn between(met: i64, unmet: i64, wanted: i64) -> i64
 /// all rules and limits.
 ///
 /// By bisection, after the wanted one: at most 21 passes over items and rules, and the rules are
-/// sorted once. The only error is out of memory.
+/// sorted once. Without rules it is the wanted one. The only error is out of memory.
 pub fn widest_gap(alloc: Global, bundle: &Bundle) -> Result<i64, AllocError>
     requires { IsBundle bundle.now }
     ensures { IfOk result (IsWidestGap bundle.now) }
 {
+    if bundle.rules.is_empty() {
+        return Ok(bundle.wanted);
+    }
     let by_left = rules_by_left(alloc, &bundle.rules)?;
     let mut met = 0;
     let mut unmet = bundle.wanted + 1;

@@ -13,6 +13,7 @@ mod network;
 mod push;
 mod reach;
 mod release;
+mod rest;
 mod shift;
 mod solver;
 mod start;

@@ -9,6 +9,7 @@ ghost use Rattle.separation_model.specs.Least.{IsLeast};
 
 use crate::fraction::Fraction;
 use crate::network::Network;
+use crate::rest::at_rest;
 use separation_model::{Bundle, Solution};
 use std::alloc::{AllocError, Global};
 
@@ -27,6 +28,9 @@ pub fn solve(alloc: Global, bundle: &Bundle, gap: i64) -> Result<Solution, Alloc
     ensures accepted { IfOk result (IsAccepted bundle.now) }
     ensures least { IfOk result (λ s. IsLeast bundle.now s.gap s.den.items s.pos.items) }
 {
+    if bundle.rules.is_empty() {
+        return at_rest(alloc, bundle, gap);
+    }
     let mut network = Network::new(alloc, bundle, gap)?;
     while let Some(block) = network.balance(alloc)? {
         network.shift(&block)?;

@@ -1,5 +1,5 @@
 -- Latest places: a wider gap that is met makes each narrower one met.
-use Rattle.std.proofs.Common.{◌≡◌, ℕ, true, false, cond, ℤ, pos, ◌+ℤ◌, ◌-ℤ◌, ◌*ℤ◌, ◌≤ℤ◌, ◌<ℤ◌, List, [], ◌∷◌, length, sym, subst, refl, arith}
+use Rattle.std.proofs.Common.{◌≡◌, ℕ, true, false, cond, ℤ, pos, ◌+ℤ◌, ◌-ℤ◌, ◌*ℤ◌, ◌≤ℤ◌, ◌<ℤ◌, List, [], ◌∷◌, length, All, sym, subst, refl, arith}
 use Rattle.std.specs.Prelude.{slice_index, slice_index_or}
 use Rattle.std.proofs.lemmas.Int.{ints}
 use Rattle.separation_model.specs.declared.bundle.Rule.{Rule}
@@ -30,15 +30,29 @@ narrower_meets b wider gap den place h m = record {
   rules = λ k d l. narrower_slack wider gap den place (slice_index_or b.rules.items k d) h (m.rules k d l);
 }
 
--- with the gap 0 all items may be at their wants
-wants_meet : (b : Bundle) → IsBundle b → MeetsOver b (pos 0) 1 (λ i. (item_at b.items.items i).want)
-wants_meet b ok = record {
-  positive = omega arith;
-  low = λ i l. omega (arith, ints, (ok.items i no_item l).want_low);
-  high = λ i l. omega (arith, ints, (ok.items i no_item l).want_high);
-  rules = λ k d l. let r = slice_index_or b.rules.items k d in
-      let none : asked (pos 0) r ≡ pos 0 = elim r.spaced as (λ t. cond t (pos 0) (pos 0) ≡ pos 0) [ true ↦ refl | false ↦ refl ] in
-      omega (arith, ints, none, (ok.rules k d l).ordered);
+-- where no rule asks for a distance, all items may be at their wants
+wants_meet : (b : Bundle) (gap : ℤ) → IsBundle b → All (λ r. asked gap r ≡ pos 0) b.rules.items → HasPositions b gap
+wants_meet b gap ok free =
+    let want : ℕ → ℤ = λ i. (item_at b.items.items i).want in
+    let meets : MeetsOver b gap 1 want = record {
+      positive = omega arith;
+      low = λ i l. omega (arith, ints, (ok.items i no_item l).want_low);
+      high = λ i l. omega (arith, ints, (ok.items i no_item l).want_high);
+      rules = λ k d l. omega (arith, ints, free k d l, (ok.rules k d l).ordered);
+    } in
+    record { places = listed (length b.items.items) want; meets = listed_meets b gap 1 want ok meets }
+
+-- with the gap 0 no rule asks for one
+none_asked : (b : Bundle) → All (λ r. asked (pos 0) r ≡ pos 0) b.rules.items
+none_asked b = λ k d l. elim (slice_index_or b.rules.items k d).spaced as (λ t. cond t (pos 0) (pos 0) ≡ pos 0) [ true ↦ refl | false ↦ refl ]
+
+-- without rules the wanted gap is met
+pub widest_free : (b : Bundle) (gap : ℤ) → IsBundle b → length b.rules.items ≡ 0 → gap ≡ b.wanted → IsWidestGap b gap
+widest_free b gap ok free is = record {
+  low = omega (arith, ints, is, ok.wanted_low);
+  high = omega (arith, ints, is);
+  positions = wants_meet b gap ok (λ k d l. absurd (omega (arith, l, free)));
+  widest = λ wider den nums more most m. absurd (omega (arith, ints, is, more, most));
 }
 
 -- a gap that is met, and one from which on none is
@@ -54,7 +68,7 @@ between_none b met unmet ok zero top = record {
   low = omega (arith, ints);
   apart = omega (arith, ints, ok.wanted_low);
   high = omega (arith, ints);
-  positions = subst (HasPositions b) (sym zero) (record { places = listed (length b.items.items) (λ i. (item_at b.items.items i).want); meets = listed_meets b (pos 0) 1 (λ i. (item_at b.items.items i).want) ok (wants_meet b ok) });
+  positions = subst (HasPositions b) (sym zero) (wants_meet b (pos 0) ok (none_asked b));
   none = λ wider h k. absurd (omega (arith, ints, h, k));
 }
 

@@ -1,8 +1,10 @@
 -- Each move lowers the sum of squares, and a balanced network is a solution.
-use Rattle.std.proofs.Common.{◌<◌, unsigned_abs, subst}
+use Rattle.std.proofs.Common.{◌<◌, Result, IfOk, unsigned_abs, subst}
 use Rattle.std.proofs.lemmas.Result.{IfOk-weaker}
+use Rattle.separation_model.specs.declared.bundle.Bundle.{Bundle}
 use Rattle.separation_model.specs.declared.bundle.Solution.{Solution}
 use Rattle.separation_solve.specs.Block.{objective}
+use Rattle.separation_model.specs.Bundle.{IsBundle}
 use Rattle.separation_model.specs.Certified.{IsAccepted}
 use Rattle.separation_model.specs.Least.{IsLeast}
 use Rattle.separation_model.proofs.Optimum.Certificates.{certified_least}
@@ -14,8 +16,14 @@ loop-network-smaller c =
     let same = same_objective c.loop-network.network c.balance.new.self c.in_ok-block.ensures.same c.in_ok-block.ensures.places in
     subst (λ z. unsigned_abs (objective c.shift.new.self) < unsigned_abs z) same c.in_ok-shift.ensures.falls
 
+-- what is accepted is least
+least_result : {E : Type 0} (b : Bundle) (result : Result Solution E) → IsBundle b → IfOk result (IsAccepted b) → IfOk result (λ s. IsLeast b s.gap s.den.items s.pos.items)
+least_result b result ok =
+    IfOk-weaker result (IsAccepted b) (λ (s : Solution). IsLeast b s.gap s.den.items s.pos.items)
+    (λ s accepted. certified_least b s ok accepted.certified)
+
+pub returns-then-is_empty-clause-least : goal.returns-then-is_empty-clause-least
+returns-then-is_empty-clause-least c = least_result c.args.bundle.now c.at_rest.result c.requires.bundle c.at_rest.ensures.accepted
+
 pub returns-clause-least : goal.returns-clause-least
-returns-clause-least c =
-    let b = c.args.bundle.now in
-    IfOk-weaker c.into_solution.result (IsAccepted b) (λ (s : Solution). IsLeast b s.gap s.den.items s.pos.items)
-    (λ s accepted. certified_least b s c.requires.bundle accepted.certified) c.into_solution.ensures.accepted
+returns-clause-least c = least_result c.args.bundle.now c.into_solution.result c.requires.bundle c.into_solution.ensures.accepted
