@@ -105,6 +105,7 @@ impl Network {
         requires some { pos 0 <ℤ amount }
         requires budget { IsBudget self.old (unsigned_abs amount) }
         ensures sound { IsSound self.new }
+        ensures gone { int_at self.new.excess.items item ≡ pos 0 }
         ensures load { load self.new ≤ℤ (load self.old +ℤ amount) }
         ensures bundle { KeepsBundle self.old self.new }
         ensures places { self.new.places ≡ self.old.places }

@@ -13,6 +13,7 @@ use Rattle.separation_solve.proofs.Searches.Leads.{excess_size, total_size_sign}
 use Rattle.separation_solve.proofs.Searches.Pushing.{IsSettled, settled_at_item, settled_at_wall}
 use Rattle.separation_solve.proofs.Searches.Sending.{each_set, net_flow-set, total_flow-set}
 use Rattle.separation_solve.proofs.Lists.PartSums.{sum_below-first}
+use Rattle.separation_model.proofs.Arithmetic.Exchange.{here_other, here_same}
 use Rattle.separation_model.proofs.Arithmetic.Order.{mul-mono, mul-nonneg}
 use Rattle.separation_model.proofs.Arithmetic.Ring.{ring, var, num, ◌⊕◌, ◌⊗◌}
 use Rattle.separation_model.proofs.Arithmetic.Sums.{part_of_sum, sum_below-same}
@@ -58,6 +59,11 @@ pub deficit_to_wall : (zs new : List ℤ) (from to : ℕ) (a : ℤ) → from < l
 deficit_to_wall zs new from to a h wall some deficit is =
     let settled = settled_at_wall zs from to a h wall some (omega (arith, ints, deficit)) in
     subst (λ l. IsSettled zs l from to a (pos 0)) (sym is) (record { long = settled.long; each = settled.each; less = omega (arith, ints, settled.less) })
+
+-- which is gone
+pub deficit_gone : (zs new : List ℤ) (from to : ℕ) (a fall : ℤ) → IsSettled zs new from to a fall → from < length zs → from ≢ to → int_at zs from ≡ neg_ℤ a → int_at new from ≡ pos 0
+deficit_gone zs new from to a fall settled h apart deficit =
+    omega (arith, ints, settled.each from h, here_same from from a refl, here_other to from a (λ q. apart (sym q)), deficit)
 
 -- a load that is not too large keeps to the bound on all flow
 pub small_load : (k : ℕ) (flow size : ℤ) → 0 < k → (flow +ℤ size) ≤ℤ pos most_force → size ≤ℤ pos most_force → (flow +ℤ (pos k *ℤ size)) ≤ℤ (pos k *ℤ pos most_force)

@@ -11,7 +11,8 @@ use Rattle.separation_solve.specs.declared.network.Network.{Network}
 use Rattle.separation_solve.specs.Network.{IsSound, link_at, no_link, total_flow, total_size}
 use Rattle.separation_solve.specs.Sweep.{load}
 use Rattle.separation_solve.proofs.Searches.Leads.{excess_size, total_size_sign}
-use Rattle.separation_solve.proofs.Searches.Sweeping.{deficit_size, deficit_to_item, deficit_to_wall, sent_over}
+use Rattle.separation_solve.proofs.Searches.Pushing.{IsSettled}
+use Rattle.separation_solve.proofs.Searches.Sweeping.{deficit_gone, deficit_size, deficit_to_item, deficit_to_wall, sent_over}
 use Rattle.separation_solve.proofs.network.Network.send_over.Goals as goal
 use Rattle.separation_solve.proofs.network.Network.send_over.Goals.{After-index, After-raise-2, After-raise-then-to-wall, Else-to-wall}
 
@@ -80,11 +81,9 @@ raise-requires-then-to-wall-clause-small c =
     let small : unsigned_abs (int_at c.deref_mut-then-to-wall.result.now to +ℤ (pos 0 -ℤ c.args.amount)) < 2 ^ 127 = omega (arith, ints, same, excess_size n to c.requires.sound, k.size, bound) in
     rw (to_z-of_z c.ranges.amount, to_z-of_z k.turned_fits) small
 
--- what is left where an item takes the deficit
-left_then : (c : After-raise-then-to-wall) →
-    IsSound (record c.args.self.now { flow = with_items c.args.self.now.flow c.raise.new.numbers; excess = with_items (with_items c.args.self.now.excess c.raise-2.new.numbers) c.raise-then-to-wall.new.numbers })
-    × ((total_flow (with_items c.args.self.now.flow c.raise.new.numbers).items +ℤ total_size (with_items (with_items c.args.self.now.excess c.raise-2.new.numbers) c.raise-then-to-wall.new.numbers).items) ≤ℤ (load c.args.self.now +ℤ c.args.amount))
-left_then c =
+-- the excess that is left where an item takes the deficit
+settled_then : (c : After-raise-then-to-wall) → IsSettled c.args.self.now.excess.items (with_items (with_items c.args.self.now.excess c.raise-2.new.numbers) c.raise-then-to-wall.new.numbers).items c.args.item c.index.result.now.to c.args.amount (pos 0)
+settled_then c =
     let n = c.args.self.now in
     let here = goal.at.After-raise-then-to-wall c in
     let k = known here.After-index in
@@ -94,30 +93,53 @@ left_then c =
     rw (to_z-of_z c.ranges.amount, to_z-of_z k.turned_fits) at c.raise-then-to-wall.ensures in
     let last = raised_items mid c.deref_mut-then-to-wall.result.now c.raise-then-to-wall.new.numbers to (pos 0 -ℤ c.args.amount) c.deref_mut-then-to-wall.ensures.value raised in
     let inside : to < length n.excess.items = omega (arith, k.to, c.if-to-wall.true, c.wall.ensures, c.requires.sound.frame.excess) in
-    let settled = deficit_to_item n.excess.items mid.items (with_items mid c.raise-then-to-wall.new.numbers).items c.args.item to c.args.amount k.item_in inside k.apart c.requires.some c.requires.amount (excess_is here.After-raise-2) last in
-    sent_over n (with_items n.flow c.raise.new.numbers) (with_items mid c.raise-then-to-wall.new.numbers) c.args.item to c.args.link c.args.amount c.requires.sound c.requires.link k.to_is (omega (arith, c.requires.item)) c.requires.some k.room (flow_is here.After-raise-2) settled
+    deficit_to_item n.excess.items mid.items (with_items mid c.raise-then-to-wall.new.numbers).items c.args.item to c.args.amount k.item_in inside k.apart c.requires.some c.requires.amount (excess_is here.After-raise-2) last
 
 -- and where the wall does
-left_else : (c : Else-to-wall) →
-    IsSound (record c.args.self.now { flow = with_items c.args.self.now.flow c.raise.new.numbers; excess = with_items c.args.self.now.excess c.raise-2.new.numbers })
-    × ((total_flow (with_items c.args.self.now.flow c.raise.new.numbers).items +ℤ total_size (with_items c.args.self.now.excess c.raise-2.new.numbers).items) ≤ℤ (load c.args.self.now +ℤ c.args.amount))
-left_else c =
+settled_else : (c : Else-to-wall) → IsSettled c.args.self.now.excess.items (with_items c.args.self.now.excess c.raise-2.new.numbers).items c.args.item c.index.result.now.to c.args.amount (pos 0)
+settled_else c =
     let n = c.args.self.now in
     let here = goal.at.Else-to-wall c in
     let k = known here.After-index in
-    let to = c.index.result.now.to in
-    let wall : to ≡ length n.excess.items = omega (arith, c.if-to-wall.false, c.wall.ensures, c.requires.sound.frame.excess) in
-    let settled = deficit_to_wall n.excess.items (with_items n.excess c.raise-2.new.numbers).items c.args.item to c.args.amount k.item_in wall c.requires.some c.requires.amount (excess_is here.After-raise-2) in
-    sent_over n (with_items n.flow c.raise.new.numbers) (with_items n.excess c.raise-2.new.numbers) c.args.item to c.args.link c.args.amount c.requires.sound c.requires.link k.to_is (omega (arith, c.requires.item)) c.requires.some k.room (flow_is here.After-raise-2) settled
+    let wall : c.index.result.now.to ≡ length n.excess.items = omega (arith, c.if-to-wall.false, c.wall.ensures, c.requires.sound.frame.excess) in
+    deficit_to_wall n.excess.items (with_items n.excess c.raise-2.new.numbers).items c.args.item c.index.result.now.to c.args.amount k.item_in wall c.requires.some c.requires.amount (excess_is here.After-raise-2)
+
+-- the network that is left
+left : (c : After-raise-2) (excess : Vec ℤ Global) → IsSettled c.args.self.now.excess.items excess.items c.args.item c.index.result.now.to c.args.amount (pos 0) →
+    IsSound (record c.args.self.now { flow = with_items c.args.self.now.flow c.raise.new.numbers; excess = excess })
+    × ((total_flow (with_items c.args.self.now.flow c.raise.new.numbers).items +ℤ total_size excess.items) ≤ℤ (load c.args.self.now +ℤ c.args.amount))
+left c excess settled =
+    let k = known (goal.at.After-raise-2 c).After-index in
+    sent_over c.args.self.now (with_items c.args.self.now.flow c.raise.new.numbers) excess c.args.item c.index.result.now.to c.args.link c.args.amount c.requires.sound c.requires.link k.to_is (omega (arith, c.requires.item)) c.requires.some k.room (flow_is c) settled
 
 pub returns-then-to-wall-clause-sound : goal.returns-then-to-wall-clause-sound
-returns-then-to-wall-clause-sound c = (left_then (goal.at.returns-then-to-wall-clause-sound c).After-raise-then-to-wall).0
+returns-then-to-wall-clause-sound c =
+    let here = goal.at.returns-then-to-wall-clause-sound c in
+    (left here.After-raise-2 _ (settled_then here.After-raise-then-to-wall)).0
+
+pub returns-then-to-wall-clause-gone : goal.returns-then-to-wall-clause-gone
+returns-then-to-wall-clause-gone c =
+    let here = goal.at.returns-then-to-wall-clause-gone c in
+    let k = known here.After-index in
+    deficit_gone c.args.self.now.excess.items _ c.args.item c.index.result.now.to c.args.amount (pos 0) (settled_then here.After-raise-then-to-wall) k.item_in k.apart c.requires.amount
 
 pub returns-then-to-wall-clause-load : goal.returns-then-to-wall-clause-load
-returns-then-to-wall-clause-load c = (left_then (goal.at.returns-then-to-wall-clause-load c).After-raise-then-to-wall).1
+returns-then-to-wall-clause-load c =
+    let here = goal.at.returns-then-to-wall-clause-load c in
+    (left here.After-raise-2 (with_items (with_items c.args.self.now.excess c.raise-2.new.numbers) c.raise-then-to-wall.new.numbers) (settled_then here.After-raise-then-to-wall)).1
 
 pub returns-else-to-wall-clause-sound : goal.returns-else-to-wall-clause-sound
-returns-else-to-wall-clause-sound c = (left_else (goal.at.returns-else-to-wall-clause-sound c).Else-to-wall).0
+returns-else-to-wall-clause-sound c =
+    let here = goal.at.returns-else-to-wall-clause-sound c in
+    (left here.After-raise-2 _ (settled_else here.Else-to-wall)).0
+
+pub returns-else-to-wall-clause-gone : goal.returns-else-to-wall-clause-gone
+returns-else-to-wall-clause-gone c =
+    let here = goal.at.returns-else-to-wall-clause-gone c in
+    let k = known here.After-index in
+    deficit_gone c.args.self.now.excess.items _ c.args.item c.index.result.now.to c.args.amount (pos 0) (settled_else here.Else-to-wall) k.item_in k.apart c.requires.amount
 
 pub returns-else-to-wall-clause-load : goal.returns-else-to-wall-clause-load
-returns-else-to-wall-clause-load c = (left_else (goal.at.returns-else-to-wall-clause-load c).Else-to-wall).1
+returns-else-to-wall-clause-load c =
+    let here = goal.at.returns-else-to-wall-clause-load c in
+    (left here.After-raise-2 (with_items c.args.self.now.excess c.raise-2.new.numbers) (settled_else here.Else-to-wall)).1
