@@ -5,7 +5,7 @@ use crate::phases::checks::{
 use crate::phases::rows::{
     Block, CHANNELS, Corner, Drawn, Leg, Placed, ROUND_BOXES, Row, Ruled, Wanted,
 };
-use channel_bundles::{PhaseRoute, RouteAnchors, RunBundle, bundles};
+use channel_bundles::{PhaseRoute, RouteAnchors, RunBundle, bundles, few_bundles};
 use plane_geom::{Dir, Point, Rect, Solid, Way};
 use segment_order::Run;
 use separation_model::{Item, Rule};
@@ -107,6 +107,13 @@ fn push_routes(
     Ok(())
 }
 
+/// The bundles of a phase, with all their rules and with few of them.
+#[derive(Drop)]
+struct Found {
+    all: Vec<RunBundle>,
+    few: Vec<RunBundle>,
+}
+
 /// The bundles of the routes between the solids, in the phase that moves the runs of the way.
 fn bundles_if_allowed(
     rt: &impl Abort,
@@ -115,14 +122,17 @@ fn bundles_if_allowed(
     routes: &[PhaseRoute],
     way: Way,
     nudge: i64,
-) -> Result<Vec<RunBundle>, AllocError> {
+) -> Result<Found, AllocError> {
     assert!(rt; are_solids(solids));
     assert!(rt; are_phase_routes(routes));
     assert!(rt; are_of_different_edges(routes));
     assert!(rt; may_all_move(routes, solids, way));
     assert!(rt; are_few(routes));
     assert!(rt; is_nudge(nudge));
-    bundles(alloc, solids, routes, way, nudge)
+    Ok(Found {
+        all: bundles(alloc, solids, routes, way, nudge)?,
+        few: few_bundles(alloc, solids, routes, way, nudge)?,
+    })
 }
 
 fn is_placed(run: &Run, item: &Item, want: &Placed) -> bool {
@@ -160,6 +170,42 @@ fn are_ruled(rules: &[Rule], wanted: &[Ruled]) -> bool {
             .all(|(rule, want)| is_ruled(rule, want))
 }
 
+/// Whether two spaced rules lead from the left run of the rule to its right one.
+fn has_middle(rules: &[Ruled], rule: &Ruled) -> bool {
+    let Ruled(left, right, _) = *rule;
+    rules.iter().any(|first| first.0 == left
+        && first.2
+        && rules.contains(&Ruled(first.1, right, true)))
+}
+
+/// Whether the rule is one of these.
+fn is_among(rules: &[Rule], rule: &Ruled) -> bool {
+    rules.iter().any(|found| is_ruled(found, rule))
+}
+
+/// Whether the bundle has of these rules exactly those without a middle.
+fn has_few(rules: &[Rule], wanted: &[Ruled]) -> bool {
+    let needed = wanted.iter().filter(|rule| !has_middle(wanted, rule));
+    rules.len() == needed.count()
+        && wanted
+            .iter()
+            .all(|rule| is_among(rules, rule) != has_middle(wanted, rule))
+}
+
+/// Whether the bundle has exactly these runs, and few of these rules.
+fn is_few_of(found: &RunBundle, wanted: &Wanted) -> bool {
+    let Wanted(items, rules) = wanted;
+    are_placed(found, items) && has_few(&found.bundle.rules, rules)
+}
+
+fn are_few_of(found: &[RunBundle], wanted: &[Wanted]) -> bool {
+    found.len() == wanted.len()
+        && found
+            .iter()
+            .zip(wanted)
+            .all(|(bundle, own)| is_few_of(bundle, own))
+}
+
 /// Whether the bundle has exactly these runs and rules, and wants the gap.
 fn is_as_wanted(found: &RunBundle, wanted: &Wanted, nudge: i64) -> bool {
     let Wanted(items, rules) = wanted;
@@ -183,7 +229,8 @@ fn wanted(row: &Row, way: Way) -> &'static [Wanted] {
     }
 }
 
-/// Whether the bundles of the routes are those of the row.
+/// Whether the bundles of the routes are those of the row, and those with few rules leave out just
+/// what has a middle.
 fn stands(
     rt: &impl Abort,
     alloc: Global,
@@ -193,7 +240,8 @@ fn stands(
     routes: &[PhaseRoute],
 ) -> Result<bool, AllocError> {
     let found = bundles_if_allowed(rt, alloc, solids, routes, way, row.nudge)?;
-    Ok(are_as_wanted(found.as_slice(), wanted(row, way), row.nudge))
+    let wanted = wanted(row, way);
+    Ok(are_as_wanted(&found.all, wanted, row.nudge) && are_few_of(&found.few, wanted))
 }
 
 /// The same, with the routes of the row.
