@@ -30,7 +30,7 @@ pub(crate) fn small_floor(
     let anchors = points_of(alloc, first(anchors))?;
     Ok(Floor {
         solids: Solids(solids),
-        anchors: Points(anchors),
+        anchors: Points::from_vec(anchors),
     })
 }
 

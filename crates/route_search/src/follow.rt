@@ -300,7 +300,7 @@ impl<'a> Follower<'a> {
                     return Ok(Route {
                         start: entry.choice,
                         end: tail.end,
-                        points: Points(points),
+                        points: Points::from_vec(points),
                         cost: entry.lead + ahead.cost,
                     });
                 }

@@ -221,7 +221,7 @@ fn anchors(alloc: Global, parts: &Parts) -> Result<Points, AllocError>
 {
     let mut anchors = ports(alloc, parts)?;
     push_checkpoints(parts, &mut anchors)?;
-    Ok(Points(anchors))
+    Ok(Points::from_vec(anchors))
 }
 
 /// The floor of the scene.
@@ -281,7 +281,7 @@ pub(crate) fn task(alloc: Global, parts: &Parts, number: u32) -> Result<Task, Al
     Ok(Task {
         starts: choices_at(alloc, parts, edge.from, edge.from_class)?,
         ends: choices_at(alloc, parts, edge.to, edge.to_class)?,
-        via: Points(Vec::from_slice(alloc, edge.via.as_slice())?),
+        via: Points::from_slice(alloc, edge.via.as_slice())?,
         penalty: parts.settings().penalty.unsigned_abs(),
     })
 }

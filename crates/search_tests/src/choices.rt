@@ -100,7 +100,7 @@ fn any_task(alloc: Global, asked: Asked) -> Result<Task, AllocError>
     Ok(Task {
         starts: choices(alloc, 1, asked.starts)?,
         ends: choices(alloc, 2, asked.ends)?,
-        via: Points(points(alloc, asked.via)?),
+        via: Points::from_vec(points(alloc, asked.via)?),
         penalty: u64::from(asked.penalty),
     })
 }
@@ -137,7 +137,7 @@ pub fn idle(alloc: Global) -> Task
     Task {
         starts: Choices(Vec::new(alloc)),
         ends: Choices(Vec::new(alloc)),
-        via: Points(Vec::new(alloc)),
+        via: Points::new(alloc),
         penalty: 0,
     }
 }

@@ -31,7 +31,7 @@ fn floor(alloc: Global, task: &Task) -> Result<Floor, AllocError>
 {
     Ok(Floor {
         solids: Solids(Vec::new(alloc)),
-        anchors: Points(anchors(alloc, task)?),
+        anchors: Points::from_vec(anchors(alloc, task)?),
     })
 }
 

@@ -22,7 +22,7 @@ fn route(alloc: Global, end: u32, points: [Point; 3]) -> Result<Route, AllocErro
     Ok(Route {
         start: 0,
         end,
-        points: Points(Vec::from_slice(alloc, &points)?),
+        points: Points::from_slice(alloc, &points)?,
         cost: 7,
     })
 }
@@ -87,7 +87,7 @@ fn task(alloc: Global) -> Result<Task, AllocError> {
     Ok(Task {
         starts: Choices(Vec::from_slice(alloc, &[CHOICE])?),
         ends: Choices(Vec::new(alloc)),
-        via: Points(Vec::from_slice(alloc, &[PORT])?),
+        via: Points::from_slice(alloc, &[PORT])?,
         penalty: 50,
     })
 }
@@ -115,7 +115,7 @@ fn answer(alloc: Global) -> Result<Answer, AllocError> {
     let route = Route {
         start: 0,
         end: 0,
-        points: Points(Vec::from_slice(alloc, &[PIN, PORT])?),
+        points: Points::from_slice(alloc, &[PIN, PORT])?,
         cost: 14,
     };
     Ok(Answer {

@@ -67,7 +67,7 @@ impl Graph {
         ensures written { result.arena.written ≡ 0 }
     {
         let solids = Solids(Vec::new(alloc));
-        let anchors = Points(Vec::new(alloc));
+        let anchors = Points::new(alloc);
         Graph {
             floor: Floor { solids, anchors },
             arena: LineArena::new(alloc),

@@ -12,6 +12,6 @@ pub returns-clause-sound : goal.returns-clause-sound
 returns-clause-sound c =
     let floor = small_floor c.args.rects.now c.args.anchors.now in
     let solids = c.in_ok-solids.ensures ∙ ap (filter_map solid_of_sides) c.first.ensures in
-    let anchors = c.in_ok-anchors.ensures ∙ ap (map clamped_point) c.first-2.ensures in
-    subst (λ (all : List Solid). IsFloor (record { solids = all; anchors = c.in_ok-anchors.anchors.items })) (sym solids)
+    let anchors = c.from_vec.ensures ∙ c.in_ok-anchors.ensures ∙ ap (map clamped_point) c.first-2.ensures in
+    subst (λ (all : List Solid). IsFloor (record { solids = all; anchors = c.from_vec.result })) (sym solids)
     (subst (λ (all : List Point). IsFloor (record { solids = floor.solids; anchors = all })) (sym anchors) (is_floor c.args.rects.now c.args.anchors.now))

@@ -87,13 +87,13 @@ returns-in-Stop c =
     let here : c.point-at.result ≡ f.at = one_point p.arena.now s.place.crossing c.point-at.result f.at c.requires.knowing.ready.arena c.point-at.ensures f.here in
     let end = ends_with p (known_of c.args.self.now) i.0 i.1.way c.requires.knowing.ready s ps f (all_attained c.args.self.now c.requires.knowing) c.in-Some.dir c.in-Stop.tail next in
     let last = forward c.in-Some.dir c.in-Stop.tail.steps in
-    let drawn : c.push.new.self.items ≡ (if turn s.place.heading c.in-Some.dir == 0 then ps else ps ++ (f.at ∷ [])) ++ (last f.at ∷ []) =
-    c.in_ok-push-in-Stop.ensures.items ∙ ap (λ qs. qs ++ (c.forward.result ∷ [])) c.in_ok-turn_off.ensures
+    let drawn : c.from_vec.result ≡ (if turn s.place.heading c.in-Some.dir == 0 then ps else ps ++ (f.at ∷ [])) ++ (last f.at ∷ []) =
+    c.from_vec.ensures ∙ c.in_ok-push-in-Stop.ensures.items ∙ ap (λ qs. qs ++ (c.forward.result ∷ [])) c.in_ok-turn_off.ensures
     ∙ (λ k. (if turn s.place.heading c.in-Some.dir == 0 then ps else ps ++ (here k ∷ [])) ++ ((c.forward.ensures ∙ ap last here) k ∷ [])) in (
       i.0,
       i.1.way.first,
       route_through p.task.now i.0
-          (record { start = c.args.entry.choice; end = c.in-Stop.tail.end; points = c.push.new.self.items; cost = c.args.entry.lead + c.args.ahead.cost })
+          (record { start = c.args.entry.choice; end = c.in-Stop.tail.end; points = c.from_vec.result; cost = c.args.entry.lead + c.args.ahead.cost })
           (drawn ∙ end.drawn) i.1.start end.end
           (cost_is p (known_of c.args.self.now) c.requires.knowing.ready c.args.entry c.args.ahead i.0 i.1 c.requires.entry),
     )
