@@ -29,7 +29,7 @@ pub fn line_of(alloc: Global, doc: &Doc, edge: &Edge) -> Result<Option<Points>, 
     let Some(line) = find_line(doc, edge) else {
         return Ok(None);
     };
-    let mut points = Points(Vec::new(alloc));
+    let mut points = Points::new(alloc);
     add_points(&mut points, edge.number, line)?;
     Ok(Some(points))
 }
@@ -53,7 +53,7 @@ fn add_point(points: &mut Points, number: u32, list: &[Pair]) -> Result<(), Diag
     ensures { IsReadInto (with_point number points.old (pairs list.now)) points.new result }
 {
     let point = point_in(number, list)?;
-    points.0.push(point)?;
+    points.push(point)?;
     Ok(())
 }
 

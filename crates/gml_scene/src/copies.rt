@@ -10,7 +10,7 @@ use std::alloc::{AllocError, Global};
 pub(crate) fn bytes_of(alloc: Global, bytes: &[u8]) -> Result<Bytes, AllocError>
     ensures { IfOk result (λ b. b ≡ bytes.now) }
 {
-    Ok(Bytes(Vec::from_slice(alloc, bytes)?))
+    Bytes::from_slice(alloc, bytes)
 }
 
 /// A copy of the value. The recursion is as deep as its lists nest.

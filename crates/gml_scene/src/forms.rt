@@ -57,7 +57,7 @@ fn push_length(
 fn point_of(alloc: Global, point: Point) -> Result<Value, AllocError>
     ensures { IfOk result (λ v. content v ≡ list (point_pairs point)) }
 {
-    let mut list = Vec::new(alloc);
+    let mut list = Vec::with_capacity(alloc, 2)?;
     push_length(alloc, &mut list, b"x", point.x)?;
     push_length(alloc, &mut list, b"y", point.y)?;
     Ok(Value::List(list))
@@ -67,7 +67,7 @@ fn point_of(alloc: Global, point: Point) -> Result<Value, AllocError>
 pub(crate) fn line_of(alloc: Global, points: &[Point]) -> Result<Value, AllocError>
     ensures { IfOk result (λ v. content v ≡ line_content points.now) }
 {
-    let mut list = Vec::new(alloc);
+    let mut list = Vec::with_capacity(alloc, points.len())?;
     for point in points {
         push(alloc, &mut list, b"point", point_of(alloc, *point)?)?;
     }
@@ -105,7 +105,7 @@ fn letters_of(alloc: Global, dirs: Dirs) -> Result<Value, AllocError>
     if dirs.north {
         letters.push(b'N')?;
     }
-    Ok(Value::Text(Bytes(letters)))
+    Ok(Value::Text(Bytes::from_vec(letters)))
 }
 
 /// Appends the cost of a pin, if it is not 0.

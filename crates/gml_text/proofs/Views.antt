@@ -32,15 +32,15 @@ frames-push lists o = ap reverse (map-append frame_of lists (o ∷ [])) ∙ reve
 
 -- a list is opened
 pub opened-frames : (lists more : List OpenList) (o : OpenList) (ps : Pairs) (inner : List Pair) → more ≡ lists ++ o ∷ [] → pairs o.before.items ≡ ps → inner ≡ []
-    → opened (frames lists) ps o.key.items ≡ gap_state between (frames more) (pairs inner)
+    → opened (frames lists) ps o.key ≡ gap_state between (frames more) (pairs inner)
 opened-frames lists more o ps inner e b i =
-    ap (λ p. gap_state between (record { key = o.key.items; before = p } ∷ frames lists) no_pairs) (sym b)
+    ap (λ p. gap_state between (record { key = o.key; before = p } ∷ frames lists) no_pairs) (sym b)
     ∙ (ap (λ fs. gap_state between fs no_pairs) (sym (frames-push lists o))
     ∙ (ap (λ l. gap_state between (frames l) no_pairs) (sym e) ∙ ap (λ ps. gap_state between (frames more) (pairs ps)) (sym i)))
 
 -- the innermost list is closed
 pub closed-frames : (lists fewer : List OpenList) (o : OpenList) (ps : Pairs) → lists ≡ fewer ++ o ∷ []
-    → closed (frames lists) ps ≡ Some (gap_state between (frames fewer) (pairs o.before.items then pair o.key.items (list ps) no_pairs))
+    → closed (frames lists) ps ≡ Some (gap_state between (frames fewer) (pairs o.before.items then pair o.key (list ps) no_pairs))
 closed-frames lists fewer o ps e = ap (λ l. closed (frames l) ps) e ∙ ap (λ fs. closed fs ps) (frames-push fewer o)
 
 -- what stands for each kind of value

@@ -7,7 +7,7 @@ use Rattle.gml_text.specs.declared.reader.OpenList.{OpenList}
 use Rattle.gml_text.specs.declared.reader.Reader.{Reader}
 
 abbrev pub frame_of : OpenList → Frame
-frame_of o = record { key = o.key.items; before = pairs o.before.items }
+frame_of o = record { key = o.key; before = pairs o.before.items }
 
 -- the innermost list is the last in the vector
 abbrev pub frames : List OpenList → List Frame

@@ -16,7 +16,7 @@ const MOST_OPEN: usize = 64;
 /// A list that is not closed yet: its key, and the pairs before it in the list around it.
 #[derive(Drop)]
 struct OpenList {
-    key: Vec<u8>,
+    key: Bytes,
     before: Vec<Pair>,
 }
 
@@ -30,15 +30,12 @@ pub(crate) struct Reader {
     ghost within_limit: { vec_len lists ≤ most_open },
 }
 
-/// A vector with these bytes, and no room for more.
-fn copied(alloc: Global, bytes: &[u8]) -> Result<Vec<u8>, GmlFault>
-    ensures ok { IfOk result (λ copy. copy.items ≡ bytes.now) }
+/// A copy of these bytes.
+fn copied(alloc: Global, bytes: &[u8]) -> Result<Bytes, GmlFault>
+    ensures ok { IfOk result (λ copy. copy ≡ bytes.now) }
     ensures err { IfErr result (λ fault. fault ≡ GmlFault.Memory) }
 {
-    let Ok(mut copy) = Vec::with_capacity(alloc, bytes.len()) else {
-        return Err(GmlFault::Memory);
-    };
-    let Ok(()) = copy.extend_from_slice(bytes) else {
+    let Ok(copy) = Bytes::from_slice(alloc, bytes) else {
         return Err(GmlFault::Memory);
     };
     Ok(copy)
@@ -101,10 +98,10 @@ impl Reader {
     }
 
     /// Reads the value after the key, or the bracket that opens it.
-    fn value(&mut self, key: Vec<u8>, bytes: &[u8], at: usize) -> Result<usize, GmlFault>
+    fn value(&mut self, key: Bytes, bytes: &[u8], at: usize) -> Result<usize, GmlFault>
         requires within { at ≤ length bytes.now }
         requires no_gap { at < length bytes.now → IsNoGap (slice_index bytes.now at) }
-        requires stands { Stands bytes.now at (gap_state (following key.items) (frames self.old.lists.items) (pairs self.old.pairs.items)) }
+        requires stands { Stands bytes.now at (gap_state (following key) (frames self.old.lists.items) (pairs self.old.pairs.items)) }
         ensures onward { IfOk result (λ next. at < next) }
         ensures goes { Goes bytes.now result (state_of self.new) }
     {
@@ -119,10 +116,10 @@ impl Reader {
     }
 
     /// Reads the string that begins with the quote at `at`.
-    fn text(&mut self, key: Vec<u8>, bytes: &[u8], at: usize) -> Result<usize, GmlFault>
+    fn text(&mut self, key: Bytes, bytes: &[u8], at: usize) -> Result<usize, GmlFault>
         requires within { at < length bytes.now }
         requires opens { slice_index bytes.now at ≡ quote }
-        requires stands { Stands bytes.now at (gap_state (following key.items) (frames self.old.lists.items) (pairs self.old.pairs.items)) }
+        requires stands { Stands bytes.now at (gap_state (following key) (frames self.old.lists.items) (pairs self.old.pairs.items)) }
         ensures onward { IfOk result (λ next. at < next) }
         ensures goes { Goes bytes.now result (state_of self.new) }
     {
@@ -132,17 +129,17 @@ impl Reader {
             return Err(GmlFault::Syntax { at: end as u64 });
         }
         let text = copied(self.alloc, &bytes[from..end])?;
-        self.put(key, Value::Text(Bytes(text)))?;
+        self.put(key, Value::Text(text))?;
         Ok(end + 1)
     }
 
     /// Reads the number that begins at `at`.
-    fn number(&mut self, key: Vec<u8>, bytes: &[u8], at: usize) -> Result<usize, GmlFault>
+    fn number(&mut self, key: Bytes, bytes: &[u8], at: usize) -> Result<usize, GmlFault>
         requires within { at < length bytes.now }
         requires no_gap { IsNoGap (slice_index bytes.now at) }
         requires no_bracket { slice_index bytes.now at ≢ opening }
         requires no_quote { slice_index bytes.now at ≢ quote }
-        requires stands { Stands bytes.now at (gap_state (following key.items) (frames self.old.lists.items) (pairs self.old.pairs.items)) }
+        requires stands { Stands bytes.now at (gap_state (following key) (frames self.old.lists.items) (pairs self.old.pairs.items)) }
         ensures onward { IfOk result (λ next. at < next) }
         ensures goes { Goes bytes.now result (state_of self.new) }
     {
@@ -154,15 +151,15 @@ impl Reader {
             return Err(GmlFault::Syntax { at: end as u64 });
         }
         let digits = copied(self.alloc, &bytes[at..end])?;
-        self.put(key, Value::Number(Bytes(digits)))?;
+        self.put(key, Value::Number(digits))?;
         Ok(end)
     }
 
     /// Opens a list after the key.
-    fn open_list(&mut self, key: Vec<u8>, bytes: &[u8], at: usize) -> Result<usize, GmlFault>
+    fn open_list(&mut self, key: Bytes, bytes: &[u8], at: usize) -> Result<usize, GmlFault>
         requires within { at < length bytes.now }
         requires opens { slice_index bytes.now at ≡ opening }
-        requires stands { Stands bytes.now at (gap_state (following key.items) (frames self.old.lists.items) (pairs self.old.pairs.items)) }
+        requires stands { Stands bytes.now at (gap_state (following key) (frames self.old.lists.items) (pairs self.old.pairs.items)) }
         ensures onward { IfOk result (λ next. at < next) }
         ensures goes { Goes bytes.now result (state_of self.new) }
     {
@@ -193,15 +190,12 @@ impl Reader {
     }
 
     /// Appends the key with this value to the pairs.
-    fn put(&mut self, key: Vec<u8>, value: Value) -> Result<(), GmlFault>
+    fn put(&mut self, key: Bytes, value: Value) -> Result<(), GmlFault>
         ensures lists { self.new.lists ≡ self.old.lists }
-        ensures ok { OnOk result (pairs self.new.pairs.items ≡ pairs self.old.pairs.items then pair key.items (content value) no_pairs) }
+        ensures ok { OnOk result (pairs self.new.pairs.items ≡ pairs self.old.pairs.items then pair key (content value) no_pairs) }
         ensures err { IfErr result (λ fault. fault ≡ GmlFault.Memory) }
     {
-        let pair = Pair {
-            key: Bytes(key),
-            value,
-        };
+        let pair = Pair { key, value };
         let Ok(()) = self.pairs.push(pair) else {
             return Err(GmlFault::Memory);
         };

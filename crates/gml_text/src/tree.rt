@@ -1,12 +1,14 @@
 //! The tree of a document: pairs of keys and values, with their bytes as they were written.
 
-ghost use Rattle.std.specs.Prelude.{◌≡◌};
+ghost use Rattle.std.specs.Prelude.{◌≡◌, IfOk};
 
+use smallvec::SmallVec;
+use std::alloc::{AllocError, Global};
 use std::marker::Model;
 
-/// Bytes as they were written.
+/// Bytes as they were written. Up to sixteen take no memory.
 #[derive(Debug, Drop)]
-pub struct Bytes(pub Vec<u8>);
+pub struct Bytes(pub SmallVec<u8, 16, Global>);
 
 impl Model for Bytes {
     ghost use Rattle.std.specs.Prelude.{List, ℕ};
@@ -17,11 +19,25 @@ impl Model for Bytes {
 }
 
 impl Bytes {
+    /// These bytes. The only error is out of memory.
+    pub fn from_slice(alloc: Global, bytes: &[u8]) -> Result<Bytes, AllocError>
+        ensures { IfOk result (λ b. b ≡ bytes.now) }
+    {
+        Ok(Bytes(SmallVec::from_slice(alloc, bytes)?))
+    }
+
+    /// The bytes of the list.
+    pub fn from_vec(bytes: Vec<u8>) -> Bytes
+        ensures { result ≡ bytes.items }
+    {
+        Bytes(SmallVec::from_vec(bytes))
+    }
+
     /// The bytes, in order.
     pub fn as_slice(&self) -> &[u8]
         ensures { result.now ≡ self.now }
     {
-        &self.0
+        self.0.as_slice()
     }
 }
 

@@ -136,7 +136,7 @@ fn new_proof(alloc: Global, edge: u32, cost: Option<u64>) -> Proof
         None => Claim::Cut,
         Some(cost) => Claim::Cost {
             cost,
-            points: Points(Vec::new(alloc)),
+            points: Points::new(alloc),
         },
     };
     Proof {
@@ -156,7 +156,7 @@ fn put_point(proof: &mut Proof, point: Point) -> Result<bool, AllocError>
     }
     match &mut proof.claim {
         Claim::Cost { points, .. } => {
-            points.0.push(point)?;
+            points.push(point)?;
             Ok(true)
         }
         Claim::Cut => Ok(false),

@@ -290,7 +290,7 @@ fn with_line(
 {
     let route = WrittenRoute {
         edge: 1,
-        points: Points(points),
+        points: Points::from_vec(points),
     };
     written(alloc, doc, scene, &[route])
 }

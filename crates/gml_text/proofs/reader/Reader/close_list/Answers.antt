@@ -26,10 +26,10 @@ returns-clause-goes c =
     let new = c.put.new.self in
     let fewer = c.pop.new.self.items in
     let o = c.in-Some.field-0 in
-    let following : pairs new.pairs.items ≡ pairs o.before.items then pair o.key.items (list ps) no_pairs =
-    put_list new.pairs.items c.replace-inner.new.dest.items o.key.items c.replace-inner.result (pairs o.before.items) ps c.in_ok-put.ensures.ok
+    let following : pairs new.pairs.items ≡ pairs o.before.items then pair o.key (list ps) no_pairs =
+    put_list new.pairs.items c.replace-inner.new.dest.items o.key c.replace-inner.result (pairs o.before.items) ps c.in_ok-put.ensures.ok
     (ap (λ v. pairs v.items) c.replace-inner.ensures.after) (ap (λ v. pairs v.items) c.replace-inner.ensures.value) in
-    let same = same_gap (frames new.lists.items) (frames fewer) (pairs new.pairs.items) (pairs o.before.items then pair o.key.items (list ps) no_pairs)
+    let same = same_gap (frames new.lists.items) (frames fewer) (pairs new.pairs.items) (pairs o.before.items then pair o.key (list ps) no_pairs)
     (ap (λ v. frames v.items) c.put.ensures.lists) following in (
       omega (arith, c.requires.within),
       goes c.args.bytes.now c.args.at (state_of r) (state_of new) c.requires.within c.requires.stands

@@ -15,13 +15,13 @@ use Rattle.gml_text.proofs.reader.Reader.number.Goals.{then-not-is_complete-via-
 
 pub returns-in_default-clause-goes : goal.returns-in_default-clause-goes
 returns-in_default-clause-goes c =
-    no_value c.args.bytes.now c.args.at c.args.key.items (frames c.args.self.now.lists.items) (pairs c.args.self.now.pairs.items) c.requires.within c.requires.no_gap
+    no_value c.args.bytes.now c.args.at c.args.key (frames c.args.self.now.lists.items) (pairs c.args.self.now.pairs.items) c.requires.within c.requires.no_gap
     c.requires.no_bracket c.requires.no_quote (sym c.begun.ensures ∙ c.in_default.is) c.requires.stands
 
 pub returns-then-not-is_complete-clause-goes : goal.returns-then-not-is_complete-clause-goes
 returns-then-not-is_complete-clause-goes c =
     let bytes = c.args.bytes.now in
-    let key = c.args.key.items in
+    let key = c.args.key in
     let fs = frames c.args.self.now.lists.items in
     let ps = pairs c.args.self.now.pairs.items in
     let end = c.number_end-end.result.0 in
@@ -50,7 +50,7 @@ returns-then-not-is_complete-clause-goes c =
 pub returns-clause-goes : goal.returns-clause-goes
 returns-clause-goes c =
     let bytes = c.args.bytes.now in
-    let key = c.args.key.items in
+    let key = c.args.key in
     let fs = frames c.args.self.now.lists.items in
     let ps = pairs c.args.self.now.pairs.items in
     let end = c.number_end-end.result.0 in
@@ -64,7 +64,7 @@ returns-clause-goes c =
       | else-end-bytes v ↦ λ h. absurd (omega (arith, h, v.if-end-bytes.false))
     ] in
     let ended = number_stops bytes end key digits part fs ps c.number_end-end.ensures.stops apart (sym c.is_complete.ensures ∙ c.if-not-is_complete.false) stands in
-    let following = put_number new.pairs.items c.args.self.now.pairs.items key c.in_ok-digits.digits.items digits c.in_ok-put.ensures.ok c.in_ok-digits.ensures.ok in
+    let following = put_number new.pairs.items c.args.self.now.pairs.items key c.in_ok-digits.digits digits c.in_ok-put.ensures.ok c.in_ok-digits.ensures.ok in
     let same : state_of new ≡ gap_state between fs (ps then pair key (number digits) no_pairs) =
     same_gap (frames new.lists.items) fs (pairs new.pairs.items) (ps then pair key (number digits) no_pairs) (ap (λ v. frames v.items) c.put.ensures.lists) following in
     (c.number_end-end.ensures.within, subst (Stands bytes end) (sym same) ended)

@@ -15,8 +15,8 @@ returns-then-len-ge-MOST_OPEN-clause-goes c =
     let ps = pairs r.pairs.items in
     let e = length-frames r.lists.items in
     let many : 63 < length fs = omega (arith, e, r.lists.ok.0, c.len.ensures, c.if-len-ge-MOST_OPEN.true) in
-    too_deep_there c.args.bytes.now c.args.at (gap_state (following c.args.key.items) fs ps) (opened fs ps c.args.key.items) c.requires.within c.requires.stands
-    (ap (in_space (following c.args.key.items) fs ps) c.requires.opens) (omega (arith, many))
+    too_deep_there c.args.bytes.now c.args.at (gap_state (following c.args.key) fs ps) (opened fs ps c.args.key) c.requires.within c.requires.stands
+    (ap (in_space (following c.args.key) fs ps) c.requires.opens) (omega (arith, many))
 
 pub returns-clause-goes : goal.returns-clause-goes
 returns-clause-goes c =
@@ -30,7 +30,7 @@ returns-clause-goes c =
     let same = opened-frames r.lists.items new.items (record { key = c.args.key; before = c.replace-before.result }) ps c.replace-before.new.dest.items
     c.in-Ok.ensures.items (ap (λ v. pairs v.items) c.replace-before.ensures.value) empty in (
       omega (arith, c.requires.within),
-      goes c.args.bytes.now c.args.at (gap_state (following c.args.key.items) fs ps)
+      goes c.args.bytes.now c.args.at (gap_state (following c.args.key) fs ps)
           (gap_state between (frames new.items) (pairs c.replace-before.new.dest.items)) c.requires.within c.requires.stands
-          (ap (in_space (following c.args.key.items) fs ps) c.requires.opens ∙ ap Some same) few,
+          (ap (in_space (following c.args.key) fs ps) c.requires.opens ∙ ap Some same) few,
     )

@@ -15,13 +15,13 @@ returns-then-end-bytes-clause-goes c =
     let fs = frames c.args.self.now.lists.items in
     let ps = pairs c.args.self.now.pairs.items in
     let end = c.text_end-end.result in
-    unfinished_there bytes end (text_state c.args.key.items (slice_range bytes (c.args.at + 1) end) fs ps) c.if-end-bytes.true
-    (c.text_end-end.ensures.ends c.args.key.items fs ps (text_begins bytes c.args.at c.args.key.items fs ps c.requires.within c.requires.opens c.requires.stands)) refl
+    unfinished_there bytes end (text_state c.args.key (slice_range bytes (c.args.at + 1) end) fs ps) c.if-end-bytes.true
+    (c.text_end-end.ensures.ends c.args.key fs ps (text_begins bytes c.args.at c.args.key fs ps c.requires.within c.requires.opens c.requires.stands)) refl
 
 pub returns-clause-goes : goal.returns-clause-goes
 returns-clause-goes c =
     let bytes = c.args.bytes.now in
-    let key = c.args.key.items in
+    let key = c.args.key in
     let fs = frames c.args.self.now.lists.items in
     let ps = pairs c.args.self.now.pairs.items in
     let end = c.text_end-end.result in
@@ -30,7 +30,7 @@ returns-clause-goes c =
     let h : end < length bytes = omega (arith, c.text_end-end.ensures.within, c.if-end-bytes.false) in
     let begun = c.text_end-end.ensures.ends key fs ps (text_begins bytes c.args.at key fs ps c.requires.within c.requires.opens c.requires.stands) in
     let ended = text_ends bytes end key inner fs ps h (c.text_end-end.ensures.stops h) begun in
-    let following = put_text new.pairs.items c.args.self.now.pairs.items key c.in_ok-text.text.items inner c.in_ok-put.ensures.ok c.in_ok-text.ensures.ok in
+    let following = put_text new.pairs.items c.args.self.now.pairs.items key c.in_ok-text.text inner c.in_ok-put.ensures.ok c.in_ok-text.ensures.ok in
     let same : state_of new ≡ gap_state between fs (ps then pair key (text inner) no_pairs) =
     same_gap (frames new.lists.items) fs (pairs new.pairs.items) (ps then pair key (text inner) no_pairs) (ap (λ v. frames v.items) c.put.ensures.lists) following in
     (omega (arith, h), subst (Stands bytes (end + 1)) (sym same) ended)

@@ -9,5 +9,5 @@ use Rattle.gml_text.proofs.reader.Reader.value.Goals as goal
 
 pub returns-then-at-bytes-clause-goes : goal.returns-then-at-bytes-clause-goes
 returns-then-at-bytes-clause-goes c =
-    unfinished_there c.args.bytes.now c.args.at (gap_state (following c.args.key.items) (frames c.args.self.now.lists.items) (pairs c.args.self.now.pairs.items))
+    unfinished_there c.args.bytes.now c.args.at (gap_state (following c.args.key) (frames c.args.self.now.lists.items) (pairs c.args.self.now.pairs.items))
     c.if-at-bytes.true c.requires.stands refl
