@@ -1,7 +1,7 @@
 -- Each list of runs has its bundle, with all links as rules.
 use Rattle.std.proofs.Common.{◌≡◌, ℕ, zero, suc, ◌<◌, ◌≤◌, ◌^◌, ℤ, List, [], ◌∷◌, map, length, get_or, refl, ap, arith}
 use Rattle.std.specs.Prelude.{All, Vec}
-use Rattle.std.specs.declared.alloc.Global.{Global}
+use Rattle.separation_model.specs.Arena.{Arena}
 use Rattle.std.proofs.lemmas.List.{length-map}
 use denote.RawPtr.{null_ptr}
 use Rattle.segment_order.specs.declared.run.Run.{Run}
@@ -12,9 +12,22 @@ use Rattle.channel_bundles.specs.Links.{item_of, rules_after}
 use Rattle.channel_bundles.specs.Bundles.{IsBundleOf, members_at}
 use Rattle.channel_bundles.proofs.Ordered.{few_rules_after}
 
+-- an arena in which nothing is yet
+abbrev pub some_arena : Arena
+some_arena = record {
+  ref_ptr = (0, 0);
+  now = record {
+    alloc = record { memory = record { seal = tt } };
+    current = (record { life = 0; tally = 0; chunks = 0 }, record { memory = record { seal = tt } });
+    life = record { epoch = record { life = 0; tally = 0; chunks = 0 } };
+    allocation_limit = record { value = tt };
+    tied = (refl, refl);
+  };
+}
+
 -- a `Vec` with the elements of the list
-abbrev pub vec_of : {X : Type 0} (xs : List X) → length xs < 2 ^ 63 → Vec X Global
-vec_of xs few = record { ptr = null_ptr; len = length xs; cap = length xs; alloc = record { memory = record { seal = tt } }; items = xs; ok = (refl, omega arith); small = few }
+abbrev pub vec_of : {X : Type 0} (xs : List X) → length xs < 2 ^ 63 → Vec X Arena
+vec_of xs few = record { ptr = null_ptr; len = length xs; cap = length xs; alloc = some_arena; items = xs; ok = (refl, omega arith); small = few }
 
 pub whole_bundle : (nudge : ℤ) (ms : List Member) → length ms ≤ most_items → (b : RunBundle) × IsBundleOf nudge ms b
 whole_bundle nudge ms few = (

@@ -21,7 +21,7 @@ pub record IsFewOf (b few : RunBundle) : Type 0 where
   pub reduced : IsReducedBundle b.bundle few.bundle
   pub order : AreAmong few.bundle.rules.items b.bundle.rules.items
 
--- the bundles of the phase, which a solver accepts, each with few of its rules
+-- the bundles of the phase, which a solver accepts, each with some of its rules, whose chains stand for all
 pub record AreFewBundles (solids : List Solid) (routes : List PhaseRoute) (way : Way) (nudge : ℤ) (few : List RunBundle) : Type 0 where
   pub found : List RunBundle
   pub bundles : AreBundles solids routes way nudge found

@@ -1,4 +1,4 @@
--- Groups of runs that no link leaves, and what parts them. No public clause cites this module.
+-- Groups of runs, by which runs without a link are parted. No public clause cites this module.
 use Rattle.std.specs.Prelude.{◌≡◌, ◌≢◌, ℕ, ◌+◌, ◌/◌, ◌<◌, ℤ, pos, ◌+ℤ◌, ◌<ℤ◌, List, length, All, slice_index}
 use Rattle.channel_bundles.specs.declared.member.Member.{Member}
 use Rattle.channel_bundles.specs.declared.groups.By.{By}
@@ -26,7 +26,7 @@ end_of LaterFours nudge m = pos ((m.run.place / 2 + 1) / 2) +ℤ pos 1
 abbrev pub span_at : By → ℤ → List Member → List ℕ → ℕ → Span
 span_at by nudge members groups k = record { group = slice_index groups k; lo = begin_of by (member_at members k); hi = end_of by nudge (member_at members k); place = k }
 
--- two spans of one group share more than a point
+-- two spans of one group, each of which begins before the other ends
 pub record Meet (a b : Span) : Type 0 where
   pub group : a.group ≡ b.group
   pub before : a.lo <ℤ b.hi
@@ -46,7 +46,7 @@ pub record AreGroups (count : ℕ) (groups : List ℕ) : Type 0 where
   pub all : length groups ≡ count
   pub within : All (λ g. g < count) groups
 
--- for each place the next one of its group, if there is one
+-- for each place the next one of its group, otherwise a number past the end
 pub record AreNext (groups next : List ℕ) : Type 0 where
   pub count : length next ≡ length groups
   pub after : (i : ℕ) → i < length groups → i < slice_index next i

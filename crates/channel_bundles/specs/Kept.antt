@@ -6,7 +6,7 @@ use Rattle.channel_bundles.specs.declared.member.Member.{Member}
 use Rattle.channel_bundles.specs.Groups.{AreNext, AreTogether}
 use Rattle.channel_bundles.specs.Links.{IsLink, link, member_at}
 
--- a run that may move, covers the range of another one, and reaches as far
+-- the run may move, covers the range of the other one, and its upper limit is no lower
 pub record Hides (m other : Member) : Type 0 where
   pub movable : m.fixed ≡ false
   pub from : m.run.lo ≤ℤ other.run.lo
@@ -67,13 +67,13 @@ pub record IsHidden (nudge : ℤ) (members : List Member) (at later : ℕ) : Typ
   pub linked : link nudge (member_at members at) (member_at members later) ≡ Some true
   pub hides : Hides (member_at members later) (member_at members at)
 
--- whether the later run and another one of another edge hide the run; the edge of a run that hides it is kept
+-- if it is closed, the later run hides the run, and its edge is not the one noted before; the edge noted stays, or becomes that of the later run, which hides it
 pub record IsClosing (nudge : ℤ) (members : List Member) (at later : ℕ) (hider : Option ℕ) (closed : Bool) (now : Option ℕ) : Type 0 where
   pub hidden : closed ≡ true → IsHidden nudge members at later
   pub other : closed ≡ true → (edge : ℕ) × (hider ≡ Some edge) × (edge ≢ (member_at members later).run.edge)
   pub kept : (now ≡ hider) ⊎ ((now ≡ Some (member_at members later).run.edge) × IsHidden nudge members at later)
 
--- the next number of a list of such after `later`, which has been tried
+-- the next run of a group to try, now that `later` was tried
 pub record IsPast (next : List ℕ) (ahead later result : ℕ) : Type 0 where
   pub moved : ahead ≡ later → result ≡ slice_index next later
   pub same : ahead ≢ later → result ≡ ahead
@@ -82,7 +82,7 @@ pub record IsPast (next : List ℕ) (ahead later result : ℕ) : Type 0 where
 abbrev pub nearest : ℕ → ℕ → ℕ → ℕ
 nearest channel early late = min (min channel early) late
 
--- the next runs of groups that linked runs of different edges share, and of two groups of which those of one edge share one
+-- next runs of three kinds of groups: linked runs of different edges share a group of the first kind, those of one edge one of the second or third
 pub record LeadOn (nudge : ℤ) (members : List Member) (channel early late : List ℕ) : Type 0 where
   pub channels : List ℕ
   pub earlies : List ℕ

@@ -1,4 +1,4 @@
--- Routes that go the same way. No public clause cites this module.
+-- Routes with the same runs but for their edges. No public clause cites this module.
 use Rattle.std.specs.Prelude.{◌≡◌, ℕ, Option, Some, None, List, [], map, slice_get}
 use Rattle.segment_order.specs.declared.run.Run.{Run}
 use Rattle.channel_bundles.specs.declared.route.PhaseRoute.{PhaseRoute}

@@ -22,7 +22,7 @@ pub record IsListed (listing : Listing) (nudge : ℤ) (ms : List Member) (b : Ru
   pub wanted : b.bundle.wanted ≡ nudge
   pub runs : b.runs.items ≡ map (λ m. m.run) ms
 
--- the bundles are those of the classes of the runs that links join, in the order of their first runs
+-- the bundles are those of the classes of the runs that links join, in the order of their first runs, with such rules
 pub record AreListedOf (listing : Listing) (nudge : ℤ) (members : List Member) (found : List RunBundle) : Type 0 where
   pub classes : List (List ℕ)
   pub are_classes : AreClasses (Connected (IsLink nudge members)) (length members) classes

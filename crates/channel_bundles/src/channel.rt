@@ -13,12 +13,13 @@ ghost use Rattle.channel_bundles.specs.Listed.{AreListedOf, IsListed};
 ghost use Rattle.channel_bundles.specs.declared.channel.Listing.TheVariants as listings;
 ghost use Rattle.channel_bundles.specs.Placed.{AreRising, IsPlaced, pairs_of, standings_of};
 
-use crate::bare::bare_bundle;
+use crate::bare::bundle_with;
 use crate::leaders::{is_same_but_for_edge, leader_of, runs_at};
 use crate::links::{linked_classes, rules_of};
 use crate::member::Member;
 use crate::route::PhaseRoute;
 use crate::shares::few_bundles_of;
+use bumpalo::Bump;
 use plane_geom::{Solid, Way};
 use segment_order::{Run, line_order};
 use separation_model::Bundle;
@@ -27,11 +28,11 @@ use std::cmp::Ordering;
 
 /// Runs that links join, in their order on the line, with the separation constraints on them.
 ///
-/// The bundle's items are the runs, in this order.
+/// The bundle's items are the runs, in this order. All lists are in the caller's arena.
 #[derive(Debug, Drop)]
-pub struct RunBundle {
-    pub bundle: Bundle,
-    pub runs: Vec<Run>,
+pub struct RunBundle<'a> {
+    pub bundle: Bundle<'a>,
+    pub runs: Vec<Run, &'a Bump>,
 }
 
 /// Which links are rules of a bundle: all, or few whose chains stand for all.
@@ -41,21 +42,21 @@ enum Listing {
     Few,
 }
 
-/// A run with its limits, its route, and the index of a route that goes the same way.
+/// A run with its limits, its route, and the index of a route with the same runs but for its edge.
 #[derive(Clone, Copy)]
-struct Placed<'a> {
-    route: &'a PhaseRoute,
+struct Placed<'r, 'p> {
+    route: &'r PhaseRoute<'p>,
     leader: usize,
     member: Member,
 }
 
-impl Placed<'_> {
+impl Placed<'_, '_> {
     ghost use Rattle.segment_order.specs.Order.{compare_keys};
     ghost use Rattle.channel_bundles.specs.Placed.{key_of_placed};
 
     /// Compares two runs by their order on the line. The routes of their leaders are walked, and none
     /// where the two runs have one leader and are at the same place.
-    fn compare(&self, other: &Placed<'_>, routes: &[PhaseRoute]) -> Ordering
+    fn compare(&self, other: &Placed<'_, '_>, routes: &[PhaseRoute<'_>]) -> Ordering
         ensures { result ≡ compare_keys (key_of_placed routes.now self.now) (key_of_placed routes.now other.now) }
     {
         let (a, b) = (&self.member.run, &other.member.run);
@@ -72,10 +73,10 @@ impl Placed<'_> {
 }
 
 /// Appends the runs of the way of the route at the index.
-fn add_runs<'a>(
-    placed: &mut Vec<Placed<'a>>,
+fn add_runs<'r, 'p>(
+    placed: &mut Vec<Placed<'r, 'p>>,
     solids: &[Solid],
-    routes: &'a [PhaseRoute],
+    routes: &'r [PhaseRoute<'p>],
     at: usize,
     way: Way,
 ) -> Result<(), AllocError>
@@ -102,20 +103,30 @@ fn add_runs<'a>(
     Ok(())
 }
 
+/// How many runs of the way the routes have: so much room the list of them takes.
+fn count_of_way(routes: &[PhaseRoute<'_>], way: Way) -> usize {
+    let mut count = 0usize;
+    for route in routes {
+        let own = route.runs.iter().filter(|run| run.way == way).count();
+        count = count.saturating_add(own);
+    }
+    count
+}
+
 /// The runs of the way of all routes.
-fn runs_of<'a>(
+fn runs_of<'r, 'p>(
     alloc: Global,
     solids: &[Solid],
-    routes: &'a [PhaseRoute],
+    routes: &'r [PhaseRoute<'p>],
     way: Way,
-) -> Result<Vec<Placed<'a>>, AllocError>
+) -> Result<Vec<Placed<'r, 'p>>, AllocError>
     requires solids { All IsSolid solids.now }
     requires routes { All IsPhaseRoute routes.now }
     requires movable { All (MayMove solids.now way) routes.now }
     ensures each { IfOk result (λ placed. All (IsPlaced solids.now routes.now) placed.items) }
     ensures runs { IfOk result (λ placed. pairs_of placed.items ≡ runs_of_way way routes.now) }
 {
-    let mut placed = Vec::new(alloc);
+    let mut placed = Vec::with_capacity(alloc, count_of_way(routes, way))?;
     for at in 0..routes.len() {
         add_runs(&mut placed, solids, routes, at, way)?;
     }
@@ -123,12 +134,12 @@ fn runs_of<'a>(
 }
 
 /// The runs of the way of all routes, in their order on the line.
-fn runs_in_order<'a>(
+fn runs_in_order<'r, 'p>(
     alloc: Global,
     solids: &[Solid],
-    routes: &'a [PhaseRoute],
+    routes: &'r [PhaseRoute<'p>],
     way: Way,
-) -> Result<Vec<Placed<'a>>, AllocError>
+) -> Result<Vec<Placed<'r, 'p>>, AllocError>
     requires solids { All IsSolid solids.now }
     requires routes { All IsPhaseRoute routes.now }
     requires movable { All (MayMove solids.now way) routes.now }
@@ -141,18 +152,25 @@ fn runs_in_order<'a>(
 }
 
 /// The runs without their routes.
-fn own_members(alloc: Global, placed: &[Placed<'_>]) -> Result<Vec<Member>, AllocError>
+fn own_members<'a>(
+    bump: &'a Bump,
+    placed: &[Placed<'_, '_>],
+) -> Result<Vec<Member, &'a Bump>, AllocError>
     ensures { IfOk result (λ members. members.items ≡ map (λ p. p.member) placed.now) }
 {
-    placed.iter().map(|p| p.member).collect(alloc)
+    placed.iter().map(|p| p.member).collect(bump)
 }
 
 /// The runs at the given places.
-fn chosen(alloc: Global, members: &[Member], places: &[usize]) -> Result<Vec<Member>, AllocError>
+fn chosen<'a>(
+    bump: &'a Bump,
+    members: &[Member],
+    places: &[usize],
+) -> Result<Vec<Member, &'a Bump>, AllocError>
     requires { All (λ i. i < length members.now) places.now }
     ensures { IfOk result (λ found. found.items ≡ members_at members.now places.now) }
 {
-    let mut found = Vec::new(alloc);
+    let mut found = Vec::with_capacity(bump, places.len())?;
     for place in places {
         found.push(members[*place])?;
     }
@@ -160,12 +178,12 @@ fn chosen(alloc: Global, members: &[Member], places: &[usize]) -> Result<Vec<Mem
 }
 
 /// The bundle of the runs at the given places, which rise, with all their links as rules.
-fn class_bundle(
-    alloc: Global,
+fn class_bundle<'a>(
+    bump: &'a Bump,
     members: &[Member],
     places: &[usize],
     nudge: i64,
-) -> Result<RunBundle, AllocError>
+) -> Result<RunBundle<'a>, AllocError>
     requires members { All IsMember members.now }
     requires few { length members.now ≤ most_items }
     requires nudge { IsNudge nudge }
@@ -173,39 +191,40 @@ fn class_bundle(
     requires places { Rise places.now }
     ensures { IfOk result (λ b. IsListed listings.All nudge (members_at members.now places.now) b) }
 {
-    let runs = chosen(alloc, members, places)?;
-    let mut found = bare_bundle(alloc, members, places, nudge)?;
-    found.bundle.rules = rules_of(alloc, &runs, nudge)?;
-    Ok(found)
+    let runs = chosen(bump, members, places)?;
+    let rules = rules_of(bump, &runs, nudge)?;
+    bundle_with(bump, members, places, rules, nudge)
 }
 
 /// The bundles of the runs, each with all its links as rules.
-fn all_bundles_of(
+fn all_bundles_of<'a>(
     alloc: Global,
+    bump: &'a Bump,
     members: &[Member],
     nudge: i64,
-) -> Result<Vec<RunBundle>, AllocError>
+) -> Result<Vec<RunBundle<'a>, &'a Bump>, AllocError>
     requires members { All IsMember members.now }
     requires few { length members.now ≤ most_items }
     requires rising { AreRising members.now }
     requires nudge { IsNudge nudge }
     ensures { IfOk result (λ found. AreListedOf listings.All nudge members.now found.items) }
 {
-    let classes = linked_classes(alloc, members, nudge)?;
-    let mut found = Vec::new(alloc);
+    let classes = linked_classes(alloc, bump, members, nudge)?;
+    let mut found = Vec::with_capacity(bump, classes.len())?;
     for class in &classes {
-        found.push(class_bundle(alloc, members, class, nudge)?)?;
+        found.push(class_bundle(bump, members, class, nudge)?)?;
     }
     Ok(found)
 }
 
 /// The bundles of the runs, which are in their order on the line.
-fn bundles_of(
+fn bundles_of<'a>(
     alloc: Global,
+    bump: &'a Bump,
     members: &[Member],
     nudge: i64,
     listing: Listing,
-) -> Result<Vec<RunBundle>, AllocError>
+) -> Result<Vec<RunBundle<'a>, &'a Bump>, AllocError>
     requires members { All IsMember members.now }
     requires few { length members.now ≤ most_items }
     requires rising { AreRising members.now }
@@ -214,20 +233,21 @@ fn bundles_of(
     ensures each { IfOk result (λ found. All (λ b. IsBundle b.bundle) found.items) }
 {
     match listing {
-        Listing::All => all_bundles_of(alloc, members, nudge),
-        Listing::Few => few_bundles_of(alloc, members, nudge),
+        Listing::All => all_bundles_of(alloc, bump, members, nudge),
+        Listing::Few => few_bundles_of(alloc, bump, members, nudge),
     }
 }
 
 /// The bundles of a phase, in the order of their first runs.
-fn listed_bundles(
+fn listed_bundles<'a>(
     alloc: Global,
+    bump: &'a Bump,
     solids: &[Solid],
-    routes: &[PhaseRoute],
+    routes: &[PhaseRoute<'_>],
     way: Way,
     nudge: i64,
     listing: Listing,
-) -> Result<Vec<RunBundle>, AllocError>
+) -> Result<Vec<RunBundle<'a>, &'a Bump>, AllocError>
     requires solids { All IsSolid solids.now }
     requires routes { All IsPhaseRoute routes.now }
     requires edges { AllPairs (λ r s. r.edge ≢ s.edge) routes.now }
@@ -239,23 +259,28 @@ fn listed_bundles(
     ensures each { IfOk result (λ found. All (λ b. IsBundle b.bundle) found.items) }
 {
     let placed = runs_in_order(alloc, solids, routes, way)?;
-    let members = own_members(alloc, &placed)?;
-    bundles_of(alloc, &members, nudge, listing)
+    let members = own_members(bump, &placed)?;
+    // The runs need their routes no more.
+    drop(placed);
+    bundles_of(alloc, bump, &members, nudge, listing)
 }
 
 /// The bundles of a phase, in the order of their first runs. The only error is out of memory.
+///
+/// They are in the arena. Most of what is needed on the way is in `alloc`, and is given back.
 ///
 /// A phase moves the runs of one way. The routes are of different edges, all on the sheet, and have
 /// weights from 1 to 4; there are at most 850,000,000 runs of the way, and the wanted nudge is from
 /// 0 to 1,000,000 thousandths. Each movable run may stay at its coordinate: no part of it is in a
 /// solid, and both its neighbours keep the points that they have to keep.
-pub fn bundles(
+pub fn bundles<'a>(
     alloc: Global,
+    bump: &'a Bump,
     solids: &[Solid],
-    routes: &[PhaseRoute],
+    routes: &[PhaseRoute<'_>],
     way: Way,
     nudge: i64,
-) -> Result<Vec<RunBundle>, AllocError>
+) -> Result<Vec<RunBundle<'a>, &'a Bump>, AllocError>
     requires solids { All IsSolid solids.now }
     requires routes { All IsPhaseRoute routes.now }
     requires edges { AllPairs (λ r s. r.edge ≢ s.edge) routes.now }
@@ -265,7 +290,7 @@ pub fn bundles(
     ensures bundles { IfOk result (λ found. AreBundles solids.now routes.now way nudge found.items) }
     ensures each { IfOk result (λ found. All (λ b. IsBundle b.bundle) found.items) }
 {
-    listed_bundles(alloc, solids, routes, way, nudge, Listing::All)
+    listed_bundles(alloc, bump, solids, routes, way, nudge, Listing::All)
 }
 
 /// The bundles of a phase, as `bundles`, each with few of its rules, whose chains stand for all.
@@ -273,13 +298,14 @@ pub fn bundles(
 ///
 /// The widest gap and the least positions of a bundle are those that it has with all its rules.
 /// The conditions are those of `bundles`.
-pub fn few_bundles(
+pub fn few_bundles<'a>(
     alloc: Global,
+    bump: &'a Bump,
     solids: &[Solid],
-    routes: &[PhaseRoute],
+    routes: &[PhaseRoute<'_>],
     way: Way,
     nudge: i64,
-) -> Result<Vec<RunBundle>, AllocError>
+) -> Result<Vec<RunBundle<'a>, &'a Bump>, AllocError>
     requires solids { All IsSolid solids.now }
     requires routes { All IsPhaseRoute routes.now }
     requires edges { AllPairs (λ r s. r.edge ≢ s.edge) routes.now }
@@ -289,5 +315,5 @@ pub fn few_bundles(
     ensures bundles { IfOk result (λ few. AreFewBundles solids.now routes.now way nudge few.items) }
     ensures each { IfOk result (λ few. All (λ b. IsBundle b.bundle) few.items) }
 {
-    listed_bundles(alloc, solids, routes, way, nudge, Listing::Few)
+    listed_bundles(alloc, bump, solids, routes, way, nudge, Listing::Few)
 }

@@ -8,15 +8,16 @@ ghost use Rattle.channel_bundles.specs.Kept.{AreKept, AreKeptFrom, IsClosing, Is
 use crate::groups::{channels, in_fours, next_of_group};
 use crate::links::first_clear;
 use crate::member::Member;
+use bumpalo::Bump;
 use separation_model::Rule;
 use std::alloc::{AllocError, Global};
 
 /// For each run the next one of each of its groups: its channel, and two groups of its edge.
 #[derive(Drop)]
-struct Nexts {
-    channel: Vec<usize>,
-    early: Vec<usize>,
-    late: Vec<usize>,
+struct Nexts<'a> {
+    channel: Vec<usize, &'a Bump>,
+    early: Vec<usize, &'a Bump>,
+    late: Vec<usize, &'a Bump>,
 }
 
 /// The next runs of the groups of a run, of which the nearest is tried next.
@@ -44,7 +45,7 @@ fn past(next: &[usize], ahead: usize, later: usize) -> usize
     if ahead == later { next[later] } else { ahead }
 }
 
-impl Nexts {
+impl Nexts<'_> {
     /// The next runs of the groups after `later`, which has been tried.
     fn past(&self, ahead: Ahead, later: usize) -> Ahead
         requires channel { later < length self.now.channel.items }
@@ -79,18 +80,23 @@ impl Nexts {
 }
 
 /// The next runs of each group.
-fn find_nexts(alloc: Global, members: &[Member], nudge: i64) -> Result<Nexts, AllocError>
+fn find_nexts<'a>(
+    alloc: Global,
+    bump: &'a Bump,
+    members: &[Member],
+    nudge: i64,
+) -> Result<Nexts<'a>, AllocError>
     requires members { All IsMember members.now }
     requires rising { AreRising members.now }
     requires nudge { IsNudge nudge }
     ensures { IfOk result (λ n. LeadOn nudge members.now n.channel.items n.early.items n.late.items) }
 {
-    let channels = channels(alloc, members, nudge)?;
-    let fours = in_fours(alloc, members, nudge)?;
+    let channels = channels(alloc, bump, members, nudge)?;
+    let fours = in_fours(alloc, bump, members, nudge)?;
     Ok(Nexts {
-        channel: next_of_group(alloc, &channels)?,
-        early: next_of_group(alloc, &fours.early)?,
-        late: next_of_group(alloc, &fours.late)?,
+        channel: next_of_group(bump, &channels)?,
+        early: next_of_group(bump, &fours.early)?,
+        late: next_of_group(bump, &fours.late)?,
     })
 }
 
@@ -114,7 +120,7 @@ fn has_middle(rules: &[Rule], first: usize, members: &[Member], nudge: i64, late
 /// Appends the rule from the run at `at` to the one at `later`, if there is one without a middle
 /// among the rules from `first` on.
 fn push_if_needed(
-    rules: &mut Vec<Rule>,
+    rules: &mut Vec<Rule, &Bump>,
     first: usize,
     members: &[Member],
     nudge: i64,
@@ -182,10 +188,10 @@ fn is_closed(
 
 /// Appends few of the rules from the run at `at`, in their order.
 fn push_few_of(
-    rules: &mut Vec<Rule>,
+    rules: &mut Vec<Rule, &Bump>,
     members: &[Member],
     clear: &[i64],
-    nexts: &Nexts,
+    nexts: &Nexts<'_>,
     nudge: i64,
     at: usize,
 ) -> Result<(), AllocError>
@@ -216,20 +222,21 @@ fn push_few_of(
 }
 
 /// Few of the links between the runs as rules, by their left items and then by their right ones.
-pub(crate) fn few_rules(
+pub(crate) fn few_rules<'a>(
     alloc: Global,
+    bump: &'a Bump,
     members: &[Member],
     nudge: i64,
-) -> Result<Vec<Rule>, AllocError>
+) -> Result<Vec<Rule, &'a Bump>, AllocError>
     requires members { All IsMember members.now }
     requires few { length members.now ≤ most_items }
     requires rising { AreRising members.now }
     requires nudge { IsNudge nudge }
     ensures { IfOk result (λ rules. AreKept nudge members.now rules.items) }
 {
-    let clear = first_clear(alloc, members)?;
-    let nexts = find_nexts(alloc, members, nudge)?;
-    let mut rules = Vec::new(alloc);
+    let clear = first_clear(bump, members)?;
+    let nexts = find_nexts(alloc, bump, members, nudge)?;
+    let mut rules = Vec::new(bump);
     for at in 0..members.len() {
         push_few_of(&mut rules, members, &clear, &nexts, nudge, at)?;
     }

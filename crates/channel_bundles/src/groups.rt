@@ -1,4 +1,4 @@
-//! Groups of runs that no link leaves, found without a test of pairs.
+//! Groups of runs, by which runs without a link are parted without a test of pairs.
 ghost use Rattle.std.specs.Prelude.{◌≡◌, ◌≢◌, ◌⊎◌, ℕ, ◌<◌, ◌<ℤ◌, ◌≤ℤ◌, All, AllPairs, Contains, IfOk, length, slice_index};
 ghost use Rattle.channel_bundles.specs.Classes.{Connected, IsForest, LeadsUp};
 ghost use Rattle.channel_bundles.specs.Links.{IsLink, IsMember, IsNudge, member_at};
@@ -7,6 +7,7 @@ ghost use Rattle.channel_bundles.specs.Groups.{AreGroups, AreNext, AreTogether, 
 
 use crate::forest::Forest;
 use crate::member::Member;
+use bumpalo::Bump;
 use std::alloc::{AllocError, Global};
 
 /// By what runs are parted: their limits, their ranges along the way, their edges, or fours of
@@ -23,9 +24,9 @@ pub(crate) enum By {
 /// Two ways to part the runs of an edge, so that two with one run between them are together in one
 /// of them.
 #[derive(Drop)]
-pub(crate) struct Fours {
-    pub(crate) early: Vec<usize>,
-    pub(crate) late: Vec<usize>,
+pub(crate) struct Fours<'a> {
+    pub(crate) early: Vec<usize, &'a Bump>,
+    pub(crate) late: Vec<usize, &'a Bump>,
 }
 
 /// What the run at the place takes up, from `lo` to before `hi`, among the runs of its group.
@@ -36,6 +37,9 @@ struct Span {
     hi: i64,
     place: usize,
 }
+
+/// The bytes that parting needs for a run: two spans and a tree.
+const ROOM_FOR_RUN: usize = 72;
 
 /// Where what the run takes up begins.
 fn begin_of(member: &Member, by: By) -> i64
@@ -66,13 +70,13 @@ fn end_of(member: &Member, by: By, nudge: i64) -> i64
 }
 
 /// What the runs take up, by where it begins.
-fn spans_of(
-    alloc: Global,
+fn spans_of<'a>(
+    bump: &'a Bump,
     members: &[Member],
     groups: &[usize],
     by: By,
     nudge: i64,
-) -> Result<Vec<Span>, AllocError>
+) -> Result<Vec<Span, &'a Bump>, AllocError>
     requires members { All IsMember members.now }
     requires groups { AreGroups (length members.now) groups.now }
     requires nudge { IsNudge nudge }
@@ -81,7 +85,7 @@ fn spans_of(
         Contains spans.items (span_at by nudge members.now groups.now k)) }
     ensures order { IfOk result (λ spans. AllPairs (λ a b. a.lo ≤ℤ b.lo) spans.items) }
 {
-    let mut spans = Vec::new(alloc);
+    let mut spans = Vec::with_capacity(bump, members.len())?;
     for place in 0..members.len() {
         spans.push(Span {
             group: groups[place],
@@ -95,7 +99,7 @@ fn spans_of(
 }
 
 /// Joins the trees of two runs whose spans meet, the second of which does not begin earlier.
-fn join_where_met(forest: &mut Forest, far: &Span, span: &Span)
+fn join_where_met(forest: &mut Forest<'_>, far: &Span, span: &Span)
     requires forest { IsForest forest.old.above.items }
     requires far { far.now.place < length forest.old.above.items }
     requires span { span.now.place < length forest.old.above.items }
@@ -121,7 +125,7 @@ fn farther(far: Span, span: Span) -> Span
 
 /// Joins the trees of runs of one group whose spans meet. `farthest` has for each group the span
 /// that ends last of those so far.
-fn join_spans(forest: &mut Forest, farthest: &mut [Span], spans: &[Span])
+fn join_spans(forest: &mut Forest<'_>, farthest: &mut [Span], spans: &[Span])
     requires forest { IsForest forest.old.above.items }
     requires count { length forest.old.above.items ≡ length farthest.old }
     requires each { All (IsSpan (length farthest.old)) spans.now }
@@ -140,13 +144,14 @@ fn join_spans(forest: &mut Forest, farthest: &mut [Span], spans: &[Span])
 }
 
 /// The groups, parted where what their runs take up does not meet.
-fn parted(
+fn parted<'a>(
     alloc: Global,
+    bump: &'a Bump,
     members: &[Member],
     groups: &[usize],
     by: By,
     nudge: i64,
-) -> Result<Vec<usize>, AllocError>
+) -> Result<Vec<usize, &'a Bump>, AllocError>
     requires members { All IsMember members.now }
     requires groups { AreGroups (length members.now) groups.now }
     requires nudge { IsNudge nudge }
@@ -162,19 +167,21 @@ fn parted(
         hi: i64::MIN,
         place: 0,
     };
-    let mut farthest = vec![in alloc; nowhere; count]?;
-    let spans = spans_of(alloc, members, groups, by, nudge)?;
-    let mut forest = Forest::new(alloc, count)?;
+    let own = Bump::try_with_capacity(alloc, count.saturating_mul(ROOM_FOR_RUN))?;
+    let mut farthest = vec![in &own; nowhere; count]?;
+    let spans = spans_of(&own, members, groups, by, nudge)?;
+    let mut forest = Forest::new(&own, count)?;
     join_spans(&mut forest, &mut farthest, &spans);
-    forest.numbers(alloc)
+    forest.numbers(bump)
 }
 
 /// Groups that no spaced link leaves.
-pub(crate) fn channels(
+pub(crate) fn channels<'a>(
     alloc: Global,
+    bump: &'a Bump,
     members: &[Member],
     nudge: i64,
-) -> Result<Vec<usize>, AllocError>
+) -> Result<Vec<usize, &'a Bump>, AllocError>
     requires members { All IsMember members.now }
     requires rising { AreRising members.now }
     requires nudge { IsNudge nudge }
@@ -182,27 +189,37 @@ pub(crate) fn channels(
     ensures together { IfOk result (λ groups. (i j : ℕ) → IsLink nudge members.now i j →
         (member_at members.now i).run.edge ≢ (member_at members.now j).run.edge → AreTogether groups.items i j) }
 {
-    let all = vec![in alloc; 0; members.len()]?;
-    let limits = parted(alloc, members, &all, By::Limits, nudge)?;
-    let ranges = parted(alloc, members, &limits, By::Ranges, nudge)?;
-    let again = parted(alloc, members, &ranges, By::Limits, nudge)?;
-    parted(alloc, members, &again, By::Ranges, nudge)
+    let all = vec![in bump; 0; members.len()]?;
+    let limits = parted(alloc, bump, members, &all, By::Limits, nudge)?;
+    let ranges = parted(alloc, bump, members, &limits, By::Ranges, nudge)?;
+    let again = parted(alloc, bump, members, &ranges, By::Limits, nudge)?;
+    parted(alloc, bump, members, &again, By::Ranges, nudge)
 }
 
 /// The groups of the runs of one edge.
-pub(crate) fn edges(alloc: Global, members: &[Member], nudge: i64) -> Result<Vec<usize>, AllocError>
+pub(crate) fn edges<'a>(
+    alloc: Global,
+    bump: &'a Bump,
+    members: &[Member],
+    nudge: i64,
+) -> Result<Vec<usize, &'a Bump>, AllocError>
     requires members { All IsMember members.now }
     requires nudge { IsNudge nudge }
     ensures groups { IfOk result (λ groups. AreGroups (length members.now) groups.items) }
     ensures together { IfOk result (λ groups. (i j : ℕ) → IsLink nudge members.now i j →
         (member_at members.now i).run.edge ≡ (member_at members.now j).run.edge → AreTogether groups.items i j) }
 {
-    let all = vec![in alloc; 0; members.len()]?;
-    parted(alloc, members, &all, By::Edges, nudge)
+    let all = vec![in bump; 0; members.len()]?;
+    parted(alloc, bump, members, &all, By::Edges, nudge)
 }
 
 /// The runs of one edge, parted by fours in two ways.
-pub(crate) fn in_fours(alloc: Global, members: &[Member], nudge: i64) -> Result<Fours, AllocError>
+pub(crate) fn in_fours<'a>(
+    alloc: Global,
+    bump: &'a Bump,
+    members: &[Member],
+    nudge: i64,
+) -> Result<Fours<'a>, AllocError>
     requires members { All IsMember members.now }
     requires nudge { IsNudge nudge }
     ensures early { IfOk result (λ fours. AreGroups (length members.now) fours.early.items) }
@@ -211,20 +228,23 @@ pub(crate) fn in_fours(alloc: Global, members: &[Member], nudge: i64) -> Result<
         (member_at members.now i).run.edge ≡ (member_at members.now j).run.edge →
         AreTogether fours.early.items i j ⊎ AreTogether fours.late.items i j) }
 {
-    let edges = edges(alloc, members, nudge)?;
-    let early = parted(alloc, members, &edges, By::Fours, nudge)?;
-    let late = parted(alloc, members, &edges, By::LaterFours, nudge)?;
+    let edges = edges(alloc, bump, members, nudge)?;
+    let early = parted(alloc, bump, members, &edges, By::Fours, nudge)?;
+    let late = parted(alloc, bump, members, &edges, By::LaterFours, nudge)?;
     Ok(Fours { early, late })
 }
 
 /// For each run the next one of its group; where there is none, the number of all runs.
-pub(crate) fn next_of_group(alloc: Global, groups: &[usize]) -> Result<Vec<usize>, AllocError>
+pub(crate) fn next_of_group<'a>(
+    bump: &'a Bump,
+    groups: &[usize],
+) -> Result<Vec<usize, &'a Bump>, AllocError>
     requires { AreGroups (length groups.now) groups.now }
     ensures { IfOk result (λ next. AreNext groups.now next.items) }
 {
     let count = groups.len();
-    let mut first = vec![in alloc; count; count]?;
-    let mut next = vec![in alloc; count; count]?;
+    let mut first = vec![in bump; count; count]?;
+    let mut next = vec![in bump; count; count]?;
     let mut at = count;
     while at > 0 {
         at -= 1;

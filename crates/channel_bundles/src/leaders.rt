@@ -1,4 +1,4 @@
-//! Routes that go the same way share a leader, so that their runs are ordered without a walk along them.
+//! Routes with the same runs but for their edges share a leader, so that their runs are ordered without a walk along them.
 ghost use Rattle.std.specs.Prelude.{◌≡◌, ◌↔◌, ◌<◌, IsTrue, length};
 ghost use Rattle.channel_bundles.specs.Leaders.{GoAlike, runs_at, without_edge};
 
@@ -19,7 +19,7 @@ pub(crate) fn is_same_but_for_edge(a: &Run, b: &Run) -> bool
 }
 
 /// The runs of the route at the index; past the end, none.
-pub(crate) fn runs_at(routes: &[PhaseRoute], at: usize) -> &[Run]
+pub(crate) fn runs_at<'r>(routes: &'r [PhaseRoute<'_>], at: usize) -> &'r [Run]
     ensures { result.now ≡ runs_at routes.now at }
 {
     match routes.get(at) {
@@ -45,7 +45,7 @@ fn go_alike(a: &[Run], b: &[Run]) -> bool
 
 /// The index of the first route that goes as the one at the index. A route with few runs leads
 /// itself.
-pub(crate) fn leader_of(routes: &[PhaseRoute], at: usize) -> usize
+pub(crate) fn leader_of(routes: &[PhaseRoute<'_>], at: usize) -> usize
     requires { at < length routes.now }
     ensures { GoAlike (runs_at routes.now result) (runs_at routes.now at) }
 {

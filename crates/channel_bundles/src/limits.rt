@@ -144,7 +144,7 @@ fn clear_of(solids: &[Solid], run: &Run) -> Limits
     limits
 }
 
-impl PhaseRoute {
+impl PhaseRoute<'_> {
     /// The coordinates at which the run before still goes as far as it has to.
     fn reached_before(&self, limits: Limits, k: usize) -> Limits
         requires first { 0 < k }

@@ -9,21 +9,25 @@ ghost use Rattle.channel_bundles.specs.Links.{AreClear, IsLink, IsMember, IsNudg
 use crate::forest::Forest;
 use crate::groups::{channels, edges, next_of_group};
 use crate::member::Member;
+use bumpalo::Bump;
 use separation_model::Rule;
 use std::alloc::{AllocError, Global};
 
 /// The lower limits of the runs.
-fn lower_limits(alloc: Global, members: &[Member]) -> Result<Vec<i64>, AllocError>
+fn lower_limits<'a>(bump: &'a Bump, members: &[Member]) -> Result<Vec<i64, &'a Bump>, AllocError>
     ensures { IfOk result (λ lows. lows.items ≡ map (λ m. m.low) members.now) }
 {
-    members.iter().map(|m| m.low).collect(alloc)
+    members.iter().map(|m| m.low).collect(bump)
 }
 
 /// For each run, the least lower limit of the runs from it on, in their order.
-pub(crate) fn first_clear(alloc: Global, members: &[Member]) -> Result<Vec<i64>, AllocError>
+pub(crate) fn first_clear<'a>(
+    bump: &'a Bump,
+    members: &[Member],
+) -> Result<Vec<i64, &'a Bump>, AllocError>
     ensures { IfOk result (λ clear. AreClear members.now clear.items) }
 {
-    let mut clear = lower_limits(alloc, members)?;
+    let mut clear = lower_limits(bump, members)?;
     let mut next = clear.len();
     while next > 1 {
         next -= 1;
@@ -35,7 +39,7 @@ pub(crate) fn first_clear(alloc: Global, members: &[Member]) -> Result<Vec<i64>,
 /// Joins the tree of the run at `at` with the trees of all later runs of its group to which it is
 /// linked. `next` has for each run the next one of its group.
 fn join_links_of(
-    forest: &mut Forest,
+    forest: &mut Forest<'_>,
     members: &[Member],
     clear: &[i64],
     next: &[usize],
@@ -72,34 +76,35 @@ fn join_links_of(
 
 /// The classes of the runs that links join, by the places of the runs, in the order of their first
 /// runs.
-pub(crate) fn linked_classes(
+pub(crate) fn linked_classes<'a>(
     alloc: Global,
+    bump: &'a Bump,
     members: &[Member],
     nudge: i64,
-) -> Result<Vec<Vec<usize>>, AllocError>
+) -> Result<Vec<Vec<usize, &'a Bump>, &'a Bump>, AllocError>
     requires members { All IsMember members.now }
     requires rising { AreRising members.now }
     requires nudge { IsNudge nudge }
     ensures { IfOk result (λ lists. AreClasses (Connected (IsLink nudge members.now)) (length members.now)
         (map (λ list. list.items) lists.items)) }
 {
-    let clear = first_clear(alloc, members)?;
-    let channels = channels(alloc, members, nudge)?;
-    let near = next_of_group(alloc, &channels)?;
-    let edges = edges(alloc, members, nudge)?;
-    let own = next_of_group(alloc, &edges)?;
-    let mut forest = Forest::new(alloc, members.len())?;
+    let clear = first_clear(bump, members)?;
+    let channels = channels(alloc, bump, members, nudge)?;
+    let near = next_of_group(bump, &channels)?;
+    let edges = edges(alloc, bump, members, nudge)?;
+    let own = next_of_group(bump, &edges)?;
+    let mut forest = Forest::new(bump, members.len())?;
     for at in 0..members.len() {
         join_links_of(&mut forest, members, &clear, &near, nudge, at);
         join_links_of(&mut forest, members, &clear, &own, nudge, at);
     }
-    let classes = forest.classes(alloc)?;
+    let classes = forest.classes(bump)?;
     Ok(classes.lists)
 }
 
 /// Appends the rules from the run at `at` to all later ones to which it is linked, in their order.
 fn push_rules_of(
-    rules: &mut Vec<Rule>,
+    rules: &mut Vec<Rule, &Bump>,
     members: &[Member],
     clear: &[i64],
     nudge: i64,
@@ -129,18 +134,18 @@ fn push_rules_of(
 }
 
 /// All links between the runs as rules, by their earlier runs and then by their later ones.
-pub(crate) fn rules_of(
-    alloc: Global,
+pub(crate) fn rules_of<'a>(
+    bump: &'a Bump,
     members: &[Member],
     nudge: i64,
-) -> Result<Vec<Rule>, AllocError>
+) -> Result<Vec<Rule, &'a Bump>, AllocError>
     requires members { All IsMember members.now }
     requires few { length members.now ≤ most_items }
     requires nudge { IsNudge nudge }
     ensures { IfOk result (λ rules. rules.items ≡ rules_after nudge 0 members.now) }
 {
-    let clear = first_clear(alloc, members)?;
-    let mut rules = Vec::new(alloc);
+    let clear = first_clear(bump, members)?;
+    let mut rules = Vec::new(bump);
     for at in 0..members.len() {
         push_rules_of(&mut rules, members, &clear, nudge, at)?;
     }

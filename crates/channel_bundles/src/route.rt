@@ -3,29 +3,31 @@ ghost use Rattle.std.specs.Prelude.{◌≡◌, ◌↔◌, ◌+◌, ◌-◌, ◌<
 ghost use Rattle.plane_geom.specs.Floor.{Holds};
 ghost use Rattle.segment_order.specs.Run.{line_of_run, run_at};
 
+use bumpalo::Bump;
 use plane_geom::{Point, Way};
 use segment_order::Run;
 
-/// Points that a route has to keep on its runs: its two ports and its checkpoints.
+/// Points that a route has to keep on its runs: its two ports and its checkpoints, which are in the
+/// caller's arena.
 #[derive(Debug, Drop)]
-pub struct RouteAnchors {
+pub struct RouteAnchors<'a> {
     pub source_port: Point,
     pub target_port: Point,
-    pub via: Vec<Point>,
+    pub via: Vec<Point, &'a Bump>,
 }
 
-/// A route of a phase, as all its runs in order.
+/// A route of a phase, as all its runs in order, in the caller's arena.
 ///
 /// The weight, from 1 to 4, is the factor of the squared displacement of its runs.
 #[derive(Debug, Drop)]
-pub struct PhaseRoute {
+pub struct PhaseRoute<'a> {
     pub edge: u32,
-    pub runs: Vec<Run>,
-    pub anchors: RouteAnchors,
+    pub runs: Vec<Run, &'a Bump>,
+    pub anchors: RouteAnchors<'a>,
     pub weight: u32,
 }
 
-impl PhaseRoute {
+impl PhaseRoute<'_> {
     ghost use Rattle.channel_bundles.specs.Route.{IsFixed};
 
     /// The run at the index, from 0.

@@ -69,7 +69,7 @@ pub fn some_shared_paths()
     ensures { HaveSharedPaths }
 {}
 
-/// Right answers of a valid scene have nudged lines, with the solutions of both phases.
+/// Right answers of a valid scene have nudged lines.
 pub fn some_nudged_lines()
     ensures { HaveNudgedLines }
 {}

@@ -28,7 +28,7 @@ ends_valid s commands stay valid directed =
 module _ (one_replies : HaveOneListOfReplies) (one_answers : HaveOneList) (stay : ScenesStayValid) (one_nudged : HaveOneNudged) where
   -- a valid scene has one list of lines
   same_lines : (s : Scene) (answers : List Answer) (lines others : List WrittenRoute) → IsValid s → AreLines s answers lines → AreLines s answers others → lines ≡ others
-  same_lines s answers lines others valid a b = one_nudged s answers a.x_solutions a.y_solutions b.x_solutions b.y_solutions lines others valid a.right a.nudged b.nudged
+  same_lines s answers lines others valid a b = one_nudged s answers lines others valid a.right a.nudged b.nudged
 
   pub comes_to_one : ComesToOne
   comes_to_one tree s commands count text other refused other_refused searched other_searched unrouted other_unrouted valid directed a b =

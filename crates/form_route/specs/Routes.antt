@@ -1,6 +1,5 @@
 -- The result of a script on a diagram: the report, and the diagram of the scene at the end with its nudged lines.
 use Rattle.std.specs.Prelude.{◌≡◌, ℕ, ◌+◌, Bool, List, ◌++◌, length}
-use Rattle.separation_model.specs.declared.bundle.Solution.{Solution}
 use Rattle.gml_text.specs.Tree.{Pairs}
 use Rattle.gml_text.specs.Printed.{printed}
 use Rattle.walk_model.specs.declared.route.Answer.{Answer}
@@ -22,9 +21,7 @@ use Rattle.form_route.specs.Report.{report, has_refusal, script_status, unrouted
 -- the scene routed alone: the first legal walks of its connectors, and their nudged lines
 pub record AreLines (s : Scene) (answers : List Answer) (lines : List WrittenRoute) : Type 0 where
   pub right : AreAnswers s answers
-  pub x_solutions : List Solution
-  pub y_solutions : List Solution
-  pub nudged : IsNudgedScene s answers x_solutions y_solutions lines
+  pub nudged : IsNudgedScene s answers lines
 
 -- the output of a script on the diagram of the tree, whose scene is this one; whether something was refused; the number of searches; and how many connectors have no route
 pub record Routes (tree : Pairs) (s : Scene) (commands : List (ℕ × Command)) (count : Bool) (text : List ℕ) (refused : Bool) (searched : ℕ) (unrouted : Unrouted) : Type 0 where

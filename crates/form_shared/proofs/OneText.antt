@@ -13,6 +13,6 @@ comes_to_one one_answers one_nudged one_paths s text other valid a b =
     let b_paths : AreSharedPaths (raw_runs a.answers) b.paths = subst (λ as_. AreSharedPaths (raw_runs as_) b.paths) same b.are_paths in
     let b_crossed : CountsCrossings s a.answers b.crossings = subst (λ as_. CountsCrossings s as_ b.crossings) same b.crossed in
     let paths = one_paths (raw_runs a.answers) a.paths b.paths a.are_paths b_paths in
-    let lines = one_nudged s a.answers a.crossed.x_solutions a.crossed.y_solutions b_crossed.x_solutions b_crossed.y_solutions a.crossed.lines b_crossed.lines valid a.right a.crossed.nudged b_crossed.nudged in
+    let lines = one_nudged s a.answers a.crossed.lines b_crossed.lines valid a.right a.crossed.nudged b_crossed.nudged in
     let crossings = a.crossed.counted ∙ ap (λ ls. crossing_count (line_runs ls)) lines ∙ sym b_crossed.counted in
     a.is_text ∙ (λ i. shared_lines (paths i) ++ crossings_line (crossings i)) ∙ sym b.is_text

@@ -1,7 +1,6 @@
 -- What is written of a scene's shared paths and crossings.
 use Rattle.std.specs.Prelude.{◌≡◌, ℕ, List, ◌++◌, length, map}
 use Rattle.plane_geom.specs.declared.point.Point.{Point}
-use Rattle.separation_model.specs.declared.bundle.Solution.{Solution}
 use Rattle.walk_model.specs.declared.route.Answer.{Answer}
 use Rattle.walk_model.specs.declared.route.Route.{Route}
 use Rattle.walk_model.specs.declared.route.WrittenRoute.{WrittenRoute}
@@ -33,10 +32,8 @@ line_runs lines = map (λ (l : WrittenRoute). edge_runs l.edge l.points) lines
 
 -- this is how often the nudged lines of the answers cross
 pub record CountsCrossings (s : Scene) (answers : List Answer) (count : ℕ) : Type 0 where
-  pub x_solutions : List Solution
-  pub y_solutions : List Solution
   pub lines : List WrittenRoute
-  pub nudged : IsNudgedScene s answers x_solutions y_solutions lines
+  pub nudged : IsNudgedScene s answers lines
   pub counted : count ≡ crossing_count (line_runs lines)
 
 -- the lines on the paths that the right routes of the scene share, and the line on the crossings of its nudged lines

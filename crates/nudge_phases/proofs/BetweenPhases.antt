@@ -93,9 +93,10 @@ module _ (way : Way) (found : List RunBundle) (solutions : List Solution) (befor
   }
 
 pub is_phase : (solids : List Solid) (before between after : List PhaseRoute) (way : Way) (nudge : ℤ) (found : List RunBundle) (solutions : List Solution) → AreBundles solids before way nudge found →
-    AreSolutionsOf found solutions → AreEach (IsPut way found solutions) before between → AreEach (HasFollowed way) between after → IsPhase solids before way nudge after solutions
+    AreSolutionsOf found solutions → AreEach (IsPut way found solutions) before between → AreEach (HasFollowed way) between after → IsPhase solids before way nudge after
 is_phase solids before between after way nudge found solutions bundles solved puts follows = record {
   found = found;
+  solutions = solutions;
   bundles = bundles;
   solved = solved.count;
   each = solved.each;
@@ -105,7 +106,7 @@ is_phase solids before between after way nudge found solutions bundles solved pu
       moved way found solutions r q.0 s (puts.each k r q.0 at_r q.1) (follows.each k q.0 s q.1 at_s);
 }
 
-module _ (solids : List Solid) (before : List PhaseRoute) (way : Way) (nudge : ℤ) (after : List PhaseRoute) (solutions : List Solution) (phase : IsPhase solids before way nudge after solutions) where
+module _ (solids : List Solid) (before : List PhaseRoute) (way : Way) (nudge : ℤ) (after : List PhaseRoute) (phase : IsPhase solids before way nudge after) where
   -- a phase keeps the order of the edges
   pub phase_rises : EdgesRise before → EdgesRise after
   phase_rises rise = still_rise before after phase.count (λ k r s e f. (phase.moved k r s e f).edge) rise
@@ -134,14 +135,14 @@ module _ (solids : List Solid) (raw : List PhaseRoute) (nudge : ℤ) (are_raw : 
   pub raw_may_move : All (MayMove solids Vertical) raw
   raw_may_move k d h = may_stand solids Vertical (get_or raw k d) (are_raw.ready k d h) (are_raw.long k d h) (legal k d h)
 
-  module _ (after_x : List PhaseRoute) (xs : List Solution) (x : IsPhase solids raw Vertical nudge after_x xs) where
+  module _ (after_x : List PhaseRoute) (x : IsPhase solids raw Vertical nudge after_x) where
     pub x_ready_all : All IsReady after_x
-    x_ready_all = x_ready solids raw nudge after_x xs x are_raw
+    x_ready_all = x_ready solids raw nudge after_x x are_raw
 
     pub x_may_move : All (MayMove solids Horizontal) after_x
     x_may_move = all_after (MayMove solids Horizontal) raw after_x x.count
         (λ k r s at_r at_s. let has = all_read (HasLegalWalk solids) raw k r legal at_r in
-        (both_may_move solids raw nudge after_x xs x are_raw k r s at_r at_s has.start has.end has.is_start has.is_end has.source has.target has.legal).1)
+        (both_may_move solids raw nudge after_x x are_raw k r s at_r at_s has.start has.end has.is_start has.is_end has.source has.target has.legal).1)
 
-    pub y_ready_all : (after_y : List PhaseRoute) (ys : List Solution) → IsPhase solids after_x Horizontal nudge after_y ys → All IsReady after_y
-    y_ready_all after_y ys y = phase_ready solids after_x Horizontal nudge after_y ys y x_ready_all (x_edges solids raw nudge after_x xs x are_raw) (x_vertical solids raw nudge after_x xs x are_raw)
+    pub y_ready_all : (after_y : List PhaseRoute) → IsPhase solids after_x Horizontal nudge after_y → All IsReady after_y
+    y_ready_all after_y y = phase_ready solids after_x Horizontal nudge after_y y x_ready_all (x_edges solids raw nudge after_x x are_raw) (x_vertical solids raw nudge after_x x are_raw)

@@ -5,7 +5,6 @@ use Rattle.std.proofs.lemmas.List.Elements.{All-weaker}
 use Rattle.std.proofs.lemmas.Option.{slice_get_within}
 use Rattle.plane_geom.specs.declared.point.Point.{Point}
 use Rattle.plane_geom.specs.declared.point.Dir.{Dir}
-use Rattle.separation_model.specs.declared.bundle.Solution.{Solution}
 use Rattle.segment_order.specs.declared.run.Run.{Run}
 use Rattle.segment_order.specs.Run.{runs_along}
 use Rattle.walk_model.specs.declared.route.Answer.{Answer}
@@ -62,7 +61,7 @@ few_of_route s v p a =
     let few = few_in_all (floor_of s) (task_of s a.edge) a.triple (floors_fit s v) holds.task.is_task holds.floor a.first in
     omega (arith, few, a.route_of.corners)
 
-module _ (s : Scene) (answers : List Answer) (xs ys : List Solution) (lines : List WrittenRoute) (v : IsValid s) (are : AreAnswers s answers) (is : IsNudgedScene s answers xs ys lines) where
+module _ (s : Scene) (answers : List Answer) (lines : List WrittenRoute) (v : IsValid s) (are : AreAnswers s answers) (is : IsNudgedScene s answers lines) where
   as_many : length (routed answers) ≡ length lines
   as_many =
       let a = zip_count (λ p r. IsRawRoute s p.0 p.1 r) (routed answers) is.raw is.are_raw in
@@ -95,4 +94,4 @@ module _ (s : Scene) (answers : List Answer) (xs ys : List Solution) (lines : Li
   }
 
 pub have_few_points : HaveFewPoints
-have_few_points s answers xs ys lines v are is = few_points s answers xs ys lines v are is
+have_few_points s answers lines v are is = few_points s answers lines v are is

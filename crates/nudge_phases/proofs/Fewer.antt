@@ -1,6 +1,6 @@
 -- Solutions of bundles with few rules are solutions of the bundles with all.
-use Rattle.std.proofs.Common.{◌≡◌, ℕ, ◌<◌, ◌^◌, ℤ, pos, ◌≤ℤ◌, Some, List, [], ◌∷◌, Vec, Global, length, get_or, sym, ap, subst, subst₂, ◌∙◌, arith}
-use Rattle.std.specs.Prelude.{All, Contains, slice_get}
+use Rattle.std.proofs.Common.{◌≡◌, ℕ, ◌<◌, ◌^◌, ℤ, pos, ◌≤ℤ◌, Some, List, [], ◌∷◌, Vec, zero, suc, length, refl, get_or, sym, ap, subst, subst₂, ◌∙◌, arith}
+use Rattle.std.specs.Prelude.{All, Contains, slice_get, slice_index}
 use Rattle.std.proofs.lemmas.Int.{ints}
 use Rattle.std.proofs.lemmas.List.Elements.{All-get_or, All-from_get_or}
 use Rattle.std.proofs.lemmas.Option.{slice_get_within, slice_get-get_or, get_or_from_slice_get}
@@ -9,19 +9,20 @@ use Rattle.plane_geom.specs.declared.rect.Solid.{Solid}
 use Rattle.segment_order.specs.declared.run.Run.{Run}
 use Rattle.separation_model.specs.declared.bundle.Rule.{Rule}
 use Rattle.separation_model.specs.declared.bundle.Solution.{Solution}
-use Rattle.separation_model.specs.Bundle.{IsBundle}
+use Rattle.separation_model.specs.Bundle.{IsBundle, int_at}
+use Rattle.separation_model.specs.Rounded.{IsRoundedDown}
 use Rattle.separation_model.specs.Certified.{IsAccepted, IsSmall, all_multipliers}
 use Rattle.separation_model.specs.Padded.{ArePadded}
 use Rattle.separation_model.proofs.Chains.{one_least, one_widest_gap}
 use Rattle.separation_model.proofs.Padded.{padded_certified, padded_each, padded_length, padded_sum}
+use Rattle.separation_model.specs.Arena.{Arena}
 use Rattle.channel_bundles.specs.declared.route.PhaseRoute.{PhaseRoute}
 use Rattle.channel_bundles.specs.declared.channel.RunBundle.{RunBundle}
 use Rattle.channel_bundles.specs.Few.{AreAmong, AreFewBundles, IsFewOf}
 use Rattle.nudge_phases.specs.Moved.{IsPutAt}
 use Rattle.nudge_phases.specs.Phase.{IsPhase, IsSolutionOf}
-use Rattle.nudge_phases.specs.Steps.{AreBundlesIn, AreEach, AreSolutionsOf, HasFollowed, IsPut, IsRunIn}
+use Rattle.nudge_phases.specs.Steps.{AreBundlesIn, AreEach, AreSettledIn, AreSolutionsOf, HasFollowed, IsPut, IsRunIn}
 use Rattle.nudge_phases.proofs.BetweenPhases.{is_phase}
-use Rattle.nudge_phases.proofs.ByFew.{shown_by_fewer}
 use Rattle.nudge_phases.proofs.Covering.{bundles_in}
 use Rattle.nudge_phases.proofs.RouteRuns.{some_read}
 
@@ -38,7 +39,7 @@ padded few all own (AreAmong.left_out r rs ss among) e =
     (pos 0 ∷ p.0, ArePadded.left_out r ss p.0 rs own p.1)
 
 -- a `Vec` as long as another one, with the elements of the list
-abbrev pub vec_like : {X Y : Type 0} (v : Vec X Global) (ys : List Y) → length ys ≡ length v.items → Vec Y Global
+abbrev pub vec_like : {X Y : Type 0} (v : Vec X Arena) (ys : List Y) → length ys ≡ length v.items → Vec Y Arena
 vec_like v ys e = record { ptr = v.ptr; len = v.len; cap = v.cap; alloc = v.alloc; items = ys; ok = (v.ok.0 ∙ sym e, v.ok.1); small = v.small }
 
 module _ (b few : RunBundle) (own : Solution) (good : IsBundle b.bundle) (is_few : IsFewOf b few) (a : IsAccepted few.bundle own) where
@@ -76,16 +77,37 @@ module _ (b few : RunBundle) (own : Solution) (good : IsBundle b.bundle) (is_few
     certified = padded_certified b.bundle few.bundle own whole good is_few.reduced a.gap_low a.certified are;
   }
 
--- a solution of the few is one of all
-pub solution_of_all : (b few : RunBundle) (s : Solution) → IsBundle b.bundle → IsFewOf b few → IsSolutionOf few.bundle s → IsSolutionOf b.bundle s
-solution_of_all b few s good is_few is =
-    let own : Solution = record s { mult = is.shown.0 } in
+-- a solution of all at the positions of one of the few
+abbrev IsWiderOf : RunBundle → Solution → Solution → Type 0
+IsWiderOf b s w = IsSolutionOf b.bundle w × (w.pos.items ≡ s.pos.items) × (w.den.items ≡ s.den.items)
+
+-- a solution of the few is one of all, with 0 at the rules that were left out
+solution_of_all : (b few : RunBundle) (s : Solution) → IsBundle b.bundle → IsFewOf b few → IsSolutionOf few.bundle s → (w : Solution) × IsWiderOf b s w
+solution_of_all b few s good is_few is = (
+  whole b few s good is_few is.accepted,
+  (
     record {
       gap = one_widest_gap b.bundle few.bundle s.gap good is_few.reduced is.gap;
       least = one_least b.bundle few.bundle s.gap s.den.items s.pos.items good is_few.reduced is.gap.low is.least;
-      shown = ((whole b few own good is_few is.shown.1).mult, accepted b few own good is_few is.shown.1);
-      by_few = shown_by_fewer b.bundle few.bundle s is_few.reduced is.by_few;
-    }
+      accepted = accepted b few s good is_few is.accepted;
+    },
+    refl,
+    refl,
+  ),
+)
+
+one_more : {Y : Type 0} (P : ℕ → Y → Type 0) (n : ℕ) (y : Y) (ys : List Y) → P zero y → ((k : ℕ) (d : Y) → k < n → P (suc k) (get_or ys k d)) →
+    (k : ℕ) (d : Y) → k < suc n → P k (get_or (y ∷ ys) k d)
+one_more P n y ys is more zero d h = is
+one_more P n y ys is more (suc k) d h = more k d (omega (arith, h))
+
+-- where each number below n has a partner, there is a list of partners
+partners : {Y : Type 0} (P : ℕ → Y → Type 0) (n : ℕ) → ((k : ℕ) → k < n → (y : Y) × P k y) → (ys : List Y) × (length ys ≡ n) × ((k : ℕ) (d : Y) → k < n → P k (get_or ys k d))
+partners P zero has = ([], refl, λ k d h. absurd (omega (arith, h)))
+partners P (suc n) has =
+    let first = has zero (omega arith) in
+    let rest = partners (λ k. P (suc k)) n (λ k h. has (suc k) (omega (arith, h))) in
+    (first.0 ∷ rest.0, ap suc rest.1, one_more P n first.0 rest.0 first.1 rest.2)
 
 module _ (solids : List Solid) (routes : List PhaseRoute) (way : Way) (nudge : ℤ) (few : List RunBundle) (are : AreFewBundles solids routes way nudge few) where
   abbrev found : List RunBundle
@@ -134,29 +156,58 @@ module _ (solids : List Solid) (routes : List PhaseRoute) (way : Way) (nudge : �
   }
 
   module _ (solutions : List Solution) (solved : AreSolutionsOf few solutions) where
-    all_solved : AreSolutionsOf found solutions
+    -- the solution at the place, of the bundle there with all its rules
+    abbrev IsWiderAt : ℕ → Solution → Type 0
+    IsWiderAt k w = (b : RunBundle) (s : Solution) → slice_get found k ≡ Some b → slice_get solutions k ≡ Some s → IsWiderOf b s w
+
+    wider : (k : ℕ) → k < length found → (w : Solution) × IsWiderAt k w
+    wider k h =
+        let b = some_read found k h in
+        let f = fewer k b.0 b.1 in
+        let s = some_read solutions k (omega (arith, h, solved.count, are.count)) in
+        let w = solution_of_all b.0 f.0 s.0 (read_all (λ (x : RunBundle). IsBundle x.bundle) k b.0 are.accepted b.1) f.2 (solved.each k f.0 s.0 f.1 s.1) in (
+          w.0,
+          λ c t e g. subst₂ (λ x y. IsWiderOf x y w.0)
+              (sym (get_or_from_slice_get found k b.0 b.0 b.1) ∙ get_or_from_slice_get found k c b.0 e)
+              (sym (get_or_from_slice_get solutions k s.0 s.0 s.1) ∙ get_or_from_slice_get solutions k t s.0 g) w.1,
+        )
+
+    abbrev all_wider : (ws : List Solution) × (length ws ≡ length found) × ((k : ℕ) (d : Solution) → k < length found → IsWiderAt k (get_or ws k d))
+    all_wider = partners IsWiderAt (length found) wider
+
+    -- the solutions of the bundles with all their rules
+    abbrev whole_solutions : List Solution
+    whole_solutions = all_wider.0
+
+    all_solved : AreSolutionsOf found whole_solutions
     all_solved = record {
-      count = solved.count ∙ are.count;
-      each = λ k b s e g.
-          let f = fewer k b e in
-          solution_of_all b f.0 s (read_all (λ (x : RunBundle). IsBundle x.bundle) k b are.accepted e) f.2 (solved.each k f.0 s f.1 g);
+      count = all_wider.1;
+      each = λ k b w e g.
+          let here = slice_get_within found k b e in
+          let s = some_read solutions k (omega (arith, here, solved.count, are.count)) in
+          subst (λ x. IsSolutionOf b.bundle x) (get_or_from_slice_get whole_solutions k w w g) (all_wider.2 k w here b s.0 e s.1).0;
     }
 
-    put_at : (r : Run) (z : ℤ) → IsPutAt few solutions r z → IsPutAt found solutions r z
+    put_at : (r : Run) (z : ℤ) → IsPutAt few solutions r z → IsPutAt found whole_solutions r z
     put_at r z at =
         let b = partner at.place at.bundle at.of_bundle in
+        let here = slice_get_within found at.place b.0 b.1 in
+        let w = some_read whole_solutions at.place (omega (arith, here, all_wider.1)) in
+        let same = get_or_from_slice_get whole_solutions at.place w.0 w.0 w.1 in
+        let is = all_wider.2 at.place w.0 here b.0 at.solution b.1 at.of_solution in
         record {
           place = at.place;
           item = at.item;
           bundle = b.0;
-          solution = at.solution;
+          solution = w.0;
           of_bundle = b.1;
-          of_solution = at.of_solution;
+          of_solution = w.1;
           here = ap (λ rs. slice_get rs at.item) (sym b.2.runs) ∙ at.here;
-          down = at.down;
+          down = subst₂ (λ ps ds. IsRoundedDown (int_at ps at.item) (slice_index ds at.item) z)
+              (sym is.1 ∙ ap (λ (x : Solution). x.pos.items) same) (sym is.2 ∙ ap (λ (x : Solution). x.den.items) same) at.down;
         }
 
-    put : (before after : PhaseRoute) → IsPut way few solutions before after → IsPut way found solutions before after
+    put : (before after : PhaseRoute) → IsPut way few solutions before after → IsPut way found whole_solutions before after
     put before after is = record {
       same = is.same;
       count = is.count;
@@ -166,18 +217,15 @@ module _ (solids : List Solid) (routes : List PhaseRoute) (way : Way) (nudge : �
     }
 
     -- the runs where the solutions of the few put them make the phase
-    pub few_phase : (between after : List PhaseRoute) → AreEach (IsPut way few solutions) routes between → AreEach (HasFollowed way) between after → IsPhase solids routes way nudge after solutions
-    few_phase between after puts follows = is_phase solids routes between after way nudge found solutions are.bundles all_solved
+    pub few_phase : (between after : List PhaseRoute) → AreEach (IsPut way few solutions) routes between → AreEach (HasFollowed way) between after → IsPhase solids routes way nudge after
+    few_phase between after puts follows = is_phase solids routes between after way nudge found whole_solutions are.bundles all_solved
         (record { count = puts.count; each = λ k x y e g. put x y (puts.each k x y e g) }) follows
 
 -- the same, of what is equal
-pub phase_of : (solids : List Solid) (routes first second put followed : List PhaseRoute) (way : Way) (nudge : ℤ) (few bundled : List RunBundle) (solutions solved : List Solution) →
-    first ≡ routes → bundled ≡ few → solved ≡ solutions → second ≡ put → AreFewBundles solids routes way nudge few → AreBundlesIn routes way few → AreSolutionsOf few solutions →
-    ((w : Way) → AreBundlesIn first w bundled → AreEach (IsPut w bundled solved) first put) → AreEach (HasFollowed way) second followed → IsPhase solids routes way nudge followed solutions
-phase_of solids routes first second put followed way nudge few bundled solutions solved e f g h bundles are settled puts follows =
-    few_phase solids routes way nudge few bundles solutions settled put followed
-    (subst (λ rs. AreEach (IsPut way few solutions) rs put) e
-    (subst (λ bs. AreEach (IsPut way bs solutions) first put) f
-    (subst (λ ss. AreEach (IsPut way bundled ss) first put) g
-    (puts way (subst₂ (λ rs bs. AreBundlesIn rs way bs) (sym e) (sym f) are)))))
+pub phase_of : (solids : List Solid) (routes first second put followed : List PhaseRoute) (way : Way) (nudge : ℤ) (few bundled : List RunBundle) →
+    first ≡ routes → bundled ≡ few → second ≡ put → AreFewBundles solids routes way nudge few → AreBundlesIn routes way few →
+    AreSettledIn bundled first put → AreEach (HasFollowed way) second followed → IsPhase solids routes way nudge followed
+phase_of solids routes first second put followed way nudge few bundled e f h bundles are settles follows =
+    let settled = subst₂ (λ bs rs. AreSettledIn bs rs put) f e settles in
+    few_phase solids routes way nudge few bundles settled.solutions settled.solved put followed (settled.put way are)
     (subst (λ rs. AreEach (HasFollowed way) rs followed) h follows)

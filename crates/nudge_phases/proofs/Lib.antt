@@ -6,11 +6,11 @@ pub mod OneOfEach
 pub mod BothPhases
 pub mod RouteRuns
 pub mod Putting
+pub mod Settling
 pub mod Covering
 pub mod Following
 pub mod Cornering
 pub mod BetweenPhases
-pub mod ByFew
 pub mod Fewer
 pub mod Zips
 pub mod Turning

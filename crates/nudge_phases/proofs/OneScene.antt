@@ -70,29 +70,30 @@ moved_alike way found solutions a b after same is = record {
 }
 
 -- a phase of routes is one of routes that are alike
-phase_alike : (solids : List Solid) (before others : List PhaseRoute) (way : Way) (nudge : ℤ) (after : List PhaseRoute) (solutions : List Solution) → AreRoutesAlike before others →
-    AllPairs (λ (r s : PhaseRoute). r.edge ≢ s.edge) before → IsPhase solids before way nudge after solutions → IsPhase solids others way nudge after solutions
-phase_alike solids before others way nudge after solutions alike edges is = record {
+phase_alike : (solids : List Solid) (before others : List PhaseRoute) (way : Way) (nudge : ℤ) (after : List PhaseRoute) → AreRoutesAlike before others →
+    AllPairs (λ (r s : PhaseRoute). r.edge ≢ s.edge) before → IsPhase solids before way nudge after → IsPhase solids others way nudge after
+phase_alike solids before others way nudge after alike edges is = record {
   found = is.found;
+  solutions = is.solutions;
   bundles = bundles_alike solids before others alike edges way nudge is.found is.bundles;
   solved = is.solved;
   each = is.each;
   count = is.count ∙ alike.count;
   moved = λ k r s at_r at_s.
       let twin = some_read before k (let h = slice_get_within others k r at_r in let count = alike.count in omega (arith, h, count)) in
-      moved_alike way is.found solutions twin.0 r s (alike.each k twin.0 r twin.1 at_r) (is.moved k twin.0 s twin.1 at_s);
+      moved_alike way is.found is.solutions twin.0 r s (alike.each k twin.0 r twin.1 at_r) (is.moved k twin.0 s twin.1 at_s);
 }
 
 pub one_nudged_scene : HaveOneNudged
-one_nudged_scene s answers xs ys other_xs other_ys lines others v are one two =
+one_nudged_scene s answers lines others v are one two =
     let alike = raws_alike s answers two.raw one.raw two.are_raw one.are_raw in
     let other = two.nudged in
     let nudge = s.settings.nudge in
-    one_nudged (solids s) one.raw nudge xs ys other_xs other_ys lines others one.nudged
+    one_nudged (solids s) one.raw nudge lines others one.nudged
     (record {
       after_x = other.after_x;
       after_y = other.after_y;
-      x = phase_alike (solids s) two.raw one.raw Vertical nudge other.after_x other_xs alike (raw_are s answers v are two.raw two.are_raw).edges other.x;
+      x = phase_alike (solids s) two.raw one.raw Vertical nudge other.after_x alike (raw_are s answers v are two.raw two.are_raw).edges other.x;
       y = other.y;
       count = other.count;
       written = other.written;

@@ -21,7 +21,7 @@ use Rattle.channel_bundles.specs.Route.{IsPhaseRoute}
 use Rattle.channel_bundles.proofs.Trees.{cases_below, cases_same}
 use Rattle.nudge_phases.specs.Moved.{IsPutAt}
 use Rattle.nudge_phases.specs.Rising.{EdgesRise}
-use Rattle.nudge_phases.specs.Steps.{AreEach, HasPlaceOf, IsPut, IsPutIfOwn, IsPutSoFar, IsPutTo, IsRunIn, IsSameButRuns}
+use Rattle.nudge_phases.specs.Steps.{AreEach, CarriesOn, HasPlaceOf, IsPut, IsPutIfOwn, IsPutSoFar, IsPutTo, IsRunIn, IsSameButRuns}
 use Rattle.nudge_phases.proofs.RouteRuns.{all_read, one_place, one_route, run_edge, run_is, run_place, some_read}
 
 abbrev at_z : Run → ℤ → Run
@@ -184,12 +184,6 @@ puts_same r z now new puts = record {
   each = λ k s u at_s at_u. let put = puts.each k s u at_s at_u in
       cases_same {P = IsSameButRuns s u} s.edge r.edge (λ e. (put.own e).same) (λ ne. subst (IsSameButRuns s) (sym (put.others ne)) (same_runs s));
 }
-
--- moving these runs leads from routes with the runs done so far moved to routes with these runs moved as well
-abbrev pub CarriesOn : RunBundle → Solution → List Run → List PhaseRoute → List PhaseRoute → Type 0
-CarriesOn b solution runs old new = (way : Way) (found : List RunBundle) (solutions : List Solution) (place : ℕ) (done : List Run) (before : List PhaseRoute) →
-    slice_get found place ≡ Some b → slice_get solutions place ≡ Some solution → All IsPhaseRoute before → EdgesRise before → All (IsRunIn before way) b.runs.items →
-    AreEach (IsPutSoFar way found solutions done) before old → AreEach (IsPutSoFar way found solutions (done ++ runs)) before new
 
 pub carries_none : (b : RunBundle) (solution : Solution) (old : List PhaseRoute) → CarriesOn b solution [] old old
 carries_none b solution old way found solutions place done before at_b at_s good rise own so = subst (λ ds. AreEach (IsPutSoFar way found solutions ds) before old) (sym (append-nil done)) so

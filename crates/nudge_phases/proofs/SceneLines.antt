@@ -6,7 +6,6 @@ use Rattle.std.proofs.lemmas.Option.{slice_get_within}
 use Rattle.plane_geom.specs.declared.point.Way.{Way}
 use Rattle.plane_geom.specs.declared.rect.Solid.{Solid}
 use Rattle.separation_model.specs.Bundle.{most_items}
-use Rattle.separation_model.specs.declared.bundle.Solution.{Solution}
 use Rattle.plane_geom.specs.declared.point.Point.{Point}
 use Rattle.walk_model.specs.declared.route.Answer.{Answer}
 use Rattle.walk_model.specs.declared.route.Route.{Route}
@@ -32,7 +31,7 @@ use Rattle.nudge_phases.proofs.Answered.{answered, few_answered, numbers_rise}
 use Rattle.nudge_phases.proofs.RawReady.{AreGood, IsGoodRaw, all_good, all_legal, are_raw, edges_rise, few_enough}
 use Rattle.nudge_phases.proofs.Zips.{zip_count, zip_from, zip_map, zip_read}
 
-module _ (s : Scene) (answers : List Answer) (raw : List PhaseRoute) (nudge : ℤ) (xs ys : List Solution) (lines : List WrittenRoute) (good : AreGood s (routed answers) raw) (nudged : IsNudged (solids s) raw nudge xs ys lines) where
+module _ (s : Scene) (answers : List Answer) (raw : List PhaseRoute) (nudge : ℤ) (lines : List WrittenRoute) (good : AreGood s (routed answers) raw) (nudged : IsNudged (solids s) raw nudge lines) where
   as_many : length (routed answers) ≡ length lines
   as_many =
       let a = zip_count (λ p r. IsGoodRaw s p.0 p.1 r) (routed answers) raw good in
@@ -89,34 +88,34 @@ module _ (s : Scene) (answers : List Answer) (v : IsValid s) (are : AreAnswers s
   raw_few raw zip = few_enough s (routed answers) raw (good_raws raw zip) (numbers_rise s answers v are) (few_answered s answers v are)
 
   abbrev pub IsOf : Nudged → Type 0
-  IsOf n = IsNudgedScene s answers n.x_solutions.items n.y_solutions.items n.routes.items
+  IsOf n = IsNudgedScene s answers n.routes.items
 
-  pub scene_apart : (xs ys : List Solution) (lines : List WrittenRoute) (p : IsNudgedScene s answers xs ys lines) → KeepsApart p.nudged.x × KeepsApart p.nudged.y
-  scene_apart xs ys lines p = nudged_is_apart (solids s) p.raw s.settings.nudge xs ys lines p.nudged (raw_are p.raw p.are_raw)
+  pub scene_apart : (lines : List WrittenRoute) (p : IsNudgedScene s answers lines) → KeepsApart p.nudged.x × KeepsApart p.nudged.y
+  scene_apart lines p = nudged_is_apart (solids s) p.raw s.settings.nudge lines p.nudged (raw_are p.raw p.are_raw)
 
-  pub scene_legal : (xs ys : List Solution) (lines : List WrittenRoute) → IsNudgedScene s answers xs ys lines → AreLegalNudgedLines s answers lines
-  scene_legal xs ys lines p =
-      lines_legal s answers p.raw s.settings.nudge xs ys lines (good_raws p.raw p.are_raw) p.nudged
-      (nudged_is_legal (solids s) p.raw s.settings.nudge xs ys lines p.nudged (raw_are p.raw p.are_raw))
+  pub scene_legal : (lines : List WrittenRoute) → IsNudgedScene s answers lines → AreLegalNudgedLines s answers lines
+  scene_legal lines p =
+      lines_legal s answers p.raw s.settings.nudge lines (good_raws p.raw p.are_raw) p.nudged
+      (nudged_is_legal (solids s) p.raw s.settings.nudge lines p.nudged (raw_are p.raw p.are_raw))
 
   pub apart : (r : Result Nudged AllocError) → IfOk r (λ n. (p : IsOf n) → KeepsApart p.nudged.x × KeepsApart p.nudged.y)
-  apart (Ok n) = scene_apart n.x_solutions.items n.y_solutions.items n.routes.items
+  apart (Ok n) = scene_apart n.routes.items
   apart (Err e) = tt
 
   -- the result for the raw routes is what is promised of the scene
   pub made : (r : Result Nudged AllocError) (floor : List Solid) (raw : List PhaseRoute) (nudge : ℤ) → floor ≡ solids s → nudge ≡ s.settings.nudge → AreRawRoutes s answers raw →
-      IfOk r (λ n. IsNudged floor raw nudge n.x_solutions.items n.y_solutions.items n.routes.items) → IfOk r IsOf
+      IfOk r (λ n. IsNudged floor raw nudge n.routes.items) → IfOk r IsOf
   made (Ok n) floor raw nudge e f zip is = record {
     raw = raw;
     are_raw = zip;
-    nudged = subst₂ (λ fs z. IsNudged fs raw z n.x_solutions.items n.y_solutions.items n.routes.items) e f is;
+    nudged = subst₂ (λ fs z. IsNudged fs raw z n.routes.items) e f is;
   }
   made (Err x) floor raw nudge e f zip is = tt
 
   pub legal : (r : Result Nudged AllocError) → IfOk r IsOf → IfOk r (λ n. AreLegalNudgedLines s answers n.routes.items)
-  legal (Ok n) p = scene_legal n.x_solutions.items n.y_solutions.items n.routes.items p
+  legal (Ok n) p = scene_legal n.routes.items p
   legal (Err e) p = tt
 
   pub edges : (r : Result Nudged AllocError) → IfOk r IsOf → IfOk r (λ n. map (λ (l : WrittenRoute). l.edge) n.routes.items ≡ map (λ (p : ℕ × Route). p.0) (routed answers))
-  edges (Ok n) p = line_edges s answers p.raw s.settings.nudge n.x_solutions.items n.y_solutions.items n.routes.items (good_raws p.raw p.are_raw) p.nudged
+  edges (Ok n) p = line_edges s answers p.raw s.settings.nudge n.routes.items (good_raws p.raw p.are_raw) p.nudged
   edges (Err e) p = tt

@@ -2,7 +2,6 @@
 use Rattle.std.specs.Prelude.{◌≡◌, ℕ, ◌+◌, ℤ, List, length, slice_get, Some}
 use Rattle.plane_geom.specs.declared.point.Way.TheVariants.{Vertical, Horizontal}
 use Rattle.plane_geom.specs.declared.rect.Solid.{Solid}
-use Rattle.separation_model.specs.declared.bundle.Solution.{Solution}
 use Rattle.walk_model.specs.declared.route.WrittenRoute.{WrittenRoute}
 use Rattle.walk_model.specs.declared.task.Choice.{Choice}
 use Rattle.walk_model.specs.Walk.{Walk}
@@ -20,12 +19,12 @@ pub record IsWrittenLine (route : PhaseRoute) (line : WrittenRoute) : Type 0 whe
   pub draws : Draws line.points (walk_along route.runs.items)
   pub corners : length line.points ≡ runs (walk_along route.runs.items).steps + 1
 
--- the lines that are written after phase x on the raw routes and phase y on its result, with the solutions of both
-pub record IsNudged (solids : List Solid) (raw : List PhaseRoute) (nudge : ℤ) (x_solutions y_solutions : List Solution) (lines : List WrittenRoute) : Type 0 where
+-- the lines that are written after phase x on the raw routes and phase y on its result
+pub record IsNudged (solids : List Solid) (raw : List PhaseRoute) (nudge : ℤ) (lines : List WrittenRoute) : Type 0 where
   pub after_x : List PhaseRoute
   pub after_y : List PhaseRoute
-  pub x : IsPhase solids raw Vertical nudge after_x x_solutions
-  pub y : IsPhase solids after_x Horizontal nudge after_y y_solutions
+  pub x : IsPhase solids raw Vertical nudge after_x
+  pub y : IsPhase solids after_x Horizontal nudge after_y
   pub count : length lines ≡ length after_y
   pub written : (k : ℕ) (route : PhaseRoute) (line : WrittenRoute) → slice_get after_y k ≡ Some route → slice_get lines k ≡ Some line → IsWrittenLine route line
 

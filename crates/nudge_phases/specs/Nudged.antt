@@ -1,7 +1,6 @@
 -- The result of nudging the raw routes of a scene, and the properties of its lines.
 use Rattle.std.specs.Prelude.{◌≡◌, ◌≤◌, ℕ, List, Some, All, length}
 use Rattle.std.specs.List.{AllZip}
-use Rattle.separation_model.specs.declared.bundle.Solution.{Solution}
 use Rattle.walk_model.specs.declared.route.Answer.{Answer}
 use Rattle.walk_model.specs.declared.route.Route.{Route}
 use Rattle.walk_model.specs.declared.route.WrittenRoute.{WrittenRoute}
@@ -18,11 +17,11 @@ use Rattle.nudge_phases.specs.Apart.{KeepsApart}
 use Rattle.nudge_phases.specs.Lines.{IsNudged}
 use Rattle.nudge_phases.specs.Raw.{AreRawRoutes, routed}
 
--- the solutions and lines are those of both phases on the raw routes of the answers
-pub record IsNudgedScene (s : Scene) (answers : List Answer) (x_solutions y_solutions : List Solution) (lines : List WrittenRoute) : Type 0 where
+-- the lines are those of both phases on the raw routes of the answers
+pub record IsNudgedScene (s : Scene) (answers : List Answer) (lines : List WrittenRoute) : Type 0 where
   pub raw : List PhaseRoute
   pub are_raw : AreRawRoutes s answers raw
-  pub nudged : IsNudged (solids s) raw s.settings.nudge x_solutions y_solutions lines
+  pub nudged : IsNudged (solids s) raw s.settings.nudge lines
 
 -- the line of the edge with the number draws a walk that is legal with the choices of its route
 pub record IsLegalNudgedLine (s : Scene) (number : ℕ) (route : Route) (line : WrittenRoute) : Type 0 where
@@ -44,20 +43,20 @@ pub record HasFewPoints (answers : List Answer) (lines : List WrittenRoute) : Ty
 
 -- the law: so it is for right answers of a scene
 abbrev pub HaveFewPoints : Type 0
-HaveFewPoints = (s : Scene) (answers : List Answer) (xs ys : List Solution) (lines : List WrittenRoute) →
-    IsValid s → AreAnswers s answers → IsNudgedScene s answers xs ys lines → HasFewPoints answers lines
+HaveFewPoints = (s : Scene) (answers : List Answer) (lines : List WrittenRoute) →
+    IsValid s → AreAnswers s answers → IsNudgedScene s answers lines → HasFewPoints answers lines
 
 -- right answers of a scene have at most one list of nudged lines
 abbrev pub HaveOneNudged : Type 0
-HaveOneNudged = (s : Scene) (answers : List Answer) (xs ys other_xs other_ys : List Solution) (lines others : List WrittenRoute) →
-    IsValid s → AreAnswers s answers → IsNudgedScene s answers xs ys lines → IsNudgedScene s answers other_xs other_ys others → lines ≡ others
+HaveOneNudged = (s : Scene) (answers : List Answer) (lines others : List WrittenRoute) →
+    IsValid s → AreAnswers s answers → IsNudgedScene s answers lines → IsNudgedScene s answers others → lines ≡ others
 
 -- each nudged line of right answers is legal for its connector
 abbrev pub NudgedScenesAreLegal : Type 0
-NudgedScenesAreLegal = (s : Scene) (answers : List Answer) (xs ys : List Solution) (lines : List WrittenRoute) →
-    IsValid s → AreAnswers s answers → IsNudgedScene s answers xs ys lines → AreLegalNudgedLines s answers lines
+NudgedScenesAreLegal = (s : Scene) (answers : List Answer) (lines : List WrittenRoute) →
+    IsValid s → AreAnswers s answers → IsNudgedScene s answers lines → AreLegalNudgedLines s answers lines
 
 -- both phases on right answers meet every separation of their runs
 abbrev pub NudgedScenesKeepApart : Type 0
-NudgedScenesKeepApart = (s : Scene) (answers : List Answer) (xs ys : List Solution) (lines : List WrittenRoute) →
-    IsValid s → AreAnswers s answers → (n : IsNudgedScene s answers xs ys lines) → KeepsApart n.nudged.x × KeepsApart n.nudged.y
+NudgedScenesKeepApart = (s : Scene) (answers : List Answer) (lines : List WrittenRoute) →
+    IsValid s → AreAnswers s answers → (n : IsNudgedScene s answers lines) → KeepsApart n.nudged.x × KeepsApart n.nudged.y

@@ -1,5 +1,5 @@
 -- The steps of a phase: first the runs of the way move, then the others follow with their corners. No public clause cites this module.
-use Rattle.std.specs.Prelude.{◌≡◌, ◌≢◌, ℕ, ◌-◌, ◌<◌, ◌≤◌, ℤ, List, length, map, slice_get, slice_set, Option, Some, None, All, Contains, if◌then◌else◌}
+use Rattle.std.specs.Prelude.{◌≡◌, ◌≢◌, ℕ, ◌-◌, ◌<◌, ◌≤◌, ℤ, List, ◌++◌, length, map, slice_get, slice_set, Option, Some, None, All, Contains, if◌then◌else◌}
 use Rattle.plane_geom.specs.declared.point.Way.{Way}
 use Rattle.segment_order.specs.declared.run.Run.{Run}
 use Rattle.segment_order.specs.Run.{run_at}
@@ -7,9 +7,10 @@ use Rattle.separation_model.specs.declared.bundle.Solution.{Solution}
 use Rattle.separation_model.specs.Bundle.{IsBundle}
 use Rattle.channel_bundles.specs.declared.route.PhaseRoute.{PhaseRoute}
 use Rattle.channel_bundles.specs.declared.channel.RunBundle.{RunBundle}
-use Rattle.channel_bundles.specs.Route.{is_way}
+use Rattle.channel_bundles.specs.Route.{IsPhaseRoute, is_way}
 use Rattle.nudge_phases.specs.Moved.{IsPutAt, moved_run}
 use Rattle.nudge_phases.specs.Phase.{IsSolutionOf}
+use Rattle.nudge_phases.specs.Rising.{EdgesRise}
 
 -- the lists have the same length, and the relation holds for the two elements at each place
 pub record AreEach {X Y : Type 0} (holds : X → Y → Type 0) (before : List X) (after : List Y) : Type 0 where
@@ -70,12 +71,30 @@ pub record IsPut (way : Way) (found : List RunBundle) (solutions : List Solution
   pub own : (k : ℕ) → k < length before.runs.items → (run_at before.runs.items k).way ≡ way → IsPutAt found solutions (run_at before.runs.items k) (run_at after.runs.items k).at
   pub others : (k : ℕ) → k < length before.runs.items → (run_at before.runs.items k).way ≢ way → (run_at after.runs.items k).at ≡ (run_at before.runs.items k).at
 
+-- moving these runs of the bundle leads from routes with the runs done so far moved to routes with these runs moved as well
+abbrev pub CarriesOn : RunBundle → Solution → List Run → List PhaseRoute → List PhaseRoute → Type 0
+CarriesOn b solution runs before after = (way : Way) (found : List RunBundle) (solutions : List Solution) (place : ℕ) (done : List Run) (first : List PhaseRoute) →
+    slice_get found place ≡ Some b → slice_get solutions place ≡ Some solution → All IsPhaseRoute first → EdgesRise first → All (IsRunIn first way) b.runs.items →
+    AreEach (IsPutSoFar way found solutions done) first before → AreEach (IsPutSoFar way found solutions (done ++ runs)) first after
+
+-- the bundle has a solution, which moves its runs
+pub record IsSettledIn (b : RunBundle) (before after : List PhaseRoute) : Type 0 where
+  pub solution : Solution
+  pub solved : IsSolutionOf b.bundle solution
+  pub carries : CarriesOn b solution b.runs.items before after
+
 -- bundles of the runs of the way of these routes: each run is in one of them
 pub record AreBundlesIn (routes : List PhaseRoute) (way : Way) (found : List RunBundle) : Type 0 where
   pub good : All (λ b. IsBundle b.bundle) found
   pub items : All (λ b. length b.runs.items ≡ length b.bundle.items.items) found
   pub own : All (λ b. All (IsRunIn routes way) b.runs.items) found
   pub whole : (r : Run) → IsRunIn routes way r → (b : RunBundle) × Contains found b × Contains b.runs.items r
+
+-- the bundles have solutions, which put their runs
+pub record AreSettledIn (found : List RunBundle) (before after : List PhaseRoute) : Type 0 where
+  pub solutions : List Solution
+  pub solved : AreSolutionsOf found solutions
+  pub put : (way : Way) → AreBundlesIn before way found → AreEach (IsPut way found solutions) before after
 
 -- the coordinate of the corner with a neighbour along a run: the neighbour's coordinate if that is of the way, otherwise as before
 abbrev pub corner_at : Way → Option Run → ℤ → ℤ

@@ -29,11 +29,11 @@ fn has_length(run: &Run) -> bool
 
 /// The line through the corners of the route. There is no corner at a run without length, nor where
 /// the next run with a length continues in the same heading.
-fn written(alloc: Global, route: &PhaseRoute) -> Result<WrittenRoute, AllocError>
+fn written(alloc: Global, route: &PhaseRoute<'_>) -> Result<WrittenRoute, AllocError>
     requires { AreRunsOf route.now.edge route.now.runs.items }
     ensures { IfOk result (IsWrittenLine route.now) }
 {
-    let mut points = Vec::new(alloc);
+    let mut points = Points::new(alloc);
     let mut at = route.runs[0].start();
     let mut heading = None;
     for run in &route.runs {
@@ -49,19 +49,19 @@ fn written(alloc: Global, route: &PhaseRoute) -> Result<WrittenRoute, AllocError
     points.push(at)?;
     Ok(WrittenRoute {
         edge: route.edge,
-        points: Points(points),
+        points,
     })
 }
 
 /// The lines of the routes, in their order.
 pub(crate) fn written_lines(
     alloc: Global,
-    routes: &[PhaseRoute],
+    routes: &[PhaseRoute<'_>],
 ) -> Result<Vec<WrittenRoute>, AllocError>
     requires { All (λ r. AreRunsOf r.edge r.runs.items) routes.now }
     ensures { IfOk result (λ lines. AreEach IsWrittenLine routes.now lines.items) }
 {
-    let mut lines = Vec::new(alloc);
+    let mut lines = Vec::with_capacity(alloc, routes.len())?;
     for route in routes {
         lines.push(written(alloc, route)?)?;
     }

@@ -1,17 +1,12 @@
 //! How the runs of a phase move: those of its way to their coordinates, and the others with their
 //! corners.
-ghost use Rattle.std.specs.Prelude.{◌≡◌, ℕ, ◌<◌, ◌-◌, ◌+◌, ◌++◌, List, Some, All, length, slice_get};
-ghost use Rattle.plane_geom.specs.declared.point.Way.{Way};
-ghost use Rattle.channel_bundles.specs.Route.{IsPhaseRoute, is_way};
-ghost use Rattle.channel_bundles.specs.declared.route.PhaseRoute.{PhaseRoute};
-ghost use Rattle.channel_bundles.specs.declared.channel.RunBundle.{RunBundle};
-ghost use Rattle.segment_order.specs.declared.run.Run.{Run};
-ghost use Rattle.separation_model.specs.declared.bundle.Solution.{Solution};
+ghost use Rattle.std.specs.Prelude.{◌≡◌, ◌<◌, All, length, slice_get};
+ghost use Rattle.channel_bundles.specs.Route.{is_way};
 ghost use Rattle.separation_model.specs.Bundle.{IsBundle};
 ghost use Rattle.nudge_phases.specs.Moved.{moved_run, stretch};
 ghost use Rattle.nudge_phases.specs.Phase.{IsSolutionOf};
 ghost use Rattle.nudge_phases.specs.Rising.{EdgesRise};
-ghost use Rattle.nudge_phases.specs.Steps.{AreBundlesIn, AreEach, AreSolutionsOf, HasFollowed, HasPlaceOf, HaveFollowed, IsPut, IsPutIfOwn, IsPutSoFar, IsPutTo, IsRunIn, coordinates, corner_at};
+ghost use Rattle.nudge_phases.specs.Steps.{AreEach, CarriesOn, HasFollowed, HasPlaceOf, HaveFollowed, IsPutIfOwn, IsPutTo, coordinates, corner_at};
 
 use channel_bundles::{PhaseRoute, RunBundle};
 use plane_geom::{Dir, Way};
@@ -19,7 +14,7 @@ use segment_order::Run;
 use separation_solve::Solution;
 
 /// Moves the run at the index to the coordinate.
-fn put_run(route: &mut PhaseRoute, k: usize, at: i64)
+fn put_run(route: &mut PhaseRoute<'_>, k: usize, at: i64)
     requires { k < length route.old.runs.items }
     ensures { IsPutTo k at route.old route.new }
 {
@@ -27,7 +22,7 @@ fn put_run(route: &mut PhaseRoute, k: usize, at: i64)
 }
 
 /// Moves a run to the coordinate, in its route and at its place there.
-fn put(routes: &mut [PhaseRoute], run: &Run, at: i64)
+fn put(routes: &mut [PhaseRoute<'_>], run: &Run, at: i64)
     requires edges { EdgesRise routes.old }
     requires there { HasPlaceOf routes.old run.now }
     ensures { AreEach (IsPutIfOwn run.now at) routes.old routes.new }
@@ -38,33 +33,20 @@ fn put(routes: &mut [PhaseRoute], run: &Run, at: i64)
 }
 
 /// Moves the runs of the bundle to the positions of its solution, rounded down.
-fn put_bundle(routes: &mut [PhaseRoute], run_bundle: &RunBundle, solution: &Solution)
+pub(crate) fn put_bundle(
+    routes: &mut [PhaseRoute<'_>],
+    run_bundle: &RunBundle<'_>,
+    solution: &Solution<'_>,
+)
     requires edges { EdgesRise routes.old }
     requires there { All (HasPlaceOf routes.old) run_bundle.now.runs.items }
     requires bundle { IsBundle run_bundle.now.bundle }
     requires items { length run_bundle.now.runs.items ≡ length run_bundle.now.bundle.items.items }
     requires solved { IsSolutionOf run_bundle.now.bundle solution.now }
-    ensures { (way : Way) (found : List RunBundle) (solutions : List Solution) (place : ℕ) (done : List Run) (before : List PhaseRoute) →
-        slice_get found place ≡ Some run_bundle.now → slice_get solutions place ≡ Some solution.now →
-        All IsPhaseRoute before → EdgesRise before → All (IsRunIn before way) run_bundle.now.runs.items →
-        AreEach (IsPutSoFar way found solutions done) before routes.old →
-        AreEach (IsPutSoFar way found solutions (done ++ run_bundle.now.runs.items)) before routes.new }
+    ensures { CarriesOn run_bundle.now solution.now run_bundle.now.runs.items routes.old routes.new }
 {
     for (item, run) in run_bundle.runs.iter().enumerate() {
         put(routes, run, solution.rounded_down(item));
-    }
-}
-
-/// Moves the runs of all bundles to the positions of their solutions, rounded down.
-pub(crate) fn put_all(routes: &mut [PhaseRoute], found: &[RunBundle], solutions: &[Solution])
-    requires routes { All IsPhaseRoute routes.old }
-    requires edges { EdgesRise routes.old }
-    requires bundles { (way : Way) × AreBundlesIn routes.old way found.now }
-    requires solved { AreSolutionsOf found.now solutions.now }
-    ensures { (way : Way) → AreBundlesIn routes.old way found.now → AreEach (IsPut way found.now solutions.now) routes.old routes.new }
-{
-    for (place, run_bundle) in found.iter().enumerate() {
-        put_bundle(routes, run_bundle, &solutions[place]);
     }
 }
 
@@ -122,7 +104,7 @@ fn follow(runs: &mut [Run], way: Way)
 }
 
 /// The same for all routes.
-pub(crate) fn follow_all(routes: &mut [PhaseRoute], way: Way)
+pub(crate) fn follow_all(routes: &mut [PhaseRoute<'_>], way: Way)
     ensures { AreEach (HasFollowed way) routes.old routes.new }
 {
     for route in routes.iter_mut() {

@@ -7,6 +7,7 @@ ghost use Rattle.nudge_phases.specs.Nudged.{AreLegalNudgedLines, IsNudgedScene};
 
 use crate::raw::raw_routes;
 use crate::{Nudged, nudge_routes};
+use bumpalo::Bump;
 use scene_store::Scene;
 use std::alloc::{AllocError, Global};
 use walk_model::Answer;
@@ -20,11 +21,11 @@ use walk_model::Answer;
 /// at which the heading continues is dropped.
 pub fn nudge(alloc: Global, scene: &Scene, answers: &[Answer]) -> Result<Nudged, AllocError>
     requires { AreAnswers scene.now answers.now }
-    // The solutions of both phases and the lines are those of the raw routes.
-    ensures nudged { IfOk result (λ n. IsNudgedScene scene.now answers.now n.x_solutions.items n.y_solutions.items n.routes.items) }
+    // The lines are those of both phases on the raw routes.
+    ensures nudged { IfOk result (λ n. IsNudgedScene scene.now answers.now n.routes.items) }
     // Every separation of a phase is met: by its bundle's gap if it links two runs, otherwise by
     // the wanted nudge.
-    ensures apart { IfOk result (λ n. (p : IsNudgedScene scene.now answers.now n.x_solutions.items n.y_solutions.items n.routes.items) →
+    ensures apart { IfOk result (λ n. (p : IsNudgedScene scene.now answers.now n.routes.items) →
         KeepsApart p.nudged.x × KeepsApart p.nudged.y) }
     // Every line is a legal walk of its connector, with the choices of its route.
     ensures legal { IfOk result (λ n. AreLegalNudgedLines scene.now answers.now n.routes.items) }
@@ -32,7 +33,8 @@ pub fn nudge(alloc: Global, scene: &Scene, answers: &[Answer]) -> Result<Nudged,
     ensures edges { IfOk result (λ n. map (λ l. l.edge) n.routes.items ≡ map (λ p. p.0) (routed answers.now)) }
 {
     let nudge = scene.settings().nudge;
-    let raw = raw_routes(alloc, scene, answers)?;
+    let bump = Bump::new(alloc);
+    let raw = raw_routes(&bump, scene, answers)?;
     let solids = scene.solids()?;
     nudge_routes(alloc, solids.as_slice(), raw, nudge)
 }

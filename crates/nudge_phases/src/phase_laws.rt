@@ -6,7 +6,6 @@ ghost use Rattle.plane_geom.specs.declared.point.Way.TheVariants.{Vertical, Hori
 ghost use Rattle.plane_geom.specs.declared.rect.Solid.{Solid};
 ghost use Rattle.segment_order.specs.declared.run.Run.{Run};
 ghost use Rattle.segment_order.specs.Run.{AreRunsOf, point_at_index, runs_along};
-ghost use Rattle.separation_model.specs.declared.bundle.Solution.{Solution};
 ghost use Rattle.separation_model.specs.Bundle.{IsBundle, most_items};
 ghost use Rattle.channel_bundles.specs.declared.route.PhaseRoute.{PhaseRoute};
 ghost use Rattle.channel_bundles.specs.declared.channel.RunBundle.{RunBundle};
@@ -59,12 +58,12 @@ pub fn legal_walks_hold_ports()
 /// different edges (`ready`, `edges`), and where the walk of a raw route is legal, its runs may
 /// stay as they are in both phases (`stay`).
 pub fn phase_y_accepts()
-    ensures ready { (solids : List Solid) (raw : List PhaseRoute) (nudge : ℤ) (after : List PhaseRoute) (xs : List Solution) →
-        IsPhase solids raw Vertical nudge after xs → AreRaw raw → All IsReady after }
-    ensures edges { (solids : List Solid) (raw : List PhaseRoute) (nudge : ℤ) (after : List PhaseRoute) (xs : List Solution) →
-        IsPhase solids raw Vertical nudge after xs → AreRaw raw → AllPairs (λ r s. r.edge ≢ s.edge) after }
-    ensures stay { (solids : List Solid) (raw : List PhaseRoute) (nudge : ℤ) (after : List PhaseRoute) (xs : List Solution) →
-        IsPhase solids raw Vertical nudge after xs → AreRaw raw →
+    ensures ready { (solids : List Solid) (raw : List PhaseRoute) (nudge : ℤ) (after : List PhaseRoute) →
+        IsPhase solids raw Vertical nudge after → AreRaw raw → All IsReady after }
+    ensures edges { (solids : List Solid) (raw : List PhaseRoute) (nudge : ℤ) (after : List PhaseRoute) →
+        IsPhase solids raw Vertical nudge after → AreRaw raw → AllPairs (λ r s. r.edge ≢ s.edge) after }
+    ensures stay { (solids : List Solid) (raw : List PhaseRoute) (nudge : ℤ) (after : List PhaseRoute) →
+        IsPhase solids raw Vertical nudge after → AreRaw raw →
         (k : ℕ) (route moved : PhaseRoute) → slice_get raw k ≡ Some route → slice_get after k ≡ Some moved →
         (s e : Choice) → IsChoice s → IsChoice e →
         s.port ≡ route.anchors.source_port → e.port ≡ route.anchors.target_port →
@@ -74,14 +73,14 @@ pub fn phase_y_accepts()
 
 /// Where the walk of a raw route is legal, so is the walk that its written line draws.
 pub fn nudged_lines_are_legal()
-    ensures { (solids : List Solid) (raw : List PhaseRoute) (nudge : ℤ) (xs ys : List Solution) (lines : List WrittenRoute) →
-        IsNudged solids raw nudge xs ys lines → AreRaw raw → KeepsLegal solids raw lines }
+    ensures { (solids : List Solid) (raw : List PhaseRoute) (nudge : ℤ) (lines : List WrittenRoute) →
+        IsNudged solids raw nudge lines → AreRaw raw → KeepsLegal solids raw lines }
 {}
 
 /// Both phases keep every separation of their runs.
 pub fn nudged_lines_keep_apart()
-    ensures { (solids : List Solid) (raw : List PhaseRoute) (nudge : ℤ) (xs ys : List Solution) (lines : List WrittenRoute)
-        (nudged : IsNudged solids raw nudge xs ys lines) → AreRaw raw →
+    ensures { (solids : List Solid) (raw : List PhaseRoute) (nudge : ℤ) (lines : List WrittenRoute)
+        (nudged : IsNudged solids raw nudge lines) → AreRaw raw →
         KeepsApart nudged.x × KeepsApart nudged.y }
 {}
 
@@ -97,8 +96,8 @@ pub fn one_list_of_bundles()
 /// Both phases have exactly one result: for raw routes that follow legal walks there is one list of
 /// written lines.
 pub fn one_nudged()
-    ensures { (solids : List Solid) (raw : List PhaseRoute) (nudge : ℤ) (xs ys other_xs other_ys : List Solution) (lines others : List WrittenRoute) →
-        IsNudged solids raw nudge xs ys lines → IsNudged solids raw nudge other_xs other_ys others →
+    ensures { (solids : List Solid) (raw : List PhaseRoute) (nudge : ℤ) (lines others : List WrittenRoute) →
+        IsNudged solids raw nudge lines → IsNudged solids raw nudge others →
         AreWalked solids raw → IsNudge nudge → lines ≡ others }
 {}
 

@@ -8,20 +8,12 @@ ghost use Rattle.channel_bundles.specs.Links.{IsNudge};
 ghost use Rattle.nudge_phases.specs.Phase.{IsPhase};
 ghost use Rattle.nudge_phases.specs.Rising.{EdgesRise};
 
-use crate::moves::{follow_all, put_all};
-use crate::solutions::settle_all;
+use crate::moves::follow_all;
+use crate::solutions::settle_and_put_all;
+use bumpalo::Bump;
 use channel_bundles::{PhaseRoute, few_bundles};
 use plane_geom::{Solid, Way};
-use separation_solve::Solution;
 use std::alloc::{AllocError, Global};
-
-/// The routes after a phase, and the solutions of its bundles in their order. Their multipliers are those of few rules of a
-/// bundle that stand for all.
-#[derive(Debug, Drop)]
-pub struct Moved {
-    pub routes: Vec<PhaseRoute>,
-    pub solutions: Vec<Solution>,
-}
 
 /// One phase: the runs of the way go to their least positions, rounded down, and the corners
 /// follow. The only error is out of memory.
@@ -29,24 +21,24 @@ pub struct Moved {
 /// The routes are in the order of their edges, which differ. All other conditions are those of
 /// `channel_bundles::few_bundles`: there are at most 850,000,000 runs of the way, the wanted nudge is
 /// from 0 to 1,000,000 thousandths, and each movable run may stay at its coordinate.
-pub fn phase(
+pub fn phase<'a>(
     alloc: Global,
     solids: &[Solid],
-    mut routes: Vec<PhaseRoute>,
+    mut routes: Vec<PhaseRoute<'a>, &'a Bump>,
     way: Way,
     nudge: i64,
-) -> Result<Moved, AllocError>
+) -> Result<Vec<PhaseRoute<'a>, &'a Bump>, AllocError>
     requires solids { All IsSolid solids.now }
     requires routes { All IsPhaseRoute routes.items }
     requires edges { EdgesRise routes.items }
     requires movable { All (MayMove solids.now way) routes.items }
     requires few { length (runs_of_way way routes.items) ≤ most_items }
     requires nudge { IsNudge nudge }
-    ensures { IfOk result (λ p. IsPhase solids.now routes.items way nudge p.routes.items p.solutions.items) }
+    ensures { IfOk result (λ after. IsPhase solids.now routes.entry.items way nudge after.items) }
 {
-    let found = few_bundles(alloc, solids, &routes, way, nudge)?;
-    let solutions = settle_all(alloc, &found)?;
-    put_all(&mut routes, &found, &solutions);
+    let bump = Bump::new(alloc);
+    let found = few_bundles(alloc, &bump, solids, &routes, way, nudge)?;
+    settle_and_put_all(alloc, &mut routes, &found)?;
     follow_all(&mut routes, way);
-    Ok(Moved { routes, solutions })
+    Ok(routes)
 }

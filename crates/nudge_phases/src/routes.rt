@@ -12,18 +12,15 @@ ghost use Rattle.nudge_phases.specs.Rising.{EdgesRise};
 
 use crate::lines::written_lines;
 use crate::phases::phase;
+use bumpalo::Bump;
 use channel_bundles::PhaseRoute;
 use plane_geom::{Solid, Way};
-use separation_solve::Solution;
 use std::alloc::{AllocError, Global};
 use walk_model::WrittenRoute;
 
-/// Nudged lines, in the order of their edges, and the solutions of both phases, each in the order
-/// of its bundles.
+/// Nudged lines, in the order of their edges.
 #[derive(Debug, Drop)]
 pub struct Nudged {
-    pub x_solutions: Vec<Solution>,
-    pub y_solutions: Vec<Solution>,
     pub routes: Vec<WrittenRoute>,
 }
 
@@ -33,10 +30,10 @@ pub struct Nudged {
 /// The raw routes are in the order of their edges, which differ. The walk of each is legal, its
 /// ports lie on its end runs, and all its runs have some length. There are at most 850,000,000 runs
 /// of each way, and the wanted nudge is from 0 to 1,000,000 thousandths.
-pub fn nudge_routes(
+pub fn nudge_routes<'a>(
     alloc: Global,
     solids: &[Solid],
-    raw: Vec<PhaseRoute>,
+    raw: Vec<PhaseRoute<'a>, &'a Bump>,
     nudge: i64,
 ) -> Result<Nudged, AllocError>
     requires solids { All IsSolid solids.now }
@@ -45,13 +42,11 @@ pub fn nudge_routes(
     requires legal { All (HasLegalWalk solids.now) raw.items }
     requires few { (way : Way) → length (runs_of_way way raw.items) ≤ most_items }
     requires nudge { IsNudge nudge }
-    ensures { IfOk result (λ n. IsNudged solids.now raw.items nudge n.x_solutions.items n.y_solutions.items n.routes.items) }
+    ensures { IfOk result (λ n. IsNudged solids.now raw.entry.items nudge n.routes.items) }
 {
-    let x = phase(alloc, solids, raw, Way::Vertical, nudge)?;
-    let y = phase(alloc, solids, x.routes, Way::Horizontal, nudge)?;
+    let after_x = phase(alloc, solids, raw, Way::Vertical, nudge)?;
+    let after_y = phase(alloc, solids, after_x, Way::Horizontal, nudge)?;
     Ok(Nudged {
-        x_solutions: x.solutions,
-        y_solutions: y.solutions,
-        routes: written_lines(alloc, &y.routes)?,
+        routes: written_lines(alloc, &after_y)?,
     })
 }

@@ -4,6 +4,7 @@ ghost use Rattle.std.specs.Prelude.{pos, IfOk};
 ghost use Rattle.separation_model.specs.Bundle.{IsBundle, IsGapUpTo};
 
 use crate::small::{small_bundle, small_item, small_solution};
+use bumpalo::Bump;
 use separation_model::{
     Bundle, Solution, latest_positions, met_positions_are_on_sheet, rules_by_left, verify,
     widest_gap,
@@ -12,16 +13,17 @@ use std::alloc::{AllocError, Global};
 use std::test::Fail;
 
 /// Two items wanted at 0, which may go left by `below`.
-fn two(alloc: Global, below: u16, spaced: bool, wanted: u16) -> Result<Bundle, AllocError>
+fn two<'a>(bump: &'a Bump, below: u16, spaced: bool, wanted: u16) -> Result<Bundle<'a>, AllocError>
     ensures { IfOk result IsBundle }
 {
     let item = small_item(0, below, 0, false);
-    small_bundle(alloc, item, item, spaced, wanted)
+    small_bundle(bump, item, item, spaced, wanted)
 }
 
 fn gap_of(alloc: Global, below: u16, spaced: bool, wanted: u16) -> Result<i64, AllocError> {
-    let bundle = two(alloc, below, spaced, wanted)?;
-    widest_gap(alloc, &bundle)
+    let bump = Bump::new(alloc);
+    let bundle = two(&bump, below, spaced, wanted)?;
+    widest_gap(&bump, &bundle)
 }
 
 #[test]
@@ -37,23 +39,24 @@ fn finds_the_widest_gap(rt: HostRuntime) -> Result<(), Fail> {
     Ok(())
 }
 
-fn first_of(places: Option<Vec<i64>>) -> Option<i64> {
+fn first_of(places: Option<Vec<i64, &Bump>>) -> Option<i64> {
     places?.first().copied()
 }
 
 /// The first of the latest positions.
-fn latest_first(alloc: Global, bundle: &Bundle, gap: i64) -> Result<Option<i64>, AllocError>
+fn latest_first(bump: &Bump, bundle: &Bundle, gap: i64) -> Result<Option<i64>, AllocError>
     requires bundle { IsBundle bundle.now }
     requires gap { IsGapUpTo (pos 1000000) gap }
 {
-    let by_left = rules_by_left(alloc, &bundle.rules)?;
-    let latest = latest_positions(alloc, bundle, by_left.as_slice(), gap);
-    latest.map(|places| first_of(places))
+    let by_left = rules_by_left(bump, &bundle.rules)?;
+    let latest = latest_positions(bump, bundle, by_left.as_slice(), gap)?;
+    Ok(first_of(latest))
 }
 
 fn latest_left(alloc: Global, gap: u16) -> Result<Option<i64>, AllocError> {
-    let bundle = two(alloc, 5000, true, 8000)?;
-    latest_first(alloc, &bundle, i64::from(gap))
+    let bump = Bump::new(alloc);
+    let bundle = two(&bump, 5000, true, 8000)?;
+    latest_first(&bump, &bundle, i64::from(gap))
 }
 
 #[test]
@@ -78,10 +81,10 @@ fn rounded(bundle: &Bundle, solution: &Solution, item: usize) -> Option<i64>
     Some(solution.rounded_down(item))
 }
 
-fn rounded_halves(alloc: Global, bundle: &Bundle, item: usize) -> Result<Option<i64>, AllocError>
+fn rounded_halves(bump: &Bump, bundle: &Bundle, item: usize) -> Result<Option<i64>, AllocError>
     requires { IsBundle bundle.now }
 {
-    let halves = small_solution(alloc, 3, 2, [-3, 3], 6, [0, 0], [0, 0])?;
+    let halves = small_solution(bump, 3, 2, [-3, 3], 6, [0, 0], [0, 0])?;
     Ok(rounded(bundle, &halves, item))
 }
 
@@ -89,8 +92,9 @@ fn rounded_halves(alloc: Global, bundle: &Bundle, item: usize) -> Result<Option<
 fn rounded_apart(alloc: Global, item: usize) -> Result<Option<i64>, AllocError> {
     let far = small_item(0, 30000, 0, false);
     let right = small_item(0, 0, 30000, false);
-    let bundle = small_bundle(alloc, far, right, true, 3)?;
-    rounded_halves(alloc, &bundle, item)
+    let bump = Bump::new(alloc);
+    let bundle = small_bundle(&bump, far, right, true, 3)?;
+    rounded_halves(&bump, &bundle, item)
 }
 
 #[test]
@@ -142,11 +146,11 @@ const VERIFIED: [Verified; 8] = [
     (LIGHT, LIGHT, 4000, 1, [-1000, 3000], 6000, [0, 0], false),
 ];
 
-fn accepts(alloc: Global, bundle: &Bundle, row: &Verified) -> Result<bool, AllocError>
+fn accepts(bump: &Bump, bundle: &Bundle, row: &Verified) -> Result<bool, AllocError>
     requires { IsBundle bundle.now }
 {
     let (_, _, gap, den, places, mult, high, _) = *row;
-    let solution = small_solution(alloc, i64::from(gap), den, places, mult, [0, 0], high)?;
+    let solution = small_solution(bump, i64::from(gap), den, places, mult, [0, 0], high)?;
     Ok(verify(bundle, &solution))
 }
 
@@ -157,8 +161,9 @@ fn accepts_row(alloc: Global, row: &Verified) -> Result<Option<bool>, AllocError
     if left.want > right.want {
         return Ok(None);
     }
-    let bundle = small_bundle(alloc, left, right, true, row.2)?;
-    let accepted = accepts(alloc, &bundle, row);
+    let bump = Bump::new(alloc);
+    let bundle = small_bundle(&bump, left, right, true, row.2)?;
+    let accepted = accepts(&bump, &bundle, row);
     accepted.map(|accepted| Some(accepted))
 }
 

@@ -1,7 +1,8 @@
 //! The runs and the order of worked routes.
+use bumpalo::Bump;
 use plane_geom::Point;
 use segment_order::{Run, line_order, runs_of};
-use std::alloc::{AllocError, Global};
+use std::alloc::AllocError;
 use std::cmp::Ordering;
 use std::test::Fail;
 
@@ -44,10 +45,10 @@ fn at(place: (i64, i64)) -> Point {
     }
 }
 
-fn runs(alloc: Global, drawn: &Drawn) -> Result<Vec<Run>, AllocError> {
+fn runs<'a>(bump: &'a Bump, drawn: &Drawn) -> Result<Vec<Run, &'a Bump>, AllocError> {
     let [first, second, third, fourth, fifth] = drawn.2;
     let corners = [at(first), at(second), at(third), at(fourth), at(fifth)];
-    runs_of(alloc, drawn.0, &corners)
+    runs_of(bump, drawn.0, &corners)
 }
 
 /// The order of the runs at these indices, where they are there.
@@ -58,25 +59,25 @@ fn order_of(a: &[Run], a_index: usize, b: &[Run], b_index: usize) -> Option<Orde
 }
 
 fn order_to(
-    alloc: Global,
+    bump: &Bump,
     a: &[Run],
     a_index: usize,
     b: &Drawn,
 ) -> Result<Option<Ordering>, AllocError> {
-    let b_runs = runs(alloc, b)?;
+    let b_runs = runs(bump, b)?;
     Ok(order_of(a, a_index, b_runs.as_slice(), b.1))
 }
 
-fn order_between(alloc: Global, a: &Drawn, b: &Drawn) -> Result<Option<Ordering>, AllocError> {
-    let a_runs = runs(alloc, a)?;
-    order_to(alloc, a_runs.as_slice(), a.1, b)
+fn order_between(bump: &Bump, a: &Drawn, b: &Drawn) -> Result<Option<Ordering>, AllocError> {
+    let a_runs = runs(bump, a)?;
+    order_to(bump, a_runs.as_slice(), a.1, b)
 }
 
 /// Whether each run comes in the order of its line.
-fn are_in_order(alloc: Global, lines: &[Drawn]) -> Result<bool, AllocError> {
+fn are_in_order(bump: &Bump, lines: &[Drawn]) -> Result<bool, AllocError> {
     for (i, a) in lines.iter().enumerate() {
         for (j, b) in lines.iter().enumerate() {
-            if order_between(alloc, a, b)? != Some(i.cmp(&j)) {
+            if order_between(bump, a, b)? != Some(i.cmp(&j)) {
                 return Ok(false);
             }
         }
@@ -86,7 +87,8 @@ fn are_in_order(alloc: Global, lines: &[Drawn]) -> Result<bool, AllocError> {
 
 #[test]
 fn orders_routes_on_a_line(rt: HostRuntime) -> Result<(), Fail> {
-    assert!(rt; are_in_order(rt.alloc(), &HORIZONTAL)?);
-    assert!(rt; are_in_order(rt.alloc(), &VERTICAL)?);
+    let bump = Bump::new(rt.alloc());
+    assert!(rt; are_in_order(&bump, &HORIZONTAL)?);
+    assert!(rt; are_in_order(&bump, &VERTICAL)?);
     Ok(())
 }

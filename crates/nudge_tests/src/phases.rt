@@ -5,6 +5,7 @@ use crate::phases::checks::{
 use crate::phases::rows::{
     Block, CHANNELS, Corner, Drawn, Leg, Placed, ROUND_BOXES, Row, Ruled, Wanted,
 };
+use bumpalo::Bump;
 use channel_bundles::{PhaseRoute, RouteAnchors, RunBundle, bundles, few_bundles};
 use plane_geom::{Dir, Point, Rect, Solid, Way};
 use segment_order::Run;
@@ -23,8 +24,8 @@ fn point(corner: Corner) -> Point {
     }
 }
 
-fn points(alloc: Global, corners: &[Corner]) -> Result<Vec<Point>, AllocError> {
-    corners.iter().map(|c| point(*c)).collect(alloc)
+fn points<'a>(bump: &'a Bump, corners: &[Corner]) -> Result<Vec<Point, &'a Bump>, AllocError> {
+    corners.iter().map(|c| point(*c)).collect(bump)
 }
 
 fn solid(block: Block) -> Solid {
@@ -40,8 +41,8 @@ fn solid(block: Block) -> Solid {
     }
 }
 
-fn solids(alloc: Global, blocks: &[Block]) -> Result<Vec<Solid>, AllocError> {
-    blocks.iter().map(|b| solid(*b)).collect(alloc)
+fn solids<'a>(bump: &'a Bump, blocks: &[Block]) -> Result<Vec<Solid, &'a Bump>, AllocError> {
+    blocks.iter().map(|b| solid(*b)).collect(bump)
 }
 
 /// The run of the edge, with its number, from one point to the other. If both are equal, the row
@@ -60,8 +61,8 @@ fn run(edge: u32, place: u32, heading: Dir, from: Point, to: Point) -> Run {
     }
 }
 
-fn runs(alloc: Global, drawn: &Drawn) -> Result<Vec<Run>, AllocError> {
-    let mut runs = Vec::new(alloc);
+fn runs<'a>(bump: &'a Bump, drawn: &Drawn) -> Result<Vec<Run, &'a Bump>, AllocError> {
+    let mut runs = Vec::with_capacity(bump, drawn.legs.len())?;
     let (mut place, mut from) = (0_u32, point(drawn.start));
     for Leg(heading, x, y) in drawn.legs {
         let to = Point { x: *x, y: *y };
@@ -72,57 +73,58 @@ fn runs(alloc: Global, drawn: &Drawn) -> Result<Vec<Run>, AllocError> {
     Ok(runs)
 }
 
-fn route(alloc: Global, drawn: &Drawn) -> Result<PhaseRoute, AllocError> {
+fn route<'a>(bump: &'a Bump, drawn: &Drawn) -> Result<PhaseRoute<'a>, AllocError> {
     Ok(PhaseRoute {
         edge: drawn.edge,
-        runs: runs(alloc, drawn)?,
+        runs: runs(bump, drawn)?,
         anchors: RouteAnchors {
             source_port: point(drawn.source_port),
             target_port: point(drawn.target_port),
-            via: points(alloc, drawn.via)?,
+            via: points(bump, drawn.via)?,
         },
         weight: drawn.weight,
     })
 }
 
 /// Adds the route.
-fn push_route(
-    alloc: Global,
-    routes: &mut Vec<PhaseRoute>,
+fn push_route<'a>(
+    bump: &'a Bump,
+    routes: &mut Vec<PhaseRoute<'a>, &'a Bump>,
     drawn: &Drawn,
 ) -> Result<(), AllocError> {
-    let route = route(alloc, drawn)?;
+    let route = route(bump, drawn)?;
     routes.push(route)?;
     Ok(())
 }
 
-fn push_routes(
-    alloc: Global,
-    routes: &mut Vec<PhaseRoute>,
+fn push_routes<'a>(
+    bump: &'a Bump,
+    routes: &mut Vec<PhaseRoute<'a>, &'a Bump>,
     drawn: &[Drawn],
 ) -> Result<(), AllocError> {
     for each in drawn {
-        push_route(alloc, routes, each)?;
+        push_route(bump, routes, each)?;
     }
     Ok(())
 }
 
 /// The bundles of a phase, with all their rules and with few of them.
 #[derive(Drop)]
-struct Found {
-    all: Vec<RunBundle>,
-    few: Vec<RunBundle>,
+struct Found<'a> {
+    all: Vec<RunBundle<'a>, &'a Bump>,
+    few: Vec<RunBundle<'a>, &'a Bump>,
 }
 
 /// The bundles of the routes between the solids, in the phase that moves the runs of the way.
-fn bundles_if_allowed(
+fn bundles_if_allowed<'a>(
     rt: &impl Abort,
     alloc: Global,
+    bump: &'a Bump,
     solids: &[Solid],
-    routes: &[PhaseRoute],
+    routes: &[PhaseRoute<'_>],
     way: Way,
     nudge: i64,
-) -> Result<Found, AllocError> {
+) -> Result<Found<'a>, AllocError> {
     assert!(rt; are_solids(solids));
     assert!(rt; are_phase_routes(routes));
     assert!(rt; are_of_different_edges(routes));
@@ -130,8 +132,8 @@ fn bundles_if_allowed(
     assert!(rt; are_few(routes));
     assert!(rt; is_nudge(nudge));
     Ok(Found {
-        all: bundles(alloc, solids, routes, way, nudge)?,
-        few: few_bundles(alloc, solids, routes, way, nudge)?,
+        all: bundles(alloc, bump, solids, routes, way, nudge)?,
+        few: few_bundles(alloc, bump, solids, routes, way, nudge)?,
     })
 }
 
@@ -148,7 +150,7 @@ fn is_placed(run: &Run, item: &Item, want: &Placed) -> bool {
 }
 
 /// Whether the bundle has exactly these runs with these items.
-fn are_placed(found: &RunBundle, wanted: &[Placed]) -> bool {
+fn are_placed(found: &RunBundle<'_>, wanted: &[Placed]) -> bool {
     let pairs = found.runs.iter().zip(&found.bundle.items);
     found.runs.len() == wanted.len()
         && found.bundle.items.len() == wanted.len()
@@ -193,12 +195,12 @@ fn has_few(rules: &[Rule], wanted: &[Ruled]) -> bool {
 }
 
 /// Whether the bundle has exactly these runs, and few of these rules.
-fn is_few_of(found: &RunBundle, wanted: &Wanted) -> bool {
+fn is_few_of(found: &RunBundle<'_>, wanted: &Wanted) -> bool {
     let Wanted(items, rules) = wanted;
     are_placed(found, items) && has_few(&found.bundle.rules, rules)
 }
 
-fn are_few_of(found: &[RunBundle], wanted: &[Wanted]) -> bool {
+fn are_few_of(found: &[RunBundle<'_>], wanted: &[Wanted]) -> bool {
     found.len() == wanted.len()
         && found
             .iter()
@@ -207,14 +209,14 @@ fn are_few_of(found: &[RunBundle], wanted: &[Wanted]) -> bool {
 }
 
 /// Whether the bundle has exactly these runs and rules, and wants the gap.
-fn is_as_wanted(found: &RunBundle, wanted: &Wanted, nudge: i64) -> bool {
+fn is_as_wanted(found: &RunBundle<'_>, wanted: &Wanted, nudge: i64) -> bool {
     let Wanted(items, rules) = wanted;
     found.bundle.wanted == nudge
         && are_placed(found, items)
         && are_ruled(&found.bundle.rules, rules)
 }
 
-fn are_as_wanted(found: &[RunBundle], wanted: &[Wanted], nudge: i64) -> bool {
+fn are_as_wanted(found: &[RunBundle<'_>], wanted: &[Wanted], nudge: i64) -> bool {
     found.len() == wanted.len()
         && found
             .iter()
@@ -234,44 +236,48 @@ fn wanted(row: &Row, way: Way) -> &'static [Wanted] {
 fn stands(
     rt: &impl Abort,
     alloc: Global,
+    bump: &Bump,
     row: &Row,
     way: Way,
     solids: &[Solid],
-    routes: &[PhaseRoute],
+    routes: &[PhaseRoute<'_>],
 ) -> Result<bool, AllocError> {
-    let found = bundles_if_allowed(rt, alloc, solids, routes, way, row.nudge)?;
+    let found = bundles_if_allowed(rt, alloc, bump, solids, routes, way, row.nudge)?;
     let wanted = wanted(row, way);
     Ok(are_as_wanted(&found.all, wanted, row.nudge) && are_few_of(&found.few, wanted))
 }
 
 /// The same, with the routes of the row.
-fn stands_with_routes(
+fn stands_with_routes<'a>(
     rt: &impl Abort,
     alloc: Global,
+    bump: &'a Bump,
     row: &Row,
     way: Way,
     solids: &[Solid],
-    routes: &mut Vec<PhaseRoute>,
+    routes: &mut Vec<PhaseRoute<'a>, &'a Bump>,
 ) -> Result<bool, AllocError> {
-    push_routes(alloc, routes, row.routes)?;
-    stands(rt, alloc, row, way, solids, routes.as_slice())
+    push_routes(bump, routes, row.routes)?;
+    stands(rt, alloc, bump, row, way, solids, routes.as_slice())
 }
 
 fn stands_between(
     rt: &impl Abort,
     alloc: Global,
+    bump: &Bump,
     row: &Row,
     way: Way,
     solids: &[Solid],
 ) -> Result<bool, AllocError> {
-    let mut routes = Vec::new(alloc);
-    stands_with_routes(rt, alloc, row, way, solids, &mut routes)
+    let mut routes = Vec::with_capacity(bump, row.routes.len())?;
+    stands_with_routes(rt, alloc, bump, row, way, solids, &mut routes)
 }
 
 /// Whether the bundles of the row, of the runs of the way, are as expected.
 fn row_stands(rt: &impl Abort, alloc: Global, row: &Row, way: Way) -> Result<bool, AllocError> {
-    let solids = solids(alloc, row.solids)?;
-    stands_between(rt, alloc, row, way, solids.as_slice())
+    let bump = Bump::new(alloc);
+    let solids = solids(&bump, row.solids)?;
+    stands_between(rt, alloc, &bump, row, way, solids.as_slice())
 }
 
 /// Asserts that the bundles of each row, of either way, are as expected.

@@ -4,8 +4,9 @@ ghost use Rattle.std.specs.Prelude.{◌≡◌, ◌∷◌, [], pos, ◌+ℤ◌, �
 ghost use Rattle.separation_model.specs.Bundle.{IsBundle, IsItem};
 ghost use Rattle.nudge_tests.specs.Small.{first_before_second};
 
+use bumpalo::Bump;
 use separation_model::{Bundle, Item, Rule, Solution};
-use std::alloc::{AllocError, Global};
+use std::alloc::AllocError;
 
 /// An item that is wanted at `want` and may go left by `below` and right by `above`, all in
 /// thousandths of a GML unit. Its weight is 3 if it is heavy, and otherwise 1.
@@ -30,13 +31,13 @@ pub(crate) fn small_item(want: i16, below: u16, above: u16, heavy: bool) -> Item
 ///
 /// Both items are as described at `Item`, and the right one's want is at least that of the left
 /// one. The rule asks for the gap if it is spaced. The only error is out of memory.
-pub(crate) fn small_bundle(
-    alloc: Global,
+pub(crate) fn small_bundle<'a>(
+    bump: &'a Bump,
     left: Item,
     right: Item,
     spaced: bool,
     wanted: u16,
-) -> Result<Bundle, AllocError>
+) -> Result<Bundle<'a>, AllocError>
     requires left { IsItem left }
     requires right { IsItem right }
     requires ordered { left.want ≤ℤ right.want }
@@ -45,13 +46,13 @@ pub(crate) fn small_bundle(
     ensures wanted { IfOk result (λ b. b.wanted ≡ pos wanted) }
     ensures sound { IfOk result IsBundle }
 {
-    let items = vec![in alloc; left, right]?;
+    let items = vec![in bump; left, right]?;
     let rule = Rule {
         left: 0,
         right: 1,
         spaced,
     };
-    let rules = vec![in alloc; rule]?;
+    let rules = vec![in bump; rule]?;
     Ok(Bundle {
         items,
         rules,
@@ -64,15 +65,15 @@ pub(crate) fn small_bundle(
 /// The gap is in thousandths of a GML unit, and each item is at its number of `places` over `den`
 /// thousandths. Any numbers are accepted: `verify` decides whether they solve a bundle. The only
 /// error is out of memory.
-pub(crate) fn small_solution(
-    alloc: Global,
+pub(crate) fn small_solution<'a>(
+    bump: &'a Bump,
     gap: i64,
     den: u64,
     places: [i128; 2],
     mult: i128,
     low: [i128; 2],
     high: [i128; 2],
-) -> Result<Solution, AllocError>
+) -> Result<Solution<'a>, AllocError>
     ensures gap { IfOk result (λ s. s.gap ≡ gap) }
     ensures den { IfOk result (λ s. s.den.items ≡ den ∷ den ∷ []) }
     ensures pos { IfOk result (λ s. s.pos.items ≡ places) }
@@ -82,10 +83,10 @@ pub(crate) fn small_solution(
 {
     Ok(Solution {
         gap,
-        den: vec![in alloc; den, den]?,
-        pos: Vec::from_array(alloc, places)?,
-        mult: vec![in alloc; mult]?,
-        low: Vec::from_array(alloc, low)?,
-        high: Vec::from_array(alloc, high)?,
+        den: vec![in bump; den, den]?,
+        pos: Vec::from_array(bump, places)?,
+        mult: vec![in bump; mult]?,
+        low: Vec::from_array(bump, low)?,
+        high: Vec::from_array(bump, high)?,
     })
 }

@@ -5,16 +5,17 @@ ghost use Rattle.separation_solve.specs.Start.{IsForward};
 ghost use Rattle.separation_model.specs.Bundle.{IsBundle, IsItem};
 
 use crate::small::{small_bundle, small_item};
+use bumpalo::Bump;
 use separation_solve::{Bundle, Item, Rule, Solution, solve, verify, widest_gap};
 use std::alloc::{AllocError, Global};
 use std::test::Fail;
 
 /// The least positions of the bundle for its widest gap.
-fn solved(alloc: Global, bundle: &Bundle) -> Result<Solution, AllocError>
+fn solved<'a>(bump: &'a Bump, bundle: &Bundle) -> Result<Solution<'a>, AllocError>
     requires { IsBundle bundle.now }
 {
-    let gap = widest_gap(alloc, bundle)?;
-    solve(alloc, bundle, gap)
+    let gap = widest_gap(bump, bundle)?;
+    solve(bump, bundle, gap)
 }
 
 /// An item by its want, how far it may go left and right, and whether it is heavy.
@@ -129,26 +130,27 @@ fn is_as_wanted(solution: &Solution, row: &Solved) -> bool {
 }
 
 /// Whether the least positions for the widest gap are those of the row, and verified.
-fn solves(alloc: Global, bundle: &Bundle, row: &Solved) -> Result<bool, AllocError>
+fn solves(bump: &Bump, bundle: &Bundle, row: &Solved) -> Result<bool, AllocError>
     requires { IsBundle bundle.now }
 {
-    let solution = solved(alloc, bundle)?;
+    let solution = solved(bump, bundle)?;
     Ok(is_as_wanted(&solution, row) && verify(bundle, &solution))
 }
 
-fn solves_row(alloc: Global, row: &Solved) -> Result<bool, AllocError> {
+fn solves_row(bump: &Bump, row: &Solved) -> Result<bool, AllocError> {
     let left = small_item(row.0.0, row.0.1, row.0.2, row.0.3);
     let right = small_item(row.1.0, row.1.1, row.1.2, row.1.3);
     if left.want > right.want {
         return Ok(false);
     }
-    let bundle = small_bundle(alloc, left, right, row.2, row.3)?;
-    solves(alloc, &bundle, row)
+    let bundle = small_bundle(bump, left, right, row.2, row.3)?;
+    solves(bump, &bundle, row)
 }
 
 fn solve_each(alloc: Global, rows: &[Solved]) -> Result<bool, AllocError> {
+    let bump = Bump::new(alloc);
     for row in rows {
-        if !solves_row(alloc, row)? {
+        if !solves_row(&bump, row)? {
             return Ok(false);
         }
     }
@@ -168,10 +170,10 @@ fn solves_between_limits(rt: HostRuntime) -> Result<(), Fail> {
 }
 
 /// Rules from each item to the next, all spaced.
-fn chain(alloc: Global, count: u32) -> Result<Vec<Rule>, AllocError>
+fn chain<'a>(bump: &'a Bump, count: u32) -> Result<Vec<Rule, &'a Bump>, AllocError>
     ensures { IfOk result (λ rules. All (IsForward count) rules.items) }
 {
-    let mut rules = Vec::new(alloc);
+    let mut rules = Vec::new(bump);
     for right in 1..count {
         rules.push(Rule {
             left: right - 1,
@@ -183,15 +185,15 @@ fn chain(alloc: Global, count: u32) -> Result<Vec<Rule>, AllocError>
 }
 
 /// `count` items like this one, with a spaced rule from each to the next.
-fn row(alloc: Global, item: Item, count: u32, wanted: i64) -> Result<Bundle, AllocError>
+fn row<'a>(bump: &'a Bump, item: Item, count: u32, wanted: i64) -> Result<Bundle<'a>, AllocError>
     requires item { IsItem item }
     requires count { count ≤ 1000 }
     requires wanted_low { pos 0 ≤ℤ wanted }
     requires wanted_high { wanted ≤ℤ pos 1000000 }
     ensures { IfOk result IsBundle }
 {
-    let items = vec![in alloc; item; count as usize]?;
-    let rules = chain(alloc, count)?;
+    let items = vec![in bump; item; count as usize]?;
+    let rules = chain(bump, count)?;
     Ok(Bundle {
         items,
         rules,
@@ -210,16 +212,17 @@ fn has_ends(solution: &Solution, ends: Ends) -> bool {
         && solution.pos.last() == Some(&ends.2)
 }
 
-fn solves_ends(alloc: Global, bundle: &Bundle, ends: Ends) -> Result<bool, AllocError>
+fn solves_ends(bump: &Bump, bundle: &Bundle, ends: Ends) -> Result<bool, AllocError>
     requires { IsBundle bundle.now }
 {
-    let solution = solved(alloc, bundle)?;
+    let solution = solved(bump, bundle)?;
     Ok(has_ends(&solution, ends) && verify(bundle, &solution))
 }
 
 fn solves_row_of_thousand(alloc: Global) -> Result<bool, AllocError> {
-    let bundle = row(alloc, small_item(0, 30000, 30000, false), 1000, 4000)?;
-    solves_ends(alloc, &bundle, (60, -29970, 29970))
+    let bump = Bump::new(alloc);
+    let bundle = row(&bump, small_item(0, 30000, 30000, false), 1000, 4000)?;
+    solves_ends(&bump, &bundle, (60, -29970, 29970))
 }
 
 #[test]
@@ -229,8 +232,9 @@ fn solves_a_long_row(rt: HostRuntime) -> Result<(), Fail> {
 }
 
 fn solves_row_of_one(alloc: Global) -> Result<bool, AllocError> {
-    let bundle = row(alloc, small_item(700, 300, 300, true), 1, 4000)?;
-    solves_ends(alloc, &bundle, (4000, 700, 700))
+    let bump = Bump::new(alloc);
+    let bundle = row(&bump, small_item(700, 300, 300, true), 1, 4000)?;
+    solves_ends(&bump, &bundle, (4000, 700, 700))
 }
 
 #[test]

@@ -3,7 +3,7 @@ ghost use Rattle.std.specs.Prelude.{◌≡◌, ◌≤◌, ◌^◌, IfOk, length}
 ghost use Rattle.segment_order.specs.Run.{AreCorners, AreRunsOf, run_between, runs_along};
 
 use plane_geom::{Dir, Point, Way};
-use std::alloc::{AllocError, Global};
+use std::alloc::{AllocError, Allocator};
 
 /// A straight piece of the route of an edge, between two neighbouring corners.
 ///
@@ -90,13 +90,18 @@ fn run_between(edge: u32, place: u32, from: Point, to: Point) -> Run
     }
 }
 
-/// The runs of the edge's route through these corners, in order. The only error is out of memory.
-pub fn runs_of(alloc: Global, edge: u32, points: &[Point]) -> Result<Vec<Run>, AllocError>
+/// The runs of the edge's route through these corners, in order, in memory that is taken at once.
+/// The only error is out of memory.
+pub fn runs_of<A: Allocator>(
+    alloc: A,
+    edge: u32,
+    points: &[Point],
+) -> Result<Vec<Run, A>, AllocError>
     requires { length points.now ≤ 2 ^ 32 }
     ensures along { IfOk result (λ runs. runs.items ≡ runs_along edge 1 points.now) }
     ensures route { IfOk result (λ runs. AreCorners points.now → AreRunsOf edge runs.items) }
 {
-    let mut runs = Vec::new(alloc);
+    let mut runs = Vec::with_capacity(alloc, points.len().saturating_sub(1))?;
     for k in 1..points.len() {
         runs.push(run_between(edge, k as u32, points[k - 1], points[k]))?;
     }

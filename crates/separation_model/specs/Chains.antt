@@ -16,7 +16,7 @@ pub record IsReduced (all few : List Rule) : Type 0 where
   pub kept : All (Contains all) few
   pub led : All (λ r. Leads few r.left r.right r.spaced) all
 
--- the same bundle with fewer rules
+-- the same items and wanted gap, with some of the rules, which stand for all
 pub record IsReducedBundle (b few : Bundle) : Type 0 where
   pub items : few.items.items ≡ b.items.items
   pub wanted : few.wanted ≡ b.wanted

@@ -1,6 +1,7 @@
 -- The definitions that contracts cite, and those of private parts.
 pub mod Sum
 pub mod Apart
+pub mod Arena
 pub mod Bundle
 pub mod Gap
 pub mod Least

@@ -4,6 +4,7 @@ ghost use Rattle.std.specs.Prelude.{◌≡◌};
 ghost use Rattle.separation_model.specs.Bundle.{asked};
 
 use crate::position::{Position, rounded_down};
+use bumpalo::Bump;
 
 /// The most items that a bundle may have. The law `most_items_is_the_bound` says that definitions
 /// use the same number.
@@ -43,33 +44,35 @@ impl Rule {
     }
 }
 
-/// Items that rules join, and the wanted gap, from 0 to 1,000,000 thousandths.
+/// Items that rules join, and the wanted gap, from 0 to 1,000,000 thousandths. Both lists are in the
+/// caller's arena.
 ///
 /// There are at most 850,000,000 items (`MOST_ITEMS`), each as described at `Item`, and any number
 /// of rules, each as described at `Rule`. All calls require these conditions.
 #[derive(Debug, PartialEq, Eq, Drop)]
-pub struct Bundle {
-    pub items: Vec<Item>,
-    pub rules: Vec<Rule>,
+pub struct Bundle<'a> {
+    pub items: Vec<Item, &'a Bump>,
+    pub rules: Vec<Rule, &'a Bump>,
     pub wanted: i64,
 }
 
-/// Positions of a bundle's items for a gap, with the multipliers of its rules and limits.
+/// Positions of a bundle's items for a gap, with the multipliers of its rules and limits. All lists
+/// are in the caller's arena.
 ///
 /// The item at an index is at `pos / den` thousandths. `mult` has the multipliers of the rules, in
 /// their order, and `low` and `high` those of the items' limits. A multiplier of a limit is a
 /// numerator over the item's `den`, one of a rule over the `den` of both its items.
 #[derive(Debug, PartialEq, Eq, Drop)]
-pub struct Solution {
+pub struct Solution<'a> {
     pub gap: i64,
-    pub den: Vec<u64>,
-    pub pos: Vec<i128>,
-    pub mult: Vec<i128>,
-    pub low: Vec<i128>,
-    pub high: Vec<i128>,
+    pub den: Vec<u64, &'a Bump>,
+    pub pos: Vec<i128, &'a Bump>,
+    pub mult: Vec<i128, &'a Bump>,
+    pub low: Vec<i128, &'a Bump>,
+    pub high: Vec<i128, &'a Bump>,
 }
 
-impl Solution {
+impl Solution<'_> {
     ghost use Rattle.std.specs.Prelude.{◌<◌, length, slice_index};
     ghost use Rattle.plane_geom.specs.Point.{IsCoordinate};
     ghost use Rattle.separation_model.specs.Bundle.{SolutionIsOnSheet, int_at};

@@ -126,7 +126,7 @@ fn keeps_limits(bundle: &Bundle, solution: &Solution) -> bool
     true
 }
 
-impl Solution {
+impl Solution<'_> {
     /// Compares the distance of the rule's items with the distance that the rule asks.
     fn compare_to_rule(&self, rule: &Rule) -> Ordering
         requires { PlacesRule self.now rule.now }

@@ -1,29 +1,13 @@
 //! The widest gap of a bundle, by bisection.
 
 ghost use Rattle.std.specs.Prelude.{pos, ◌+ℤ◌, ◌≤ℤ◌, ◌<ℤ◌, IfOk};
-ghost use Rattle.std.specs.Bool.{MatchBool};
-ghost use Rattle.std.specs.List.Sorted.{IsNonDecreasingBy, IsPermutation};
-ghost use Rattle.separation_model.specs.Bundle.{IsBundle, IsGapUpTo};
-ghost use Rattle.separation_model.specs.Gap.{HasPositions, IsWidestGap};
-ghost use Rattle.separation_model.specs.Latest.{HasNoPositions};
+ghost use Rattle.separation_model.specs.Bundle.{IsBundle};
+ghost use Rattle.separation_model.specs.Gap.{IsWidestGap};
 
-use crate::bundle::{Bundle, Rule};
-use crate::latest::{latest_positions, rules_by_left};
-use std::alloc::{AllocError, Global};
-
-/// Whether some positions meet the bundle with the gap. `by_left` is its rules by their left items.
-fn has_room(alloc: Global, bundle: &Bundle, by_left: &[Rule], gap: i64) -> Result<bool, AllocError>
-    requires bundle { IsBundle bundle.now }
-    requires same { IsPermutation bundle.now.rules.items by_left.now }
-    requires sorted { IsNonDecreasingBy (λ rule. rule.left) by_left.now }
-    requires gap { IsGapUpTo (pos 1000000) gap }
-    ensures { IfOk result (λ met. MatchBool met (HasPositions bundle.now gap) (HasNoPositions bundle.now gap)) }
-{
-    match latest_positions(alloc, bundle, by_left, gap)? {
-        Some(_) => Ok(true),
-        None => Ok(false),
-    }
-}
+use crate::bundle::Bundle;
+use crate::latest::{fill_latest, rules_by_left};
+use bumpalo::Bump;
+use std::alloc::AllocError;
 
 /// The gap to try between the two: the wanted one first, and then the one halfway, rounded.
 fn between(met: i64, unmet: i64, wanted: i64) -> i64
@@ -44,20 +28,22 @@ fn between(met: i64, unmet: i64, wanted: i64) -> i64
 /// all rules and limits.
 ///
 /// By bisection, after the wanted one: at most 21 passes over items and rules, and the rules are
-/// sorted once. Without rules it is the wanted one. The only error is out of memory.
-pub fn widest_gap(alloc: Global, bundle: &Bundle) -> Result<i64, AllocError>
+/// sorted once. Without rules it is the wanted one. The arena takes a list of the rules and one of
+/// the items' places, whatever the number of passes. The only error is out of memory.
+pub fn widest_gap(bump: &Bump, bundle: &Bundle) -> Result<i64, AllocError>
     requires { IsBundle bundle.now }
     ensures { IfOk result (IsWidestGap bundle.now) }
 {
     if bundle.rules.is_empty() {
         return Ok(bundle.wanted);
     }
-    let by_left = rules_by_left(alloc, &bundle.rules)?;
+    let by_left = rules_by_left(bump, &bundle.rules)?;
+    let mut places = vec![in bump; 0; bundle.items.len()]?;
     let mut met = 0;
     let mut unmet = bundle.wanted + 1;
     while met + 1 < unmet {
         let middle = between(met, unmet, bundle.wanted);
-        if has_room(alloc, bundle, &by_left, middle)? {
+        if fill_latest(&mut places, bundle, &by_left, middle) {
             met = middle;
         } else {
             unmet = middle;

@@ -1,6 +1,6 @@
 -- Networks: the places of a bundle's items, with the multipliers of its rules and limits as a flow.
 use Rattle.std.specs.Prelude.{◌≡◌, ◌≢◌, ℕ, ◌+◌, ◌<◌, ◌≤◌, ℤ, pos, neg_ℤ, ◌+ℤ◌, ◌-ℤ◌, ◌*ℤ◌, ◌≤ℤ◌, unsigned_abs, List, [], ◌∷◌, ◌++◌, map, length, All, EachIndex, Contains, slice_index, slice_index_or, if◌then◌else◌, Vec}
-use Rattle.std.specs.declared.alloc.Global.{Global}
+use Rattle.separation_model.specs.Arena.{Arena}
 use Rattle.separation_model.specs.declared.bundle.Item.{Item}
 use Rattle.separation_model.specs.declared.bundle.Rule.{Rule}
 use Rattle.separation_model.specs.declared.bundle.Bundle.{Bundle}
@@ -75,9 +75,9 @@ pub record IsLink (nodes : ℕ) (link : Link) : Type 0 where
   pub gap : IsCoordinate link.gap
 
 -- the index is in the lists of both nodes of its link
-pub record IsListed (links : List Link) (lists : List (Vec ℕ Global)) (j : ℕ) : Type 0 where
-  pub at_from : (d : Vec ℕ Global) → Contains (slice_index_or lists (link_at links j).from d).items j
-  pub at_to : (d : Vec ℕ Global) → Contains (slice_index_or lists (link_at links j).to d).items j
+pub record IsListed (links : List Link) (lists : List (Vec ℕ Arena)) (j : ℕ) : Type 0 where
+  pub at_from : (d : Vec ℕ Arena) → Contains (slice_index_or lists (link_at links j).from d).items j
+  pub at_to : (d : Vec ℕ Arena) → Contains (slice_index_or lists (link_at links j).to d).items j
 
 -- the index is that of a tight link
 pub record IsTightAt (places : List Fraction) (links : List Link) (j : ℕ) : Type 0 where
@@ -85,9 +85,9 @@ pub record IsTightAt (places : List Fraction) (links : List Link) (j : ℕ) : Ty
   pub tight : IsTight places (link_at links j)
 
 -- the tight links are in the lists of both their nodes, and no others are
-pub record ListsTight (places : List Fraction) (links : List Link) (lists : List (Vec ℕ Global)) : Type 0 where
+pub record ListsTight (places : List Fraction) (links : List Link) (lists : List (Vec ℕ Arena)) : Type 0 where
   pub listed : (j : ℕ) → IsTightAt places links j → IsListed links lists j
-  pub no_others : All (λ (v : Vec ℕ Global). All (IsTightAt places links) v.items) lists
+  pub no_others : All (λ (v : Vec ℕ Arena). All (IsTightAt places links) v.items) lists
 
 -- the item has an upper limit, a link to the wall, and a lower one, from the wall
 pub record IsLimited (items : ℕ) (links : List Link) (i : ℕ) : Type 0 where

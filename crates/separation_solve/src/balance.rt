@@ -1,39 +1,41 @@
 //! Pushes flow until each item is balanced, or a block is found that is free to move.
 
-ghost use Rattle.std.specs.Prelude.{◌≡◌, ◌<◌, pos, ◌≤ℤ◌, ◌<ℤ◌, IfOk, All, MatchOption, length};
+ghost use Rattle.std.specs.Prelude.{◌≡◌, ◌+◌, ◌<◌, pos, ◌≤ℤ◌, ◌<ℤ◌, IfOk, All, MatchOption, length};
+ghost use Rattle.std.specs.Bool.{MatchBool};
 ghost use Rattle.separation_model.specs.Bundle.{int_at};
 
 use crate::network::Network;
 use crate::reach::Reach;
-use std::alloc::{AllocError, Global};
+use std::alloc::AllocError;
 
-impl Network {
+impl Network<'_> {
     ghost use Rattle.separation_solve.specs.Network.{IsSameBundle, IsSound, items_of, upright_places, total_size};
-    ghost use Rattle.separation_solve.specs.Reach.{IsBlock, start_of};
+    ghost use Rattle.separation_solve.specs.Reach.{IsBlock, IsTable, start_of};
 
     /// Pushes flow until each item is balanced, or until it finds a block that is pulled to the
-    /// right and free to move there.
-    pub fn balance(&mut self, alloc: Global) -> Result<Option<Reach>, AllocError>
-        requires { IsSound self.old }
+    /// right and free to move there, which `reach` then is. Returns whether there is a block.
+    pub fn balance(&mut self, reach: &mut Reach) -> Result<bool, AllocError>
+        requires sound { IsSound self.old }
+        requires table { IsTable (items_of self.old + 1) reach.old }
         ensures sound { IsSound self.new }
         ensures same { IsSameBundle self.old self.new }
         ensures places { upright_places self.new ≡ upright_places self.old }
-        ensures found { IfOk result (λ found. MatchOption found
-            (All (λ z. z ≡ pos 0) self.new.excess.items)
-            (λ block. IsBlock self.new (start_of block) block)) }
+        ensures table { IfOk result (λ found. IsTable (items_of self.new + 1) reach.new) }
+        ensures found { IfOk result (λ found. MatchBool found
+            (IsBlock self.new (start_of reach.new) reach.new)
+            (All (λ z. z ≡ pos 0) self.new.excess.items)) }
     {
         self.sweep();
         // Now what is pulled to the left.
         self.mirror();
         self.sweep();
-        let mut reach = Reach::new(alloc, self.places.len())?;
         while let Some(start) = self.next_start() {
             match reach.search(self, start)? {
-                Some(target) => self.push(&reach, target),
-                None => return Ok(Some(reach)),
+                Some(target) => self.push(reach, target),
+                None => return Ok(true),
             }
         }
-        Ok(None)
+        Ok(false)
     }
 
     /// An item that is pulled to the right, after left and right are exchanged if necessary.

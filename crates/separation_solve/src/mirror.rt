@@ -52,7 +52,7 @@ fn turn_excess(excess: &mut [i128])
     }
 }
 
-impl Network {
+impl Network<'_> {
     /// Exchanges left and right.
     pub fn mirror(&mut self)
         requires { IsSound self.old }

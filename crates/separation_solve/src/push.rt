@@ -6,7 +6,7 @@ ghost use Rattle.separation_solve.specs.Reach.{IsReach, IsWay, start_of, step_at
 use crate::network::Network;
 use crate::reach::Reach;
 
-impl Network {
+impl Network<'_> {
     ghost use Rattle.separation_solve.specs.Network.{IsSound, KeepsBundle, total_size};
     ghost use Rattle.separation_solve.specs.Push.{IsSent, KeepsRest, TakesAmount};
 

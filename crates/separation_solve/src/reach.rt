@@ -6,7 +6,8 @@ ghost use Rattle.separation_solve.specs.Network.{IsSound, IsTightAt, items_of};
 ghost use Rattle.separation_solve.specs.Reach.{AddsLeads, IsFollowing, IsLedTo, IsBlock, IsNoLead, IsReach, IsStep, IsTable, IsWay, KeepsSteps, TakesFlow, found_at, start_of, step_at};
 
 use crate::network::Network;
-use std::alloc::{AllocError, Global};
+use bumpalo::Bump;
+use std::alloc::AllocError;
 
 /// How a step was reached: over a link, from an earlier step.
 #[derive(Clone, Copy)]
@@ -30,22 +31,22 @@ pub struct Step {
 /// Nodes to which flow can go from the first one: forward over a tight link, or back over a link
 /// with flow.
 #[derive(Drop)]
-pub struct Reach {
-    pub steps: Vec<Step>,
+pub struct Reach<'a> {
+    pub steps: Vec<Step, &'a Bump>,
     /// Each node's step.
-    pub found: Vec<Option<usize>>,
+    pub found: Vec<Option<usize>, &'a Bump>,
 }
 
-impl Reach {
+impl<'a> Reach<'a> {
     ghost use Rattle.separation_solve.specs.declared.network.Network.{Network};
 
-    /// No steps yet, for the given number of nodes.
-    pub fn new(alloc: Global, nodes: usize) -> Result<Reach, AllocError>
+    /// No steps yet, with room for a step of each of the nodes.
+    pub fn new(bump: &'a Bump, nodes: usize) -> Result<Reach<'a>, AllocError>
         ensures { IfOk result (IsTable nodes) }
     {
         Ok(Reach {
-            steps: Vec::new(alloc),
-            found: vec![in alloc; None; nodes]?,
+            steps: Vec::with_capacity(bump, nodes)?,
+            found: vec![in bump; None; nodes]?,
         })
     }
 
@@ -141,7 +142,7 @@ impl Reach {
     }
 }
 
-impl Network {
+impl Network<'_> {
     /// Whether flow may end at the node: the wall, or an item with an excess.
     fn takes_flow(&self, node: usize) -> bool
         requires sound { IsSound self.now }

@@ -6,7 +6,7 @@ ghost use Rattle.separation_solve.specs.Network.{AreKept, IsFrame, IsSound, Keep
 use crate::network::Network;
 use separation_model::weighted_displacement;
 
-impl Network {
+impl Network<'_> {
     /// Removes all flow.
     pub fn release(&mut self)
         requires frame { IsFrame self.old }

@@ -5,12 +5,13 @@ ghost use Rattle.separation_model.specs.Bundle.{IsBundle};
 ghost use Rattle.separation_model.specs.Certified.{IsAccepted};
 ghost use Rattle.separation_model.specs.Gap.{IsGap};
 
+use bumpalo::Bump;
 use separation_model::{Bundle, Item, Solution};
-use std::alloc::{AllocError, Global};
+use std::alloc::AllocError;
 
 /// The solution of a bundle without rules: each item is at its want, where no limit has to hold it
 /// back, so that all multipliers are 0.
-pub fn at_rest(alloc: Global, bundle: &Bundle, gap: i64) -> Result<Solution, AllocError>
+pub fn at_rest<'a>(bump: &'a Bump, bundle: &Bundle, gap: i64) -> Result<Solution<'a>, AllocError>
     requires bundle { IsBundle bundle.now }
     requires free { bundle.now.rules.items ≡ [] }
     requires gap { IsGap bundle.now gap }
@@ -20,20 +21,17 @@ pub fn at_rest(alloc: Global, bundle: &Bundle, gap: i64) -> Result<Solution, All
     let count = bundle.items.len();
     Ok(Solution {
         gap,
-        den: vec![in alloc; 1; count]?,
-        pos: exact_wants_of(alloc, &bundle.items)?,
-        mult: Vec::new(alloc),
-        low: vec![in alloc; 0; count]?,
-        high: vec![in alloc; 0; count]?,
+        den: vec![in bump; 1; count]?,
+        pos: exact_wants_of(bump, &bundle.items)?,
+        mult: Vec::new(bump),
+        low: vec![in bump; 0; count]?,
+        high: vec![in bump; 0; count]?,
     })
 }
 
 /// The wants, in the width of a solution's numerators.
-fn exact_wants_of(alloc: Global, items: &[Item]) -> Result<Vec<i128>, AllocError>
+fn exact_wants_of<'a>(bump: &'a Bump, items: &[Item]) -> Result<Vec<i128, &'a Bump>, AllocError>
     ensures { IfOk result (λ wants. wants.items ≡ map (λ item. item.want) items.now) }
 {
-    items
-        .iter()
-        .map(|item| i128::from(item.want))
-        .collect(alloc)
+    items.iter().map(|item| i128::from(item.want)).collect(bump)
 }

@@ -23,7 +23,7 @@ fn moment_of(weight: u32, want: i64, offset: i64) -> i128
     i128::from(weight) * i128::from(want - offset)
 }
 
-impl Reach {
+impl Reach<'_> {
     /// The distance to the right of the start at which the node was reached, if it was.
     fn offset(&self, node: usize) -> Option<i64>
         requires node { node < length self.now.found.items }
@@ -35,7 +35,7 @@ impl Reach {
     }
 }
 
-impl Network {
+impl Network<'_> {
     /// Moves the nodes that were reached to the right, all by the same distance: to their best
     /// place, or to the first contact.
     pub fn shift(&mut self, block: &Reach) -> Result<(), AllocError>

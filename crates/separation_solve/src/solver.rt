@@ -9,19 +9,22 @@ ghost use Rattle.separation_model.specs.Least.{IsLeast};
 
 use crate::fraction::Fraction;
 use crate::network::Network;
+use crate::reach::Reach;
 use crate::rest::at_rest;
+use bumpalo::Bump;
 use separation_model::{Bundle, Solution};
-use std::alloc::{AllocError, Global};
+use std::alloc::AllocError;
 
 /// The least positions of the bundle for a gap in thousandths, from 0 to the widest, with
-/// multipliers that show it. The only error is out of memory.
+/// multipliers that show it. The solution and all that the call needs for it are in the arena. The
+/// only error is out of memory.
 ///
 /// The multipliers are a flow along rules and limits that are tight. It is pushed along paths (Ford
 /// and Fulkerson, "Maximal flow through a network", 1956) from the items that are pulled to the
 /// right, until each item is balanced or some of them are free to move together, as the blocks of
 /// VPSC (Dwyer, Marriott and Stuckey, 2006). Those then move to their best place or to the first
 /// contact.
-pub fn solve(alloc: Global, bundle: &Bundle, gap: i64) -> Result<Solution, AllocError>
+pub fn solve<'a>(bump: &'a Bump, bundle: &Bundle, gap: i64) -> Result<Solution<'a>, AllocError>
     requires bundle { IsBundle bundle.now }
     requires gap { IsGap bundle.now gap }
     ensures gap { IfOk result (λ s. s.gap ≡ gap) }
@@ -29,25 +32,26 @@ pub fn solve(alloc: Global, bundle: &Bundle, gap: i64) -> Result<Solution, Alloc
     ensures least { IfOk result (λ s. IsLeast bundle.now s.gap s.den.items s.pos.items) }
 {
     if bundle.rules.is_empty() {
-        return at_rest(alloc, bundle, gap);
+        return at_rest(bump, bundle, gap);
     }
-    let mut network = Network::new(alloc, bundle, gap)?;
-    while let Some(block) = network.balance(alloc)? {
-        network.shift(&block)?;
+    let mut network = Network::new(bump, bundle, gap)?;
+    let mut reach = Reach::new(bump, network.places.len())?;
+    while network.balance(&mut reach)? {
+        network.shift(&reach)?;
     }
-    network.into_solution(alloc, bundle, gap)
+    network.into_solution(bump, bundle, gap)
 }
 
-impl Network {
+impl<'a> Network<'a> {
     ghost use Rattle.separation_solve.specs.Network.{IsNetworkOf, IsSound};
 
     /// The network's places and flow as a solution.
     fn into_solution(
         mut self,
-        alloc: Global,
+        bump: &'a Bump,
         bundle: &Bundle,
         gap: i64,
-    ) -> Result<Solution, AllocError>
+    ) -> Result<Solution<'a>, AllocError>
         requires sound { IsSound self }
         requires balanced { All (λ z. z ≡ pos 0) self.excess.items }
         requires bundle { IsBundle bundle.now }
@@ -59,11 +63,16 @@ impl Network {
         if self.mirrored {
             self.mirror();
         }
-        self.solution(alloc, bundle, gap)
+        self.solution(bump, bundle, gap)
     }
 
     /// The places and the flow of a network that is not mirrored.
-    fn solution(&self, alloc: Global, bundle: &Bundle, gap: i64) -> Result<Solution, AllocError>
+    fn solution(
+        &self,
+        bump: &'a Bump,
+        bundle: &Bundle,
+        gap: i64,
+    ) -> Result<Solution<'a>, AllocError>
         requires sound { IsSound self.now }
         requires balanced { All (λ z. z ≡ pos 0) self.now.excess.items }
         requires upright { self.now.mirrored ≡ false }
@@ -78,23 +87,26 @@ impl Network {
         let (low, high) = limits.split_at(bundle.items.len());
         Ok(Solution {
             gap,
-            den: denominators_of(alloc, places)?,
-            pos: numerators_of(alloc, places)?,
-            mult: mult.to_vec(alloc)?,
-            low: low.to_vec(alloc)?,
-            high: high.to_vec(alloc)?,
+            den: denominators_of(bump, places)?,
+            pos: numerators_of(bump, places)?,
+            mult: mult.to_vec(bump)?,
+            low: low.to_vec(bump)?,
+            high: high.to_vec(bump)?,
         })
     }
 }
 
-fn denominators_of(alloc: Global, places: &[Fraction]) -> Result<Vec<u64>, AllocError>
+fn denominators_of<'a>(
+    bump: &'a Bump,
+    places: &[Fraction],
+) -> Result<Vec<u64, &'a Bump>, AllocError>
     ensures { IfOk result (λ v. v.items ≡ map (λ place. place.den) places.now) }
 {
-    places.iter().map(|place| place.den).collect(alloc)
+    places.iter().map(|place| place.den).collect(bump)
 }
 
-fn numerators_of(alloc: Global, places: &[Fraction]) -> Result<Vec<i128>, AllocError>
+fn numerators_of<'a>(bump: &'a Bump, places: &[Fraction]) -> Result<Vec<i128, &'a Bump>, AllocError>
     ensures { IfOk result (λ v. v.items ≡ map (λ place. place.num) places.now) }
 {
-    places.iter().map(|place| place.num).collect(alloc)
+    places.iter().map(|place| place.num).collect(bump)
 }

@@ -12,26 +12,31 @@ ghost use Rattle.separation_solve.specs.Start.{AreAtMost, AreStartPlaces, IsForw
 
 use crate::fraction::Fraction;
 use crate::network::wants_of;
+use bumpalo::Bump;
 use separation_model::{Bundle, Rule, latest_positions, rules_by_left};
-use std::alloc::{AllocError, Global};
+use std::alloc::AllocError;
 
 /// Whole places that meet the bundle with the gap, and last the wall's place.
 ///
 /// Each item is at its want, or as little to the right of it as the rules allow, but never to the
 /// right of its latest place.
-pub fn start_places(alloc: Global, bundle: &Bundle, gap: i64) -> Result<Vec<Fraction>, AllocError>
+pub fn start_places<'a>(
+    bump: &'a Bump,
+    bundle: &Bundle,
+    gap: i64,
+) -> Result<Vec<Fraction, &'a Bump>, AllocError>
     requires bundle { IsBundle bundle.now }
     requires gap { IsGap bundle.now gap }
     ensures { IfOk result (λ places. AreStartPlaces bundle.now gap places.items) }
 {
-    let by_left = rules_by_left(alloc, &bundle.rules)?;
-    let Some(latest) = latest_positions(alloc, bundle, &by_left, gap)? else {
+    let by_left = rules_by_left(bump, &bundle.rules)?;
+    let Some(latest) = latest_positions(bump, bundle, &by_left, gap)? else {
         unreachable!()
     };
-    let mut places = wants_of(alloc, &bundle.items)?;
+    let mut places = wants_of(bump, &bundle.items)?;
     press_on(&mut places, &by_left, gap);
     draw_back(&mut places, &latest);
-    with_wall(alloc, &places)
+    with_wall(bump, &places)
 }
 
 /// Moves items to the right until all rules are met. Every rule goes forward, so none is broken
@@ -69,16 +74,13 @@ fn draw_back(places: &mut [i64], latest: &[i64])
 }
 
 /// The whole places, followed by the wall's place.
-fn with_wall(alloc: Global, places: &[i64]) -> Result<Vec<Fraction>, AllocError>
+fn with_wall<'a>(bump: &'a Bump, places: &[i64]) -> Result<Vec<Fraction, &'a Bump>, AllocError>
     ensures { IfOk result (λ all. all.items ≡ map whole places.now ++ whole (pos 0) ∷ []) }
 {
-    let mut all = whole_places(alloc, places)?;
+    let mut all = Vec::with_capacity(bump, places.len() + 1)?;
+    for at in places {
+        all.push(Fraction::whole(*at))?;
+    }
     all.push(Fraction::whole(0))?;
     Ok(all)
-}
-
-fn whole_places(alloc: Global, places: &[i64]) -> Result<Vec<Fraction>, AllocError>
-    ensures { IfOk result (λ all. all.items ≡ map whole places.now) }
-{
-    places.iter().map(|at| Fraction::whole(*at)).collect(alloc)
 }

@@ -25,7 +25,7 @@ fn raise(numbers: &mut [i128], index: usize, by: i128)
     numbers[index] += by;
 }
 
-impl Network {
+impl Network<'_> {
     ghost use Rattle.separation_solve.specs.Network.{IsSound, KeepsBundle, items_of};
     ghost use Rattle.separation_solve.specs.Sweep.{IsBudget, LeadsOn, load};
 

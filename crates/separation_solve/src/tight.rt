@@ -5,6 +5,7 @@ ghost use Rattle.separation_solve.specs.Network.{AreKept, IsFrame, IsLink, IsSpo
 
 use crate::fraction::Fraction;
 use crate::network::{Link, Network};
+use bumpalo::Bump;
 use std::alloc::AllocError;
 
 impl Link {
@@ -20,7 +21,7 @@ impl Link {
     }
 }
 
-fn clear_lists(lists: &mut [Vec<usize>])
+fn clear_lists(lists: &mut [Vec<usize, &Bump>])
     ensures count { length lists.new ≡ length lists.old }
     ensures empty { All (λ list. list.items ≡ []) lists.new }
 {
@@ -31,7 +32,7 @@ fn clear_lists(lists: &mut [Vec<usize>])
 
 /// Lists each tight link at both its nodes.
 fn list_tight(
-    lists: &mut [Vec<usize>],
+    lists: &mut [Vec<usize, &Bump>],
     places: &[Fraction],
     links: &[Link],
 ) -> Result<(), AllocError>
@@ -51,7 +52,7 @@ fn list_tight(
     Ok(())
 }
 
-impl Network {
+impl Network<'_> {
     /// Lists the tight links anew.
     pub fn relist(&mut self) -> Result<(), AllocError>
         requires frame { IsFrame self.old }

@@ -3,7 +3,6 @@ use crate::asks::open;
 use plane_geom::Point;
 use route_session::Session;
 use scene_store::{Dirs, Edge, Scene, SceneFault, Setting, Via};
-use separation_model::Solution;
 use std::alloc::{AllocError, Global};
 use std::thread::Threads;
 use walk_model::WrittenRoute;
@@ -80,15 +79,12 @@ fn draw(scene: &mut Scene, alloc: Global, row: &Row) -> Result<(), SceneFault> {
     Ok(())
 }
 
-/// A scene, and the expected result of its nudging: the gap of each bundle of both phases, and the
-/// corners of each line.
+/// A scene, and the corners of each of its nudged lines.
 struct Row {
     name: &'static str,
     parts: &'static [&'static [Part]],
     /// The number of additional connectors between the first two boxes.
     crowd: u16,
-    x_gaps: &'static [i64],
-    y_gaps: &'static [i64],
     lines: &'static [&'static [(i64, i64)]],
 }
 
@@ -129,16 +125,12 @@ const ROWS: [Row; 11] = [
         name: "no connectors",
         parts: &[],
         crowd: 0,
-        x_gaps: &[],
-        y_gaps: &[],
         lines: &[],
     },
     Row {
         name: "two round a box",
         parts: &[ROUND, &[JOINED, JOINED]],
         crowd: 0,
-        x_gaps: &[4000, 4000, 4000, 4000],
-        y_gaps: &[4000],
         lines: &[
             &[(0, 0), (0, -28_000), (100_000, -28_000), (100_000, 0)],
             &[(0, 0), (0, -24_000), (100_000, -24_000), (100_000, 0)],
@@ -154,8 +146,6 @@ const ROWS: [Row; 11] = [
             JOINED,
         ]],
         crowd: 0,
-        x_gaps: &[4000],
-        y_gaps: &[4000, 4000, 4000, 4000],
         lines: &[
             &[(0, 0), (-28_000, 0), (-28_000, 100_000), (0, 100_000)],
             &[(0, 0), (-24_000, 0), (-24_000, 100_000), (0, 100_000)],
@@ -165,8 +155,6 @@ const ROWS: [Row; 11] = [
         name: "halves of a thousandth",
         parts: &[&[Part::Nudge(1)], MEETING, MEETING_EDGES],
         crowd: 0,
-        x_gaps: &[1, 1, 1, 1],
-        y_gaps: &[1],
         lines: &[
             &[(0, 24_000), (0, -1), (200_000, -1), (200_000, 24_000)],
             &[
@@ -181,8 +169,6 @@ const ROWS: [Row; 11] = [
         name: "halves of the gap",
         parts: &[&[Part::Nudge(4000)], MEETING, MEETING_EDGES],
         crowd: 0,
-        x_gaps: &[4000, 4000, 4000, 4000],
-        y_gaps: &[4000],
         lines: &[
             &[(0, 24_000), (0, -2000), (200_000, -2000), (200_000, 24_000)],
             &[
@@ -197,8 +183,6 @@ const ROWS: [Row; 11] = [
         name: "weights 3 and 1",
         parts: &[MEETING, &[Part::Heavy, Part::Edge(4, 5, 1)]],
         crowd: 0,
-        x_gaps: &[4000, 4000, 4000, 4000],
-        y_gaps: &[4000],
         lines: &[
             &[(0, 24_000), (0, -1000), (200_000, -1000), (200_000, 24_000)],
             &[
@@ -226,8 +210,6 @@ const ROWS: [Row; 11] = [
             ],
         ],
         crowd: 0,
-        x_gaps: &[4000, 4000, 4000, 4000, 4000, 4000, 4000, 4000, 4000, 4000],
-        y_gaps: &[4000, 2500],
         lines: &[
             &[(0, 24_000), (0, -5000), (100_000, -5000), (100_000, 24_000)],
             &[(0, 24_000), (0, -2500), (100_000, -2500), (100_000, 24_000)],
@@ -257,16 +239,12 @@ const ROWS: [Row; 11] = [
             JOINED,
         ]],
         crowd: 0,
-        x_gaps: &[4000, 4000],
-        y_gaps: &[],
         lines: &[&[(0, 0), (0, 100_000)], &[(0, 0), (0, 100_000)]],
     },
     Row {
         name: "a corridor of width 0 on the way",
         parts: &[LOW_ROUND, &[Part::Node(4, 50, -14, 20, 20), JOINED, JOINED]],
         crowd: 0,
-        x_gaps: &[4000, 4000, 4000, 4000],
-        y_gaps: &[0],
         lines: &[
             &[(0, 24_000), (0, 0), (100_000, 0), (100_000, 24_000)],
             &[(0, 24_000), (0, 0), (100_000, 0), (100_000, 24_000)],
@@ -287,8 +265,6 @@ const ROWS: [Row; 11] = [
             ],
         ],
         crowd: 0,
-        x_gaps: &[4000, 4000, 4000, 4000, 4000, 4000, 4000, 4000],
-        y_gaps: &[4000, 4000],
         lines: &[
             &[
                 (0, 24_000),
@@ -310,14 +286,11 @@ const ROWS: [Row; 11] = [
             ],
         ],
     },
-    // The first and the last run of each are fixed, so each of these is a bundle by itself. The
-    // middle runs are one bundle, above which there is room.
+    // The middle runs are one bundle, above which there is room.
     Row {
         name: "a crowd",
         parts: &[ROUND],
         crowd: 512,
-        x_gaps: &[4000; 1024],
-        y_gaps: &[4000],
         lines: &[],
     },
 ];
@@ -355,16 +328,6 @@ fn are_apart(lines: &[WrittenRoute], crowd: u16) -> bool {
     lines.len() == usize::from(crowd)
 }
 
-/// Whether the bundles have these gaps.
-fn are_gaps(solutions: &[Solution], gaps: &[i64]) -> bool {
-    for (solution, gap) in solutions.iter().zip(gaps) {
-        if solution.gap != *gap {
-            return false;
-        }
-    }
-    solutions.len() == gaps.len()
-}
-
 /// Whether the lines are those of the row.
 fn are_wanted(lines: &[WrittenRoute], row: &Row) -> bool {
     if row.crowd > 0 {
@@ -373,29 +336,18 @@ fn are_wanted(lines: &[WrittenRoute], row: &Row) -> bool {
     are_lines(lines, row.lines)
 }
 
-/// Whether the gaps both ways and the lines are those of a row.
-#[derive(Clone, Copy, PartialEq, Eq)]
-struct Outcome {
-    x_gaps: bool,
-    y_gaps: bool,
-    lines: bool,
-}
-
-fn compared(session: &Session, row: &Row) -> Result<Outcome, AllocError> {
+/// Whether the nudged lines of the session are those of the row.
+fn compared(session: &Session, row: &Row) -> Result<bool, AllocError> {
     let nudged = session.nudged()?;
-    Ok(Outcome {
-        x_gaps: are_gaps(&nudged.x_solutions, row.x_gaps),
-        y_gaps: are_gaps(&nudged.y_solutions, row.y_gaps),
-        lines: are_wanted(&nudged.routes, row),
-    })
+    Ok(are_wanted(&nudged.routes, row))
 }
 
-/// The result of the row in a session, by two workers, or without threads.
+/// Whether the row has its lines in a session, by two workers, or without threads.
 fn reported<R: Threads + Sync>(
     rt: Option<&R>,
     alloc: Global,
     row: &Row,
-) -> Result<Outcome, SceneFault> {
+) -> Result<bool, SceneFault> {
     let mut scene = Scene::new(alloc);
     let drawn = draw(&mut scene, alloc, row);
     let Ok(session) = open(rt, alloc, scene) else {
@@ -409,12 +361,7 @@ fn reported<R: Threads + Sync>(
 
 /// Whether the row has its result.
 fn is_right<R: Threads + Sync>(rt: Option<&R>, alloc: Global, row: &Row) -> bool {
-    let wanted = Outcome {
-        x_gaps: true,
-        y_gaps: true,
-        lines: true,
-    };
-    reported(rt, alloc, row) == Ok(wanted)
+    reported(rt, alloc, row) == Ok(true)
 }
 
 #[test]

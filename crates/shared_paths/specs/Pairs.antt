@@ -42,7 +42,7 @@ next_index route k d = if is_heading (run_at route k).heading d then k + 1 else 
 abbrev pub outward : List Run → Bool → Pair → Dir
 outward a ahead p = leaving ahead (run_at a p.a)
 
--- there both routes do the same, and do not stop
+-- at this end of the pair both routes do the same, and do not stop
 pub record GoesOn (a b : List Run) (ahead : Bool) (p : Pair) : Type 0 where
   pub same : first_entry a p.a (outward a ahead p) ≡ first_entry b p.b (outward a ahead p)
   pub turns : first_entry a p.a (outward a ahead p) ≢ Stop

@@ -48,7 +48,7 @@ end_by Greater ahead near = Parts (seen_ahead ahead (other_side near))
 abbrev pub end_at : List Run → List Run → Bool → Pair → End
 end_at a b ahead p = end_by (entry_cmp (first_entry a p.a (outward a ahead p)) (first_entry b p.b (outward a ahead p))) ahead (near_side (outward a ahead p))
 
--- the hand that the ends of a path agree on
+-- the hand on which both ends of a path are, if they are on one
 abbrev pub agreed : Side → Side → Option Side
 agreed Left Left = Some Left
 agreed Right Right = Some Right

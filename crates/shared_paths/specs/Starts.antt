@@ -40,10 +40,11 @@ pub record BeginsFirst (one other : Stretch) : Type 0 where
 abbrev pub pair_of : Start → Pair
 pair_of s = record { a = s.first; b = s.b_first }
 
--- the start at two stretches, that of the earlier route first; none where they are of one route
+-- the start at a stretch of the one route and a stretch of the other
 abbrev pub start_from : Stretch → Stretch → Start
 start_from one other = record { a = one.route; b = other.route; first = one.index; b_first = other.index }
 
+-- the start at two stretches, that of the earlier route first; none where they are of one route
 abbrev pub start_of : Stretch → Stretch → Option Start
 start_of one other =
     if nat_lt one.route other.route then Some (start_from one other)

@@ -7,7 +7,6 @@ use Rattle.plane_geom.specs.declared.point.Point.{Point}
 use Rattle.plane_geom.specs.declared.point.Way.TheVariants.{Vertical, Horizontal}
 use Rattle.plane_geom.specs.declared.rect.Solid.{Solid}
 use Rattle.segment_order.specs.Run.{runs_along}
-use Rattle.separation_model.specs.declared.bundle.Solution.{Solution}
 use Rattle.walk_model.specs.declared.route.Answer.{Answer}
 use Rattle.walk_model.specs.declared.route.Route.{Route}
 use Rattle.walk_model.specs.declared.route.WrittenRoute.{WrittenRoute}
@@ -80,22 +79,20 @@ written_line route =
     (record { edge = route.edge; points = line.0.points }, record { edge = refl; draws = line.1.draws; corners = line.1.corners })
 
 both_phases : (solids : List Solid) (raw : List PhaseRoute) (nudge : ℤ) → AreRaw raw → All (HasLegalWalk solids) raw → HaveFewRuns raw → IsNudge nudge →
-    (xs : List Solution) × (ys : List Solution) × (lines : List WrittenRoute) × IsNudged solids raw nudge xs ys lines
+    (lines : List WrittenRoute) × IsNudged solids raw nudge lines
 both_phases solids raw nudge are legal few is_nudge =
     let x = some_phase solids raw Vertical nudge (λ k d h. (are.ready k d h).phase) (raw_may_move solids raw nudge are legal) (few Vertical) is_nudge in
-    let same = as_many solids raw Vertical nudge x.0 x.1 x.2 Horizontal in
+    let same = as_many solids raw Vertical nudge x.0 x.1 Horizontal in
     let most = few Horizontal in
-    let ready = x_ready_all solids raw nudge are legal x.0 x.1 x.2 in
-    let y = some_phase solids x.0 Horizontal nudge (λ k d h. (ready k d h).phase) (x_may_move solids raw nudge are legal x.0 x.1 x.2) (omega (arith, same, most)) is_nudge in
+    let ready = x_ready_all solids raw nudge are legal x.0 x.1 in
+    let y = some_phase solids x.0 Horizontal nudge (λ k d h. (ready k d h).phase) (x_may_move solids raw nudge are legal x.0 x.1) (omega (arith, same, most)) is_nudge in
     let lines = partners IsWrittenLine y.0 (recursion_from_All (λ r. (l : WrittenRoute) × IsWrittenLine r l) y.0 (λ k d h. written_line (get_or y.0 k d))) in (
-      x.1,
-      y.1,
       lines.0,
       record {
         after_x = x.0;
         after_y = y.0;
-        x = x.2;
-        y = y.2;
+        x = x.1;
+        y = y.1;
         count = sym (zip_count IsWrittenLine y.0 lines.0 lines.1);
         written = λ k route line e f. zip_read IsWrittenLine y.0 lines.0 k route line lines.1 e f;
       },
@@ -107,4 +104,4 @@ some_nudged_lines s answers valid are =
     let settings = valid.settings in
     let nudged = both_phases (solids s) raw.0 s.settings.nudge (raw_are s answers valid are raw.0 raw.1) (raw_legal s answers valid are raw.0 raw.1) (raw_few s answers valid are raw.0 raw.1)
     (record { low = settings.nudge; high = omega (arith, ints, settings.low_nudge) }) in
-    (nudged.0, nudged.1, nudged.2, record { raw = raw.0; are_raw = raw.1; nudged = nudged.3 })
+    (nudged.0, record { raw = raw.0; are_raw = raw.1; nudged = nudged.1 })

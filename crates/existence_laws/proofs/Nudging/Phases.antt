@@ -186,7 +186,7 @@ module _ (routes : List PhaseRoute) (way : Way) (found : List RunBundle) (soluti
 
 -- routes whose runs may stay have a phase
 pub some_phase : (solids : List Solid) (routes : List PhaseRoute) (way : Way) (nudge : ℤ) → All IsPhaseRoute routes → All (MayMove solids way) routes → length (runs_of_way way routes) ≤ most_items → IsNudge nudge →
-    (after : List PhaseRoute) × (solutions : List Solution) × IsPhase solids routes way nudge after solutions
+    (after : List PhaseRoute) × IsPhase solids routes way nudge after
 some_phase solids routes way nudge good movable few is_nudge =
     let bundles = some_bundles solids routes way nudge good movable few is_nudge in
     let found = bundles.0 in
@@ -195,4 +195,4 @@ some_phase solids routes way nudge good movable few is_nudge =
     let solved = some_solutions found accepted in
     let put = put_all routes way found solved.0 in_them solved.1 in
     let after = follow_all routes way found solved.0 in_them solved.1 put.0 in
-    (after.0, solved.0, is_phase solids routes put.0 after.0 way nudge found solved.0 bundles.1 solved.1 put.1 after.1)
+    (after.0, is_phase solids routes put.0 after.0 way nudge found solved.0 bundles.1 solved.1 put.1 after.1)

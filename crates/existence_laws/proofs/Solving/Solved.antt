@@ -28,7 +28,6 @@ use Rattle.separation_model.proofs.Optimum.Positions.{MeetsOver, ends_within, in
 use Rattle.separation_model.proofs.Gaps.WidestExists.{widest_exists}
 use Rattle.separation_model.proofs.Verifying.Accepted.{accepted}
 use Rattle.nudge_phases.specs.Phase.{IsSolutionOf}
-use Rattle.nudge_phases.proofs.ByFew.{shown_by_all}
 use Rattle.nudge_phases.proofs.Fewer.{vec_like}
 use Rattle.existence_laws.specs.Solutions.{HaveSolutions}
 use Rattle.existence_laws.proofs.Solving.Flows.{IsMet, flow_or_cut, gathered, here_sign, touch}
@@ -330,7 +329,7 @@ module _ (b : Bundle) (gap : ℤ) (ok : IsBundle b) (widest : IsWidestGap b gap)
   shown = accepted b solution widest.low widest.high lengths_are mults_are limits_kept rules_kept at_rest
 
   pub solved : IsSolutionOf b solution
-  solved = record { gap = widest; least = certified_least b solution ok shown.certified; shown = (solution.mult, shown); by_few = shown_by_all b solution shown }
+  solved = record { gap = widest; least = certified_least b solution ok shown.certified; accepted = shown }
 
 -- least positions over any denominators lead to a solution
 by_least : (b : Bundle) (gap : ℤ) (den : List ℕ) (place : List ℤ) → IsBundle b → IsWidestGap b gap → IsLeast b gap den place → (s : Solution) × IsSolutionOf b s

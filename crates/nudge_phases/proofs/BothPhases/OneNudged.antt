@@ -6,7 +6,6 @@ use Rattle.std.proofs.lemmas.List.Elements.{All-weaker}
 use Rattle.std.proofs.lemmas.Option.{slice_get-get_or, slice_get_cases, same_Some}
 use Rattle.plane_geom.specs.declared.point.Way.TheVariants.{Vertical, Horizontal}
 use Rattle.plane_geom.specs.declared.rect.Solid.{Solid}
-use Rattle.separation_model.specs.declared.bundle.Solution.{Solution}
 use Rattle.separation_model.specs.Bundle.{IsBundle}
 use Rattle.walk_model.specs.declared.route.WrittenRoute.{WrittenRoute}
 use Rattle.walk_model.specs.Line.{Draws}
@@ -43,19 +42,19 @@ one_line a b line other same one two =
     let points : line.points ≡ other.points = points_are line.points w one.draws one.corners ∙ sym (points_are other.points w draws count) in
     λ i. record { edge = edge i; points = points i }
 
-module _ (solids : List Solid) (raw : List PhaseRoute) (nudge : ℤ) (xs ys other_xs other_ys : List Solution) (lines others : List WrittenRoute)
-    (one : IsNudged solids raw nudge xs ys lines) (two : IsNudged solids raw nudge other_xs other_ys others) (are_raw : AreRaw raw)
+module _ (solids : List Solid) (raw : List PhaseRoute) (nudge : ℤ) (lines others : List WrittenRoute)
+    (one : IsNudged solids raw nudge lines) (two : IsNudged solids raw nudge others) (are_raw : AreRaw raw)
     (solvable_x : All (λ (b : RunBundle). IsBundle b.bundle) one.x.found) (solvable_y : All (λ (b : RunBundle). IsBundle b.bundle) one.y.found) where
   good : (routes : List PhaseRoute) → All IsReady routes → All IsPhaseRoute routes
   good routes = All-weaker IsReady IsPhaseRoute (λ r is. is.phase) routes
 
   same_x : AreRoutesAlike one.after_x two.after_x
-  same_x = one_phase solids raw raw (like_itself raw) Vertical nudge one.after_x two.after_x xs other_xs one.x two.x (good raw are_raw.ready) are_raw.edges solvable_x
+  same_x = one_phase solids raw raw (like_itself raw) Vertical nudge one.after_x two.after_x one.x two.x (good raw are_raw.ready) are_raw.edges solvable_x
 
   same_y : AreRoutesAlike one.after_y two.after_y
   same_y =
-      one_phase solids one.after_x two.after_x same_x Horizontal nudge one.after_y two.after_y ys other_ys one.y two.y
-      (good one.after_x (x_ready solids raw nudge one.after_x xs one.x are_raw)) (x_edges solids raw nudge one.after_x xs one.x are_raw) solvable_y
+      one_phase solids one.after_x two.after_x same_x Horizontal nudge one.after_y two.after_y one.y two.y
+      (good one.after_x (x_ready solids raw nudge one.after_x one.x are_raw)) (x_edges solids raw nudge one.after_x one.x are_raw) solvable_y
 
   -- the lines are the same
   pub same_lines : lines ≡ others
@@ -75,17 +74,17 @@ module _ (solids : List Solid) (raw : List PhaseRoute) (nudge : ℤ) (xs ys othe
       ])
 
 -- so both results of walked routes are one
-module _ (solids : List Solid) (raw : List PhaseRoute) (nudge : ℤ) (xs ys other_xs other_ys : List Solution) (lines others : List WrittenRoute)
-    (one : IsNudged solids raw nudge xs ys lines) (two : IsNudged solids raw nudge other_xs other_ys others) (walked : AreWalked solids raw) (is_nudge : IsNudge nudge) where
+module _ (solids : List Solid) (raw : List PhaseRoute) (nudge : ℤ) (lines others : List WrittenRoute)
+    (one : IsNudged solids raw nudge lines) (two : IsNudged solids raw nudge others) (walked : AreWalked solids raw) (is_nudge : IsNudge nudge) where
   ready : All IsReady one.after_x
-  ready = x_ready solids raw nudge one.after_x xs one.x walked.raw
+  ready = x_ready solids raw nudge one.after_x one.x walked.raw
 
   may_move_x : All (MayMove solids Vertical) raw
   may_move_x k d h =
       let route = get_or raw k d in
       let y = get_or one.after_x k d in
       let walk = walked.legal k d h in
-      (both_may_move solids raw nudge one.after_x xs one.x walked.raw k route y (slice_get-get_or raw k d h) (slice_get-get_or one.after_x k d (omega (arith, h, one.x.count)))
+      (both_may_move solids raw nudge one.after_x one.x walked.raw k route y (slice_get-get_or raw k d h) (slice_get-get_or one.after_x k d (omega (arith, h, one.x.count)))
       walk.start walk.end walk.is_start walk.is_end walk.source walk.target walk.legal).0
 
   may_move_y : All (MayMove solids Horizontal) one.after_x
@@ -94,13 +93,13 @@ module _ (solids : List Solid) (raw : List PhaseRoute) (nudge : ℤ) (xs ys othe
       let route = get_or raw k d in
       let y = get_or one.after_x k d in
       let walk = walked.legal k d h_raw in
-      (both_may_move solids raw nudge one.after_x xs one.x walked.raw k route y (slice_get-get_or raw k d h_raw) (slice_get-get_or one.after_x k d h)
+      (both_may_move solids raw nudge one.after_x one.x walked.raw k route y (slice_get-get_or raw k d h_raw) (slice_get-get_or one.after_x k d h)
       walk.start walk.end walk.is_start walk.is_end walk.source walk.target walk.legal).1
 
   pub one_nudged : lines ≡ others
   one_nudged =
       let phase_routes = All-weaker IsReady IsPhaseRoute (λ r is. is.phase) in
-      same_lines solids raw nudge xs ys other_xs other_ys lines others one two walked.raw
+      same_lines solids raw nudge lines others one two walked.raw
       (solvable solids raw Vertical nudge one.x.found one.x.bundles (phase_routes raw walked.raw.ready) may_move_x (walked.few Vertical) is_nudge)
       (solvable solids one.after_x Horizontal nudge one.y.found one.y.bundles (phase_routes one.after_x ready) may_move_y
-      (few_after solids raw Vertical nudge one.after_x xs one.x walked.few Horizontal) is_nudge)
+      (few_after solids raw Vertical nudge one.after_x one.x walked.few Horizontal) is_nudge)

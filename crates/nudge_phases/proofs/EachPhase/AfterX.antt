@@ -7,7 +7,6 @@ use Rattle.std.proofs.lemmas.List.Elements.{All-get_or}
 use Rattle.std.proofs.lemmas.Option.{slice_get_within, get_or_from_slice_get}
 use Rattle.plane_geom.specs.declared.point.Way.TheVariants.{Vertical, Horizontal}
 use Rattle.plane_geom.specs.declared.rect.Solid.{Solid}
-use Rattle.separation_model.specs.declared.bundle.Solution.{Solution}
 use Rattle.plane_geom.specs.Floor.{Holds}
 use Rattle.segment_order.specs.declared.run.Run.{Run}
 use Rattle.segment_order.specs.Run.{AreRunsOf, run_at, no_run, line_of_run}
@@ -26,7 +25,7 @@ use Rattle.nudge_phases.proofs.EachPhase.PhaseKept.{phase_ready, phase_edges, ph
 some_steps : (r : Run) → r.lo <ℤ r.hi → 0 < steps_of_run r
 some_steps r h = omega (arith, ints, h)
 
-module _ (solids : List Solid) (raw : List PhaseRoute) (nudge : ℤ) (after : List PhaseRoute) (xs : List Solution) (x : IsPhase solids raw Vertical nudge after xs) (are_raw : AreRaw raw) where
+module _ (solids : List Solid) (raw : List PhaseRoute) (nudge : ℤ) (after : List PhaseRoute) (x : IsPhase solids raw Vertical nudge after) (are_raw : AreRaw raw) where
   pub vertical : All (λ (r : PhaseRoute). HaveLength Vertical r.runs.items) raw
   vertical k d h i e g own = are_raw.long k d h i e g
 
@@ -34,13 +33,13 @@ module _ (solids : List Solid) (raw : List PhaseRoute) (nudge : ℤ) (after : Li
   horizontal k d h i e g own = are_raw.long k d h i e g
 
   pub x_ready : All IsReady after
-  x_ready = phase_ready solids raw Vertical nudge after xs x are_raw.ready are_raw.edges horizontal
+  x_ready = phase_ready solids raw Vertical nudge after x are_raw.ready are_raw.edges horizontal
 
   pub x_edges : AllPairs (λ (r s : PhaseRoute). r.edge ≢ s.edge) after
-  x_edges = phase_edges solids raw Vertical nudge after xs x are_raw.ready are_raw.edges horizontal
+  x_edges = phase_edges solids raw Vertical nudge after x are_raw.ready are_raw.edges horizontal
 
   pub x_vertical : All (λ (r : PhaseRoute). HaveLength Vertical r.runs.items) after
-  x_vertical = phase_long solids raw Vertical nudge after xs x are_raw.ready are_raw.edges horizontal vertical
+  x_vertical = phase_long solids raw Vertical nudge after x are_raw.ready are_raw.edges horizontal vertical
 
   -- both phases get routes whose movable runs may stay at their coordinates
   pub both_may_move : (k : ℕ) (route y : PhaseRoute) → slice_get raw k ≡ Some route → slice_get after k ≡ Some y → (s e : Choice) → IsChoice s → IsChoice e → s.port ≡ route.anchors.source_port → e.port ≡ route.anchors.target_port →
@@ -50,13 +49,13 @@ module _ (solids : List Solid) (raw : List PhaseRoute) (nudge : ℤ) (after : Li
       let one = subst IsReady (get_or_from_slice_get raw k route route at_route) (All-get_or IsReady raw k route k_raw are_raw.ready) in
       let y_one = subst IsReady (get_or_from_slice_get after k y y at_y) (All-get_or IsReady after k y (slice_get_within after k y at_y) x_ready) in
       elim (cases_lt (length route.runs.items) 3) as (λ _. MayMove solids Vertical route × MayMove solids Horizontal y) [
-        | inl short ↦ (let same = phase_short solids raw Vertical nudge after xs x are_raw.ready are_raw.edges horizontal k route y at_route at_y (omega arith) in (
+        | inl short ↦ (let same = phase_short solids raw Vertical nudge after x are_raw.ready are_raw.edges horizontal k route y at_route at_y (omega arith) in (
           short_may_stay route route.edge one.phase.runs one.ports solids Vertical (omega arith),
           short_may_stay y y.edge y_one.phase.runs y_one.ports solids Horizontal (omega (arith, ap length same)),
         ))
         | inr many ↦ (let all_long = subst (λ (r : PhaseRoute). All (λ (t : Run). t.lo <ℤ t.hi) r.runs.items) (get_or_from_slice_get raw k route route at_route) (are_raw.long k route k_raw) in
             let along = from_walk solids route.anchors.via.items s route.runs.items e route.edge one.phase.runs hs he many all_long legal in
-            let along_x = phase_legal solids raw Vertical nudge after xs x are_raw.ready are_raw.edges horizontal k route y at_route at_y s e from to along in (
+            let along_x = phase_legal solids raw Vertical nudge after x are_raw.ready are_raw.edges horizontal k route y at_route at_y s e from to along in (
               may_stay route route.edge one.phase.runs one.ports solids Vertical along.between,
               may_stay y y.edge y_one.phase.runs y_one.ports solids Horizontal along_x.between,
             ))

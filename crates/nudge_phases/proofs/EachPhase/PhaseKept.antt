@@ -71,13 +71,13 @@ module _ (solids : List Solid) (way : Way) (found : List RunBundle) (solutions :
       (λ k h. moved.runs k (omega (arith, h, moved.count)) ∙ short_stays before before.edge are ready.ports solids way moved.ats settled k (omega (arith, h, moved.count)) few)
 
 -- a phase, route by route
-module _ (solids : List Solid) (before : List PhaseRoute) (way : Way) (nudge : ℤ) (after : List PhaseRoute) (solutions : List Solution) (p : IsPhase solids before way nudge after solutions)
+module _ (solids : List Solid) (before : List PhaseRoute) (way : Way) (nudge : ℤ) (after : List PhaseRoute) (p : IsPhase solids before way nudge after)
     (ready : All IsReady before) (edges : AllPairs (λ (r s : PhaseRoute). r.edge ≢ s.edge) before) (long : All (λ (r : PhaseRoute). HaveLength (turned way) r.runs.items) before) where
   pub phase_settled : (k : ℕ) (r s : PhaseRoute) (at_r : slice_get before k ≡ Some r) (at_s : slice_get after k ≡ Some s) → IsSettled solids way r (p.moved k r s at_r at_s).ats
   phase_settled k r s at_r at_s =
       let moved = p.moved k r s at_r at_s in
       let has : Contains before r = (k, slice_get_within before k r at_r, get_or_from_slice_get before k r r at_r) in
-      is_settled solids before way nudge p.found solutions p.bundles p.each
+      is_settled solids before way nudge p.found p.solutions p.bundles p.each
       (All-weaker IsReady IsPhaseRoute (λ t one. one.phase) before ready) edges
       r moved.ats has (All-contains IsReady before r ready has).ports (All-contains (λ (t : PhaseRoute). HaveLength (turned way) t.runs.items) before r long has) moved.put
 
@@ -90,7 +90,7 @@ module _ (solids : List Solid) (before : List PhaseRoute) (way : Way) (nudge : �
       let s = get_or after k d in
       let at_r : slice_get before k ≡ Some r = slice_get-get_or before k d (omega (arith, p.count)) in
       let at_s : slice_get after k ≡ Some s = slice_get-get_or after k d h in
-      stays_ready solids way p.found solutions r s (ready_at k r at_r) (p.moved k r s at_r at_s) (phase_settled k r s at_r at_s)
+      stays_ready solids way p.found p.solutions r s (ready_at k r at_r) (p.moved k r s at_r at_s) (phase_settled k r s at_r at_s)
 
   pub phase_edges : AllPairs (λ (r s : PhaseRoute). r.edge ≢ s.edge) after
   phase_edges i j d h g e =
@@ -105,14 +105,14 @@ module _ (solids : List Solid) (before : List PhaseRoute) (way : Way) (nudge : �
       let k_in : k < length before = omega (arith, p.count) in
       let at_r : slice_get before k ≡ Some r = slice_get-get_or before k d k_in in
       let at_s : slice_get after k ≡ Some s = slice_get-get_or after k d h in
-      stays_long solids way p.found solutions r s (ready_at k r at_r) (p.moved k r s at_r at_s) (phase_settled k r s at_r at_s) (own k d k_in)
+      stays_long solids way p.found p.solutions r s (ready_at k r at_r) (p.moved k r s at_r at_s) (phase_settled k r s at_r at_s) (own k d k_in)
 
   pub phase_legal : (k : ℕ) (r t : PhaseRoute) → slice_get before k ≡ Some r → slice_get after k ≡ Some t → (s e : Choice) → s.port ≡ r.anchors.source_port → e.port ≡ r.anchors.target_port →
       IsLegalAlong solids r.anchors.via.items s r.runs.items e → IsLegalAlong solids t.anchors.via.items s t.runs.items e
-  phase_legal k r t at_r at_t s e from to legal = stays_legal solids way p.found solutions r t (ready_at k r at_r) (p.moved k r t at_r at_t) (phase_settled k r t at_r at_t) s e from to legal
+  phase_legal k r t at_r at_t s e from to legal = stays_legal solids way p.found p.solutions r t (ready_at k r at_r) (p.moved k r t at_r at_t) (phase_settled k r t at_r at_t) s e from to legal
 
   pub phase_short : (k : ℕ) (r t : PhaseRoute) → slice_get before k ≡ Some r → slice_get after k ≡ Some t → length r.runs.items ≤ 2 → t.runs.items ≡ r.runs.items
-  phase_short k r t at_r at_t few = stays_short solids way p.found solutions r t (ready_at k r at_r) (p.moved k r t at_r at_t) (phase_settled k r t at_r at_t) few
+  phase_short k r t at_r at_t few = stays_short solids way p.found p.solutions r t (ready_at k r at_r) (p.moved k r t at_r at_t) (phase_settled k r t at_r at_t) few
 
   -- the other phase accepts the routes of the result
   pub phase_may_move : (k : ℕ) (r : PhaseRoute) (other : Way) → slice_get after k ≡ Some r → (s e : Choice) → IsLegalAlong solids r.anchors.via.items s r.runs.items e → MayMove solids other r
@@ -121,6 +121,6 @@ module _ (solids : List Solid) (before : List PhaseRoute) (way : Way) (nudge : �
       may_stay r r.edge one.phase.runs one.ports solids other legal.between
 
 -- a phase meets every separation
-pub keeps_apart : (solids : List Solid) (before : List PhaseRoute) (way : Way) (nudge : ℤ) (after : List PhaseRoute) (solutions : List Solution) (p : IsPhase solids before way nudge after solutions) →
+pub keeps_apart : (solids : List Solid) (before : List PhaseRoute) (way : Way) (nudge : ℤ) (after : List PhaseRoute) (p : IsPhase solids before way nudge after) →
     All IsPhaseRoute before → AllPairs (λ (r s : PhaseRoute). r.edge ≢ s.edge) before → KeepsApart p
-keeps_apart solids before way nudge after solutions p good edges i j a b y z = all_apart solids before way nudge p.found solutions p.bundles p.each good edges i j a b y z
+keeps_apart solids before way nudge after p good edges i j a b y z = all_apart solids before way nudge p.found p.solutions p.bundles p.each good edges i j a b y z

@@ -13,7 +13,6 @@ use Rattle.plane_geom.specs.Point.{IsCoordinate}
 use Rattle.segment_order.specs.declared.run.Run.{Run}
 use Rattle.plane_geom.specs.Along.{along}
 use Rattle.segment_order.specs.Run.{run_at, start_of_run, end_of_run}
-use Rattle.separation_model.specs.declared.bundle.Solution.{Solution}
 use Rattle.separation_model.specs.Bundle.{IsBundle, int_at, most_items}
 use Rattle.channel_bundles.specs.declared.route.PhaseRoute.{PhaseRoute}
 use Rattle.channel_bundles.specs.declared.member.Member.{Member}
@@ -171,14 +170,14 @@ as_many_in_all way (r ∷ before) (s ∷ after) count each =
     omega (arith, whole s after, whole r before, rest, one)
 
 -- a phase keeps the number of runs of each way
-pub as_many : (solids : List Solid) (before : List PhaseRoute) (way : Way) (nudge : ℤ) (after : List PhaseRoute) (solutions : List Solution) → IsPhase solids before way nudge after solutions →
+pub as_many : (solids : List Solid) (before : List PhaseRoute) (way : Way) (nudge : ℤ) (after : List PhaseRoute) → IsPhase solids before way nudge after →
     (other : Way) → length (runs_of_way other after) ≡ length (runs_of_way other before)
-as_many solids before way nudge after solutions phase other = as_many_in_all other before after phase.count
+as_many solids before way nudge after phase other = as_many_in_all other before after phase.count
     (λ k r s at_r at_s.
     let moved = phase.moved k r s at_r at_s in
     as_many_runs other s.runs.items r.runs.items moved.count
     (λ j h. let h_r : j < length r.runs.items = omega (arith, h, moved.count) in ap (λ (t : Run). t.way) (moved.runs j h_r) ∙ moved_way way r.runs.items moved.ats j))
 
-pub few_after : (solids : List Solid) (before : List PhaseRoute) (way : Way) (nudge : ℤ) (after : List PhaseRoute) (solutions : List Solution) → IsPhase solids before way nudge after solutions →
+pub few_after : (solids : List Solid) (before : List PhaseRoute) (way : Way) (nudge : ℤ) (after : List PhaseRoute) → IsPhase solids before way nudge after →
     HaveFewRuns before → HaveFewRuns after
-few_after solids before way nudge after solutions phase few other = omega (arith, few other, as_many solids before way nudge after solutions phase other)
+few_after solids before way nudge after phase few other = omega (arith, few other, as_many solids before way nudge after phase other)

@@ -154,8 +154,8 @@ module _ (way : Way) (runs : List Run) (ats others : List ℤ) (agree : (k : ℕ
       (ap (λ z. stretch r.heading r z (corner way runs ats (k + 1) to)) (corner_same (k - 1) from) ∙ ap (λ z. stretch r.heading r (corner way runs others (k - 1) from) z) (corner_same (k + 1) to))
 
 -- what a phase makes of routes that are alike is alike
-module _ (solids : List Solid) (before others : List PhaseRoute) (alike : AreRoutesAlike before others) (way : Way) (nudge : ℤ) (after after_others : List PhaseRoute) (xs ys : List Solution)
-    (one : IsPhase solids before way nudge after xs) (two : IsPhase solids others way nudge after_others ys) (good : All IsPhaseRoute before) (edges : AllPairs (λ (r s : PhaseRoute). r.edge ≢ s.edge) before)
+module _ (solids : List Solid) (before others : List PhaseRoute) (alike : AreRoutesAlike before others) (way : Way) (nudge : ℤ) (after after_others : List PhaseRoute)
+    (one : IsPhase solids before way nudge after) (two : IsPhase solids others way nudge after_others) (good : All IsPhaseRoute before) (edges : AllPairs (λ (r s : PhaseRoute). r.edge ≢ s.edge) before)
     (solvable : All (λ (b : RunBundle). IsBundle b.bundle) one.found) where
   like : (k : ℕ) (d e : PhaseRoute) → k < length before → IsRouteAlike (get_or before k d) (get_or others k e)
   like k d e h = alike.each k (get_or before k d) (get_or others k e) (slice_get-get_or before k d h) (slice_get-get_or others k e (omega (arith, alike.count)))
@@ -178,10 +178,10 @@ module _ (solids : List Solid) (before others : List PhaseRoute) (alike : AreRou
       let first = one.moved k a r (slice_get-get_or before k r within) at_r in
       let second = two.moved k b s (slice_get-get_or others k r (omega (arith, within, alike.count))) at_s in
       let rs = a.runs.items in
-      let put : (j : ℕ) → j < length rs → (run_at rs j).way ≡ way → IsPutAt two.found ys (run_at rs j) (int_at second.ats j) =
-      subst (λ runs. (j : ℕ) → j < length runs → (run_at runs j).way ≡ way → IsPutAt two.found ys (run_at runs j) (int_at second.ats j)) (sym same.runs) second.put in
+      let put : (j : ℕ) → j < length rs → (run_at rs j).way ≡ way → IsPutAt two.found two.solutions (run_at rs j) (int_at second.ats j) =
+      subst (λ runs. (j : ℕ) → j < length runs → (run_at runs j).way ≡ way → IsPutAt two.found two.solutions (run_at runs j) (int_at second.ats j)) (sym same.runs) second.put in
       let agree : (j : ℕ) → j < length rs → (run_at rs j).way ≡ way → int_at first.ats j ≡ int_at second.ats j = λ j h own.
-      one_put solids before way nudge good edges one.found two.found one.bundles same_bundles solvable xs ys one.solved one.each two.each (run_at rs j) (int_at first.ats j) (int_at second.ats j) (first.put j h own) (put j h own) in
+      one_put solids before way nudge good edges one.found two.found one.bundles same_bundles solvable one.solutions two.solutions one.solved one.each two.each (run_at rs j) (int_at first.ats j) (int_at second.ats j) (first.put j h own) (put j h own) in
       let moved : (j : ℕ) → j < length rs → run_at s.runs.items j ≡ moved_run way rs second.ats j =
       subst (λ runs. (j : ℕ) → j < length runs → run_at s.runs.items j ≡ moved_run way runs second.ats j) (sym same.runs) second.runs in
       record {

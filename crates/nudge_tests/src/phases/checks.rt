@@ -136,7 +136,7 @@ fn are_on_sheet(points: &[Point]) -> bool
     points.iter().all(|p| p.is_on_sheet())
 }
 
-fn is_phase_route(route: &PhaseRoute) -> bool
+fn is_phase_route(route: &PhaseRoute<'_>) -> bool
     ensures { IsTrue result → IsPhaseRoute route.now }
 {
     let are_runs = !route.runs.is_empty()
@@ -150,20 +150,20 @@ fn is_phase_route(route: &PhaseRoute) -> bool
 }
 
 /// Whether a phase accepts each route.
-pub(super) fn are_phase_routes(routes: &[PhaseRoute]) -> bool
+pub(super) fn are_phase_routes(routes: &[PhaseRoute<'_>]) -> bool
     ensures { IsTrue result → All IsPhaseRoute routes.now }
 {
     routes.iter().all(|r| is_phase_route(r))
 }
 
-fn is_of_none(edge: u32, routes: &[PhaseRoute]) -> bool
+fn is_of_none(edge: u32, routes: &[PhaseRoute<'_>]) -> bool
     ensures { IsTrue result → All (λ r. r.edge ≢ edge) routes.now }
 {
     routes.iter().all(|r| r.edge != edge)
 }
 
 /// Whether the routes are of different edges.
-pub(super) fn are_of_different_edges(routes: &[PhaseRoute]) -> bool
+pub(super) fn are_of_different_edges(routes: &[PhaseRoute<'_>]) -> bool
     ensures { IsTrue result → AllPairs (λ r s. r.edge ≢ s.edge) routes.now }
 {
     for k in 0..routes.len() {
@@ -174,20 +174,20 @@ pub(super) fn are_of_different_edges(routes: &[PhaseRoute]) -> bool
     true
 }
 
-fn has_few_runs(route: &PhaseRoute) -> bool
+fn has_few_runs(route: &PhaseRoute<'_>) -> bool
     ensures { IsTrue result → length route.now.runs.items ≤ 1000 }
 {
     route.runs.len() <= 1000
 }
 
-fn have_few_runs(routes: &[PhaseRoute]) -> bool
+fn have_few_runs(routes: &[PhaseRoute<'_>]) -> bool
     ensures { IsTrue result → All (λ r. length r.runs.items ≤ 1000) routes.now }
 {
     routes.iter().all(|r| has_few_runs(r))
 }
 
 /// Whether there are few routes, of few runs each.
-pub(super) fn are_few(routes: &[PhaseRoute]) -> bool
+pub(super) fn are_few(routes: &[PhaseRoute<'_>]) -> bool
     ensures { IsTrue result → (way : Way) → length (runs_of_way way routes.now) ≤ most_items }
 {
     routes.len() <= 1000 && have_few_runs(routes)
@@ -242,7 +242,7 @@ fn has_reached_each(run: &Run, dir: Dir, via: &[Point], neighbour: &Run) -> bool
 }
 
 /// Whether the run before extends as far as it has to.
-fn is_reached_before(route: &PhaseRoute, k: usize) -> bool
+fn is_reached_before(route: &PhaseRoute<'_>, k: usize) -> bool
     requires first { 0 < k }
     requires within { k < length route.now.runs.items }
     ensures { IsTrue result → (p : Point) → HasToReach route.now (k - 1) p →
@@ -257,7 +257,7 @@ fn is_reached_before(route: &PhaseRoute, k: usize) -> bool
 }
 
 /// Whether the run after begins where it has to.
-fn is_reached_after(route: &PhaseRoute, k: usize) -> bool
+fn is_reached_after(route: &PhaseRoute<'_>, k: usize) -> bool
     requires { k + 1 < length route.now.runs.items }
     ensures { IsTrue result → (p : Point) → HasToLeave route.now (k + 1) p →
         IsReached (opposite (run_at route.now.runs.items (k + 1)).heading) (across (run_at route.now.runs.items k).way p) (run_at route.now.runs.items k).at }
@@ -272,7 +272,7 @@ fn is_reached_after(route: &PhaseRoute, k: usize) -> bool
 }
 
 /// Whether the run, which is not the first or the last, may stay at its coordinate.
-fn may_stand(route: &PhaseRoute, solids: &[Solid], k: usize) -> bool
+fn may_stand(route: &PhaseRoute<'_>, solids: &[Solid], k: usize) -> bool
     requires { k < length route.now.runs.items }
     ensures { IsTrue result → MayStandAt solids.now route.now k (run_at route.now.runs.items k).at }
 {
@@ -287,7 +287,7 @@ fn may_stand(route: &PhaseRoute, solids: &[Solid], k: usize) -> bool
 }
 
 /// Whether the run may stay at its coordinate, if it is movable and of the way.
-fn may_stand_if_movable(route: &PhaseRoute, solids: &[Solid], way: Way, k: usize) -> bool
+fn may_stand_if_movable(route: &PhaseRoute<'_>, solids: &[Solid], way: Way, k: usize) -> bool
     requires { k < length route.now.runs.items }
     ensures { IsTrue result → (run_at route.now.runs.items k).way ≡ way → (IsFixed route.now k → ⊥) →
         MayStandAt solids.now route.now k (run_at route.now.runs.items k).at }
@@ -301,7 +301,7 @@ fn may_stand_if_movable(route: &PhaseRoute, solids: &[Solid], way: Way, k: usize
     may_stand(route, solids, k)
 }
 
-fn may_move(route: &PhaseRoute, solids: &[Solid], way: Way) -> bool
+fn may_move(route: &PhaseRoute<'_>, solids: &[Solid], way: Way) -> bool
     ensures { IsTrue result → IsMovable solids.now way route.now }
 {
     for k in 0..route.runs.len() {
@@ -313,7 +313,7 @@ fn may_move(route: &PhaseRoute, solids: &[Solid], way: Way) -> bool
 }
 
 /// Whether each movable run of the way may stay at its coordinate.
-pub(super) fn may_all_move(routes: &[PhaseRoute], solids: &[Solid], way: Way) -> bool
+pub(super) fn may_all_move(routes: &[PhaseRoute<'_>], solids: &[Solid], way: Way) -> bool
     ensures { IsTrue result → All (IsMovable solids.now way) routes.now }
 {
     routes.iter().all(|r| may_move(r, solids, way))

@@ -3,7 +3,7 @@ use Rattle.std.proofs.Common.{◌≡◌, ℕ, zero, suc, ◌*◌, ◌/◌, ◌<�
 use Rattle.std.proofs.lemmas.Int.{ints}
 use Rattle.std.proofs.lemmas.Bool.{cases_Bool, cases_eq}
 use Rattle.std.proofs.Math.Nat.{mul-div_cancel}
-use Rattle.std.specs.declared.alloc.Global.{Global}
+use Rattle.separation_model.specs.Arena.{Arena}
 use Rattle.separation_solve.specs.declared.fraction.Fraction.{Fraction}
 use Rattle.separation_solve.specs.declared.network.Network.{Network}
 use Rattle.separation_solve.specs.declared.reach.Reach.{Reach}
@@ -92,7 +92,7 @@ node_cases n start r best place new move i h =
     (cases_eq i (items_of n))
 
 -- the network with the new places
-abbrev pub with_places : Network → Vec Fraction Global → Network
+abbrev pub with_places : Network → Vec Fraction Arena → Network
 with_places n places = record n { places = places }
 
 -- a fraction to the right of one that stands on the sheet, and so far from it, is not left of the sheet
@@ -286,7 +286,7 @@ objective_sign n = sum_below-sign (items_of n) (λ i. squared (factorial most_we
     (omega (arith, ints)) (square-nonneg (pos (factorial most_weight / (place_at n.places.items i).den) *ℤ ((place_at n.places.items i).num -ℤ (pos (place_at n.places.items i).den *ℤ int_at n.wants.items i)))))
 
 -- the sum of squares falls
-pub objective_falls : (n : Network) (start : ℕ) (r : Reach) (best place : Fraction) (places : Vec Fraction Global) → IsMove n start r best place places.items →
+pub objective_falls : (n : Network) (start : ℕ) (r : Reach) (best place : Fraction) (places : Vec Fraction Arena) → IsMove n start r best place places.items →
     objective (with_places n places) <ℤ objective n
 objective_falls n start r best place places move =
     let items = items_of n in
@@ -313,7 +313,7 @@ pub record IsMoved (old new : Network) : Type 0 where
   pub kept : AreKept new
   pub falls : unsigned_abs (objective new) < unsigned_abs (objective old)
 
-moved_with : (n : Network) (start : ℕ) (r : Reach) (best place : Fraction) (places : Vec Fraction Global) → IsMove n start r best place places.items → IsMoved n (with_places n places)
+moved_with : (n : Network) (start : ℕ) (r : Reach) (best place : Fraction) (places : Vec Fraction Arena) → IsMove n start r best place places.items → IsMoved n (with_places n places)
 moved_with n start r best place places move =
     let frame = move.sound.frame in
     let kept = move.sound.kept in

@@ -2,7 +2,7 @@
 use Rattle.std.proofs.Common.{◌≡◌, ℕ, zero, suc, ◌+◌, ◌^◌, ◌<◌, ◌≤◌, ℤ, pos, ◌-ℤ◌, ◌*ℤ◌, ◌≤ℤ◌, FitsSigned, unsigned_abs, Vec, All, length, set, slice_index, arith, ap, sym, subst, ◌∙◌, mul-le-mul, lit<, ⊎_elim, length-set, get_or-set_same, get_or-set_other}
 use Rattle.std.proofs.lemmas.Bool.{cases_eq}
 use mir.Syntax.{w128}
-use Rattle.std.specs.declared.alloc.Global.{Global}
+use Rattle.separation_model.specs.Arena.{Arena}
 use Rattle.std.proofs.lemmas.Int.{ints, fits_signed_from_abs, unsigned_abs-mul}
 use Rattle.std.proofs.lemmas.List.Elements.{All-get_or, All-from_get_or}
 use Rattle.plane_geom.specs.Point.{IsCoordinate}
@@ -86,7 +86,7 @@ pub record IsReleasing (n now : Network) (k : ℕ) : Type 0 where
   pub cleared : (j : ℕ) → j < length now.flow.items → int_at now.flow.items j ≡ pos 0
   pub done : (i : ℕ) → i < k → int_at now.excess.items i ≡ force n i
 
-pub frame_with : (n : Network) (flow excess : Vec ℤ Global) → IsFrame n → length flow.items ≡ length n.flow.items → length excess.items ≡ length n.excess.items → IsFrame (record n { flow = flow; excess = excess })
+pub frame_with : (n : Network) (flow excess : Vec ℤ Arena) → IsFrame n → length flow.items ≡ length n.flow.items → length excess.items ≡ length n.excess.items → IsFrame (record n { flow = flow; excess = excess })
 frame_with n flow excess frame long also = record {
   few = frame.few;
   weights = frame.weights;
@@ -101,7 +101,7 @@ frame_with n flow excess frame long also = record {
   limited = frame.limited;
 }
 
-pub kept_with : (n : Network) (flow excess : Vec ℤ Global) → AreKept n → AreKept (record n { flow = flow; excess = excess })
+pub kept_with : (n : Network) (flow excess : Vec ℤ Arena) → AreKept n → AreKept (record n { flow = flow; excess = excess })
 kept_with n flow excess kept = record {
   spots = kept.spots;
   wall_num = kept.wall_num;
@@ -125,7 +125,7 @@ released n now k frame kept tight r all =
     (subst (λ (m : Network). ListsTight m.places.items m.links.items m.tight.items) (sym r.rest) tight) r.cleared
     (λ i h. r.done i (omega (arith, h, all)) ∙ sym (force_same n now k i r))
 
-pub releasing_more : (n now : Network) (excess : Vec ℤ Global) (k : ℕ) (z : ℤ) → IsReleasing n now k → k < length now.excess.items → excess.items ≡ set now.excess.items k z → z ≡ force now k → IsReleasing n (record now { excess = excess }) (k + 1)
+pub releasing_more : (n now : Network) (excess : Vec ℤ Arena) (k : ℕ) (z : ℤ) → IsReleasing n now k → k < length now.excess.items → excess.items ≡ set now.excess.items k z → z ≡ force now k → IsReleasing n (record now { excess = excess }) (k + 1)
 releasing_more n now excess k z r h is e = record {
   rest = ap (λ (m : Network). record m { excess = excess }) r.rest;
   flow_long = r.flow_long;

@@ -1,6 +1,6 @@
 -- A network whose left and right have changed sides.
 use Rattle.std.proofs.Common.{◌≡◌, ℕ, ◌+◌, ◌<◌, Bool, true, false, not, ℤ, pos, neg_ℤ, ◌-ℤ◌, ◌*ℤ◌, ◌≤ℤ◌, unsigned_abs, Vec, All, Contains, List, [], ◌∷◌, map, length, get_or, slice_index, if◌then◌else◌, arith, refl, ap, sym, subst, ◌∙◌}
-use Rattle.std.specs.declared.alloc.Global.{Global}
+use Rattle.separation_model.specs.Arena.{Arena}
 use Rattle.std.proofs.Math.IntN.{neg_ℤ-neg_ℤ}
 use Rattle.std.proofs.Math.ListN.{get_or-map}
 use Rattle.std.proofs.lemmas.Int.{ints}
@@ -95,13 +95,13 @@ force_turned w place den want =
     ring (pos w ∷ place ∷ pos den ∷ want ∷ []) (num (pos 2) ⊗ var 0 ⊗ (minus (var 1) ⊖ (var 2 ⊗ minus (var 3)))) (minus (num (pos 2) ⊗ var 0 ⊗ (var 1 ⊖ (var 2 ⊗ var 3)))) refl
 
 -- lists of a network, mirrored
-pub record AreTurned (n : Network) (links : Vec Link Global) (wants : Vec ℤ Global) (places : Vec Fraction Global) (excess : Vec ℤ Global) : Type 0 where
+pub record AreTurned (n : Network) (links : Vec Link Arena) (wants : Vec ℤ Arena) (places : Vec Fraction Arena) (excess : Vec ℤ Arena) : Type 0 where
   pub links_are : links.items ≡ map turned_link n.links.items
   pub wants_are : wants.items ≡ map neg_ℤ n.wants.items
   pub places_are : places.items ≡ map turned_place n.places.items
   pub excess_are : excess.items ≡ map neg_ℤ n.excess.items
 
-turned_frame : (n : Network) (links : Vec Link Global) (wants : Vec ℤ Global) (places : Vec Fraction Global) (excess : Vec ℤ Global) (mirrored : Bool) → IsFrame n → AreTurned n links wants places excess →
+turned_frame : (n : Network) (links : Vec Link Arena) (wants : Vec ℤ Arena) (places : Vec Fraction Arena) (excess : Vec ℤ Arena) (mirrored : Bool) → IsFrame n → AreTurned n links wants places excess →
     IsFrame (record n { links = links; wants = wants; mirrored = mirrored; places = places; excess = excess })
 turned_frame n links wants places excess mirrored frame t =
     let many : length links.items ≡ length n.links.items = ap length t.links_are ∙ length-map n.links.items turned_link in
@@ -136,7 +136,7 @@ turned_frame n links wants places excess mirrored frame t =
           };
     }
 
-turned_kept : (n : Network) (links : Vec Link Global) (wants : Vec ℤ Global) (places : Vec Fraction Global) (excess : Vec ℤ Global) (mirrored : Bool) → AreKept n → AreTurned n links wants places excess →
+turned_kept : (n : Network) (links : Vec Link Arena) (wants : Vec ℤ Arena) (places : Vec Fraction Arena) (excess : Vec ℤ Arena) (mirrored : Bool) → AreKept n → AreTurned n links wants places excess →
     AreKept (record n { links = links; wants = wants; mirrored = mirrored; places = places; excess = excess })
 turned_kept n links wants places excess mirrored kept t =
     let many : length links.items ≡ length n.links.items = ap length t.links_are ∙ length-map n.links.items turned_link in
@@ -154,7 +154,7 @@ turned_kept n links wants places excess mirrored kept t =
     }
 
 -- the same links are tight
-turned_tight : (n : Network) (links : Vec Link Global) (wants : Vec ℤ Global) (places : Vec Fraction Global) (excess : Vec ℤ Global) → ListsTight n.places.items n.links.items n.tight.items → AreTurned n links wants places excess →
+turned_tight : (n : Network) (links : Vec Link Arena) (wants : Vec ℤ Arena) (places : Vec Fraction Arena) (excess : Vec ℤ Arena) → ListsTight n.places.items n.links.items n.tight.items → AreTurned n links wants places excess →
     ListsTight places.items links.items n.tight.items
 turned_tight n links wants places excess tight t =
     let many : length links.items ≡ length n.links.items = ap length t.links_are ∙ length-map n.links.items turned_link in
@@ -176,11 +176,11 @@ turned_tight n links wants places excess tight t =
             at_from = λ d. subst (λ i. Contains (get_or n.tight.items i d).items j) (sym (from j)) (l.at_to d);
             at_to = λ d. subst (λ i. Contains (get_or n.tight.items i d).items j) (sym (to j)) (l.at_from d);
           };
-      no_others = All-weaker (λ (v : Vec ℕ Global). All (IsTightAt n.places.items n.links.items) v.items) (λ (v : Vec ℕ Global). All (IsTightAt places.items links.items) v.items)
+      no_others = All-weaker (λ (v : Vec ℕ Arena). All (IsTightAt n.places.items n.links.items) v.items) (λ (v : Vec ℕ Arena). All (IsTightAt places.items links.items) v.items)
           (λ v h. All-weaker (IsTightAt n.places.items n.links.items) (IsTightAt places.items links.items) there v.items h) n.tight.items tight.no_others;
     }
 
-turned_flow : (n : Network) (links : Vec Link Global) (wants : Vec ℤ Global) (places : Vec Fraction Global) (excess : Vec ℤ Global) (mirrored : Bool) → IsFrame n → IsFlow n → AreTurned n links wants places excess →
+turned_flow : (n : Network) (links : Vec Link Arena) (wants : Vec ℤ Arena) (places : Vec Fraction Arena) (excess : Vec ℤ Arena) (mirrored : Bool) → IsFrame n → IsFlow n → AreTurned n links wants places excess →
     IsFlow (record n { links = links; wants = wants; mirrored = mirrored; places = places; excess = excess })
 turned_flow n links wants places excess mirrored frame flow t =
     let items : length wants.items ≡ items_of n = ap length t.wants_are ∙ length-map n.wants.items neg_ℤ in
@@ -210,7 +210,7 @@ turned_flow n links wants places excess mirrored frame flow t =
       small_all = omega (arith, ints, count, most, flow.small_all);
     }
 
-pub turned_sound : (n : Network) (links : Vec Link Global) (wants : Vec ℤ Global) (places : Vec Fraction Global) (excess : Vec ℤ Global) (mirrored : Bool) → IsSound n → AreTurned n links wants places excess →
+pub turned_sound : (n : Network) (links : Vec Link Arena) (wants : Vec ℤ Arena) (places : Vec Fraction Arena) (excess : Vec ℤ Arena) (mirrored : Bool) → IsSound n → AreTurned n links wants places excess →
     IsSound (record n { links = links; wants = wants; mirrored = mirrored; places = places; excess = excess })
 turned_sound n links wants places excess mirrored sound t = record {
   frame = turned_frame n links wants places excess mirrored sound.frame t;

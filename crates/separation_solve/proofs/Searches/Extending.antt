@@ -1,6 +1,6 @@
 -- A search that continues over the tight links listed at a node, and its result.
 use Rattle.std.proofs.Common.{◌≡◌, ℕ, ◌+◌, ◌<◌, ◌≤◌, IsSome, List, length, get_or, All, Contains, Vec, arith, refl, sym, subst, ◌∙◌, ⊎_elim}
-use Rattle.std.specs.declared.alloc.Global.{Global}
+use Rattle.separation_model.specs.Arena.{Arena}
 use Rattle.std.proofs.lemmas.Bool.{cases_lt}
 use Rattle.std.proofs.lemmas.Int.{ints}
 use Rattle.std.proofs.lemmas.List.{get_or_default}
@@ -13,10 +13,10 @@ use Rattle.separation_solve.specs.Reach.{AddsLeads, IsBlock, TakesFlow, IsAfter,
 use Rattle.separation_solve.proofs.Lists.Optional.{match_some, some_is}
 
 -- the links that are listed at a node are tight
-pub listed_tight : (n : Network) (a : ℕ) (v : Vec ℕ Global) → IsSound n → a < length n.tight.items → v ≡ get_or n.tight.items a v → All (IsTightAt n.places.items n.links.items) v.items
+pub listed_tight : (n : Network) (a : ℕ) (v : Vec ℕ Arena) → IsSound n → a < length n.tight.items → v ≡ get_or n.tight.items a v → All (IsTightAt n.places.items n.links.items) v.items
 listed_tight n a v sound h e =
-    subst (λ (w : Vec ℕ Global). All (IsTightAt n.places.items n.links.items) w.items) (sym e)
-    (All-get_or (λ (w : Vec ℕ Global). All (IsTightAt n.places.items n.links.items) w.items) n.tight.items a v h sound.tight.no_others)
+    subst (λ (w : Vec ℕ Arena). All (IsTightAt n.places.items n.links.items) w.items) (sym e)
+    (All-get_or (λ (w : Vec ℕ Arena). All (IsTightAt n.places.items n.links.items) w.items) n.tight.items a v h sound.tight.no_others)
 
 -- flow goes over tight links alone
 lead_tight : (n : Network) (j a b : ℕ) → IsSound n → j < length n.links.items → IsLead n j a b → IsTight n.places.items (link_at n.links.items j)
@@ -66,18 +66,18 @@ pub old_start : (n : Network) (old r s : Reach) → IsReach n (start_of old) r �
 old_start n old r s reach after = subst (λ i. IsReach n i s) reach.first after
 
 -- every link over which flow can go from the node stands in its list
-pub listed_at : (n : Network) (a j b : ℕ) (v : Vec ℕ Global) → IsSound n → j < length n.links.items → a < length n.tight.items → v ≡ get_or n.tight.items a v → IsLead n j a b → Contains v.items j
+pub listed_at : (n : Network) (a j b : ℕ) (v : Vec ℕ Arena) → IsSound n → j < length n.links.items → a < length n.tight.items → v ≡ get_or n.tight.items a v → IsLead n j a b → Contains v.items j
 listed_at n a j b v sound h inside e lead =
     let listed = sound.tight.listed j (record { link = h; tight = lead_tight n j a b sound h lead }) in
     let at : (i : ℕ) → i ≡ a → Contains (get_or n.tight.items i v).items j → Contains v.items j = λ i q c.
-    subst (λ (w : Vec ℕ Global). Contains w.items j) (sym e) (subst (λ k. Contains (get_or n.tight.items k v).items j) q c) in
+    subst (λ (w : Vec ℕ Arena). Contains w.items j) (sym e) (subst (λ k. Contains (get_or n.tight.items k v).items j) q c) in
     ⊎_elim
     (λ p. at (link_at n.links.items j).from p.0 (listed.at_from v))
     (λ p. at (link_at n.links.items j).to p.0 (listed.at_to v))
     lead
 
 -- so all nodes to which flow can go were added
-pub all_added : (n : Network) (a : ℕ) (v : Vec ℕ Global) (r : Reach) → IsSound n → a < length n.tight.items → v ≡ get_or n.tight.items a v →
+pub all_added : (n : Network) (a : ℕ) (v : Vec ℕ Arena) (r : Reach) → IsSound n → a < length n.tight.items → v ≡ get_or n.tight.items a v →
     ((i b : ℕ) → i < length v.items → IsLead n (get_or v.items i 0) a b → IsSome (found_at r.found.items b)) →
     (j b : ℕ) → j < length n.links.items → IsLead n j a b → IsSome (found_at r.found.items b)
 all_added n a v r sound inside e adds j b h lead =

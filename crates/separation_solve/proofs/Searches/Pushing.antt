@@ -1,6 +1,6 @@
 -- What a push leaves.
 use Rattle.std.proofs.Common.{◌≡◌, ◌≢◌, ℕ, ◌<◌, ℤ, pos, neg_ℤ, ◌-ℤ◌, ◌+ℤ◌, ◌*ℤ◌, ◌≤ℤ◌, ◌<ℤ◌, unsigned_abs, Vec, List, [], ◌∷◌, length, set, arith, refl, ap, sym, subst, ◌∙◌, ⊎_elim, length-set, get_or-set_other, get_or-set_same}
-use Rattle.std.specs.declared.alloc.Global.{Global}
+use Rattle.separation_model.specs.Arena.{Arena}
 use Rattle.std.proofs.lemmas.Bool.{cases_eq}
 use Rattle.std.proofs.lemmas.Int.{ints}
 use Rattle.separation_model.specs.Bundle.{int_at}
@@ -89,7 +89,7 @@ settled_at_item zs from to a fall h k apart some capacity takes =
     }
 
 -- the network with the flow sent on
-pub pushed : (n : Network) (flow excess : Vec ℤ Global) (r : Reach) (target : ℕ) (a : ℤ) → IsSound n → IsReach n (start_of r) r → target < length r.steps.items → pos 0 <ℤ a →
+pub pushed : (n : Network) (flow excess : Vec ℤ Arena) (r : Reach) (target : ℕ) (a : ℤ) → IsSound n → IsReach n (start_of r) r → target < length r.steps.items → pos 0 <ℤ a →
     IsSent n r target 0 a flow.items → IsSettled n.excess.items excess.items (start_of r) (step_at r.steps.items target).node a a → IsSound (record n { flow = flow; excess = excess })
 pushed n flow excess r target a sound reach h some sent settled =
     let m : Network = record n { flow = flow; excess = excess } in

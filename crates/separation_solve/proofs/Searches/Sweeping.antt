@@ -1,6 +1,6 @@
 -- What a send over one link leaves.
 use Rattle.std.proofs.Common.{◌≡◌, ◌≢◌, ℕ, zero, suc, ◌-◌, ◌<◌, ◌≤◌, ℤ, pos, neg_ℤ, ◌-ℤ◌, ◌+ℤ◌, ◌*ℤ◌, ◌≤ℤ◌, ◌<ℤ◌, unsigned_abs, Vec, List, [], ◌∷◌, length, set, sum_by, arith, refl, ap, sym, subst, ◌∙◌, length-set, get_or-set_other}
-use Rattle.std.specs.declared.alloc.Global.{Global}
+use Rattle.separation_model.specs.Arena.{Arena}
 use Rattle.std.proofs.lemmas.Int.{ints}
 use Rattle.std.proofs.lemmas.List.Sums.{sum_by-cons}
 use Rattle.separation_model.specs.Bundle.{int_at}
@@ -75,7 +75,7 @@ small_load (suc k) flow size some sum small =
     omega (arith, ints, each, ap (λ x. x *ℤ size) is, ap (λ x. x *ℤ pos most_force) is, more size, more (pos most_force))
 
 -- the network with the deficit sent over the link
-pub sent_over : (n : Network) (flow excess : Vec ℤ Global) (item to j : ℕ) (a : ℤ) → IsSound n → LeadsOn n item j → to ≡ (link_at n.links.items j).to → 0 < items_of n → pos 0 <ℤ a → (load n +ℤ a) ≤ℤ pos most_force →
+pub sent_over : (n : Network) (flow excess : Vec ℤ Arena) (item to j : ℕ) (a : ℤ) → IsSound n → LeadsOn n item j → to ≡ (link_at n.links.items j).to → 0 < items_of n → pos 0 <ℤ a → (load n +ℤ a) ≤ℤ pos most_force →
     flow.items ≡ set n.flow.items j (int_at n.flow.items j +ℤ a) → IsSettled n.excess.items excess.items item to a (pos 0) →
     IsSound (record n { flow = flow; excess = excess }) × ((total_flow flow.items +ℤ total_size excess.items) ≤ℤ (load n +ℤ a))
 sent_over n flow excess item to j a sound leads to_is some_item some room is settled =

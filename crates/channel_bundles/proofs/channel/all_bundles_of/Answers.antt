@@ -1,9 +1,10 @@
 -- The bundle of one class after another.
-use Rattle.std.proofs.Common.{◌≡◌, ◌<◌, ℕ, ℤ, List, [], map, length, get_or, sym, ap, subst, ◌∙◌, arith, w64, FitsSigned, rules, Vec, Global}
+use Rattle.std.proofs.Common.{◌≡◌, ◌<◌, ℕ, ℤ, List, [], map, length, get_or, sym, ap, subst, ◌∙◌, arith, w64, FitsSigned, rules, Vec}
 use Rattle.std.specs.Prelude.{All}
 use Rattle.std.proofs.lemmas.Int.{to_z-of_z}
 use Rattle.std.proofs.lemmas.List.{get_or-map, length-map}
 use Rattle.std.proofs.lemmas.List.Elements.{All-get_or}
+use Rattle.separation_model.specs.Arena.{Arena}
 use Rattle.channel_bundles.specs.declared.member.Member.{Member}
 use Rattle.channel_bundles.specs.Classes.{AreClasses, Connected, Rise}
 use Rattle.channel_bundles.specs.Links.{IsLink}
@@ -14,7 +15,7 @@ use Rattle.channel_bundles.proofs.channel.all_bundles_of.Goals as goal
 use Rattle.channel_bundles.proofs.channel.all_bundles_of.Goals.{After-deref-class-items, After-deref}
 
 abbrev Lists : Type 0
-Lists = List (Vec ℕ Global)
+Lists = List (Vec ℕ Arena)
 
 abbrev items_of : Lists → List (List ℕ)
 items_of lists = map (λ list. list.items) lists
@@ -24,11 +25,11 @@ record IsClass (members : List Member) (places : List ℕ) : Type 0 where
   within : All (λ i. i < length members) places
   rising : Rise places
 
-class_at : (connected : ℕ → ℕ → Type 0) (members : List Member) (lists : Lists) (i : ℕ) (list : Vec ℕ Global) (places : List ℕ) → AreClasses connected (length members) (items_of lists) → i < length lists → list ≡ get_or lists i list → places ≡ list.items →
+class_at : (connected : ℕ → ℕ → Type 0) (members : List Member) (lists : Lists) (i : ℕ) (list : Vec ℕ Arena) (places : List ℕ) → AreClasses connected (length members) (items_of lists) → i < length lists → list ≡ get_or lists i list → places ≡ list.items →
     (places ≡ get_or (items_of lists) i []) × IsClass members places
 class_at connected members lists i list places are h is e =
     let count = length-map {B = List ℕ} lists (λ l. l.items) in
-    let same : places ≡ get_or (items_of lists) i [] = e ∙ ap (λ (l : Vec ℕ Global). l.items) is ∙ sym (get_or-map (λ (l : Vec ℕ Global). l.items) lists i list [] h) in (
+    let same : places ≡ get_or (items_of lists) i [] = e ∙ ap (λ (l : Vec ℕ Arena). l.items) is ∙ sym (get_or-map (λ (l : Vec ℕ Arena). l.items) lists i list [] h) in (
       same,
       subst (IsClass members) (sym same) (record {
         within = All-get_or (All (λ k. k < length members)) (items_of lists) i [] (omega (arith, h, count)) are.within;
@@ -60,7 +61,7 @@ class_bundle-requires-clause-places c = (class_here (goal.at.class_bundle-requir
 pub loop-class-init : goal.loop-class-init
 loop-class-init c =
     let fits : FitsSigned w64 c.args.nudge = search rules in
-    simp to_z-of_z (bundling_begins (IsListed Listing.All c.args.nudge) c.args.members.now (items_of c.deref-class-items.result.now) c.new-found.result.items c.new-found.ensures.items)
+    simp to_z-of_z (bundling_begins (IsListed Listing.All c.args.nudge) c.args.members.now (items_of c.deref-class-items.result.now) c.in_ok-found.found.items c.in_ok-found.ensures.items)
 
 pub loop-class-preserved : goal.loop-class-preserved
 loop-class-preserved c =

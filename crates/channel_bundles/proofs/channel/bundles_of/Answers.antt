@@ -1,9 +1,10 @@
 -- A solver accepts the bundles of either listing.
-use Rattle.std.proofs.Common.{◌≤◌, ℤ, List, length, Result, Ok, Err, Vec, Global, w64, FitsSigned, rules}
+use Rattle.std.proofs.Common.{◌≤◌, ℤ, List, length, Result, Ok, Err, Vec, w64, FitsSigned, rules}
 use Rattle.std.specs.Prelude.{All, IfOk}
 use Rattle.std.specs.declared.alloc.AllocError.{AllocError}
 use Rattle.std.proofs.lemmas.Int.{to_z-of_z}
 use Rattle.separation_model.specs.Bundle.{IsBundle, most_items}
+use Rattle.separation_model.specs.Arena.{Arena}
 use Rattle.channel_bundles.specs.declared.channel.Listing.{Listing}
 use Rattle.channel_bundles.specs.declared.channel.RunBundle.{RunBundle}
 use Rattle.channel_bundles.specs.declared.member.Member.{Member}
@@ -13,7 +14,7 @@ use Rattle.channel_bundles.specs.Placed.{AreRising}
 use Rattle.channel_bundles.proofs.Bundling.{good_bundles}
 use Rattle.channel_bundles.proofs.channel.bundles_of.Goals as goal
 
-good : (listing : Listing) (nudge : ℤ) (members : List Member) → All IsMember members → length members ≤ most_items → AreRising members → IsNudge nudge → (r : Result (Vec RunBundle Global) AllocError) →
+good : (listing : Listing) (nudge : ℤ) (members : List Member) → All IsMember members → length members ≤ most_items → AreRising members → IsNudge nudge → (r : Result (Vec RunBundle Arena) AllocError) →
     IfOk r (λ found. AreListedOf listing nudge members found.items) → IfOk r (λ found. All (λ (b : RunBundle). IsBundle b.bundle) found.items)
 good listing nudge members all few rising is_nudge (Ok found) are = good_bundles listing nudge members found.items all few rising is_nudge are
 good listing nudge members all few rising is_nudge (Err e) are = tt

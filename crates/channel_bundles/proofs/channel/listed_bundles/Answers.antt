@@ -1,5 +1,5 @@
 -- The bundles of the runs in their order are those of the phase, or those with few of its rules.
-use Rattle.std.proofs.Common.{◌≡◌, ◌≤◌, ℤ, List, length, map, sym, ap, subst, ◌∙◌, arith, Result, Ok, Err, Vec, Global, w64, FitsSigned, rules}
+use Rattle.std.proofs.Common.{◌≡◌, ◌≤◌, ℤ, List, length, map, sym, ap, subst, ◌∙◌, arith, Result, Ok, Err, Vec, w64, FitsSigned, rules}
 use Rattle.std.specs.Prelude.{All, IfOk}
 use Rattle.std.specs.declared.alloc.AllocError.{AllocError}
 use Rattle.std.specs.List.Sorted.{IsPermutation, IsSortedByKey}
@@ -11,6 +11,7 @@ use Rattle.plane_geom.specs.declared.point.Way.{Way}
 use Rattle.plane_geom.specs.declared.rect.Solid.{Solid}
 use Rattle.segment_order.specs.declared.run.Run.{Run}
 use Rattle.segment_order.specs.Order.{compare_keys, key_of}
+use Rattle.separation_model.specs.Arena.{Arena}
 use Rattle.channel_bundles.specs.declared.route.PhaseRoute.{PhaseRoute}
 use Rattle.channel_bundles.specs.declared.member.Member.{Member}
 use Rattle.channel_bundles.specs.declared.channel.Placed.{Placed}
@@ -44,14 +45,14 @@ own_rising placed ms e sorted = subst AreRising (sym (own placed ms e)) (are_ris
 
 -- the results in both cases
 all_found : (solids : List Solid) (routes : List PhaseRoute) (way : Way) (nudge : ℤ) (placed : List Placed) (ms : List Member) → AreInOrder solids routes way (standings_of placed) → ms ≡ members_of (standings_of placed) →
-    (listing : Listing) → listing ≡ Listing.All → (r : Result (Vec RunBundle Global) AllocError) → IfOk r (λ b. AreListedOf listing nudge ms b.items) → IfOk r (λ b. AreBundles solids routes way nudge b.items)
+    (listing : Listing) → listing ≡ Listing.All → (r : Result (Vec RunBundle Arena) AllocError) → IfOk r (λ b. AreListedOf listing nudge ms b.items) → IfOk r (λ b. AreBundles solids routes way nudge b.items)
 all_found solids routes way nudge placed ms order e listing is_all (Ok b) is =
     record { all = standings_of placed; in_order = order; bundles = subst (λ xs. AreBundlesOf nudge xs b.items) e (all_listed nudge ms b.items (subst (λ l. AreListedOf l nudge ms b.items) is_all is)) }
 all_found solids routes way nudge placed ms order e listing is_all (Err x) is = tt
 
 few_found : (solids : List Solid) (routes : List PhaseRoute) (way : Way) (nudge : ℤ) (placed : List Placed) (ms : List Member) → AreInOrder solids routes way (standings_of placed) → ms ≡ members_of (standings_of placed) →
     IsNudge nudge → All IsMember ms → AreRising ms → length ms ≤ most_items →
-    (listing : Listing) → listing ≡ Listing.Few → (r : Result (Vec RunBundle Global) AllocError) → IfOk r (λ b. AreListedOf listing nudge ms b.items) → IfOk r (λ b. AreFewBundles solids routes way nudge b.items)
+    (listing : Listing) → listing ≡ Listing.Few → (r : Result (Vec RunBundle Arena) AllocError) → IfOk r (λ b. AreListedOf listing nudge ms b.items) → IfOk r (λ b. AreFewBundles solids routes way nudge b.items)
 few_found solids routes way nudge placed ms order e is_nudge all rising few listing is_few (Ok b) is =
     few_bundles nudge ms is_nudge all rising few b.items (subst (λ l. AreListedOf l nudge ms b.items) is_few is) solids routes way (standings_of placed) order e
 few_found solids routes way nudge placed ms order e is_nudge all rising few listing is_few (Err x) is = tt

@@ -18,7 +18,5 @@ push_lines-requires-clause-lines c =
     let session = c.args.session.now in
     subst (AreLines session.world.present session.book) (sym c.deref.ensures.value) (record {
       right = subst (λ s. AreAnswers s session.book) c.scene-scene.ensures.scene c.scene-scene.ensures.right;
-      x_solutions = c.in_ok-nudged.nudged.x_solutions.items;
-      y_solutions = c.in_ok-nudged.nudged.y_solutions.items;
       nudged = c.in_ok-nudged.ensures.nudged;
     })

@@ -17,7 +17,7 @@ line_crossings-requires-clause-each c =
     let n = c.in_ok-nudged.nudged in
     let valid : IsValid session.world.present = subst IsValid c.scene.ensures.scene c.valid.ensures in
     let right : AreAnswers session.world.present session.book = subst (λ s. AreAnswers s session.book) c.scene.ensures.scene c.scene.ensures.right in
-    let few : HasFewPoints session.book n.routes.items = c.nudged_lines_are_short.ensures session.world.present session.book n.x_solutions.items n.y_solutions.items n.routes.items valid right c.in_ok-nudged.ensures.nudged in
+    let few : HasFewPoints session.book n.routes.items = c.nudged_lines_are_short.ensures session.world.present session.book n.routes.items valid right c.in_ok-nudged.ensures.nudged in
     subst (All (λ (l : WrittenRoute). length l.points ≤ 2 ^ 32)) (sym c.deref.ensures.value) (each_line_few (routed session.book) n.routes.items few.routes few.short)
 
 pub line_crossings-requires-clause-few : goal.line_crossings-requires-clause-few
@@ -26,7 +26,7 @@ line_crossings-requires-clause-few c =
     let n = c.in_ok-nudged.nudged in
     let valid : IsValid session.world.present = subst IsValid c.scene.ensures.scene c.valid.ensures in
     let right : AreAnswers session.world.present session.book = subst (λ s. AreAnswers s session.book) c.scene.ensures.scene c.scene.ensures.right in
-    let few : HasFewPoints session.book n.routes.items = c.nudged_lines_are_short.ensures session.world.present session.book n.x_solutions.items n.y_solutions.items n.routes.items valid right c.in_ok-nudged.ensures.nudged in
+    let few : HasFewPoints session.book n.routes.items = c.nudged_lines_are_short.ensures session.world.present session.book n.routes.items valid right c.in_ok-nudged.ensures.nudged in
     let all = few_lines (routed session.book) n.routes.items few.routes few.short in
     let count = few.count in
     subst (λ (ls : List WrittenRoute). length (runs_in (line_runs ls)) < 2 ^ 32) (sym c.deref.ensures.value) (omega (arith, all, count))

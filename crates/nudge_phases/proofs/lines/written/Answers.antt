@@ -25,7 +25,7 @@ loop-run-preserved c =
     let same = c.deref-run-items.ensures.value in
     let k = c.loop-run.run-index in
     let are = subst (AreRunsOf edge) (sym same) c.requires in
-    let is = subst (λ (rs : List Run). AreCornersSoFar rs c.loop-run.points.items c.loop-run.at c.loop-run.heading k) (sym same) c.loop-run.invariant in
+    let is = subst (λ (rs : List Run). AreCornersSoFar rs c.loop-run.points c.loop-run.at c.loop-run.heading k) (sym same) c.loop-run.invariant in
     let in_runs = c.loop-run-test.true in
     let r = run_at items k in
     let read : get_or items k past_run ≡ r = same_read items k in_runs in
@@ -37,23 +37,23 @@ loop-run-preserved c =
           let heading_is : c.if-has_length.heading ≡ Some r.heading = w.heading-is ∙ ap (λ (q : Run). Some q.heading) read in
           elim w.if-not-straight.branch [
             | then-not-straight+in_ok-push v ↦
-                corners_are own items _ _ _ _ _ _ (k + 1) same (ap (λ ps. ps.items) (w.points-is ∙ v.points-is)) (w.at-is ∙ end_is) heading_is
-                (corner_more edge items are c.loop-run.points.items c.loop-run.at c.loop-run.heading k in_runs is (long.0 w.if-has_length.true)
-                (λ e. differs _ (straight.1 e) v.if-not-straight.true) _ v.in_ok-push.ensures.items)
+                corners_are own items _ _ _ _ _ _ (k + 1) same (w.points-is ∙ v.points-is) (w.at-is ∙ end_is) heading_is
+                (corner_more edge items are c.loop-run.points c.loop-run.at c.loop-run.heading k in_runs is (long.0 w.if-has_length.true)
+                (λ e. differs _ (straight.1 e) v.if-not-straight.true) _ v.in_ok-push.ensures.ok)
             | else-not-straight v ↦
-                corners_are own items _ _ _ _ _ _ (k + 1) same (ap (λ ps. ps.items) (w.points-is ∙ v.points-is)) (w.at-is ∙ end_is) heading_is
-                (corner_on edge items are c.loop-run.points.items c.loop-run.at c.loop-run.heading k in_runs is (straight.0 v.if-not-straight.false))
+                corners_are own items _ _ _ _ _ _ (k + 1) same (w.points-is ∙ v.points-is) (w.at-is ∙ end_is) heading_is
+                (corner_on edge items are c.loop-run.points c.loop-run.at c.loop-run.heading k in_runs is (straight.0 v.if-not-straight.false))
           ]
       | else-has_length w ↦
-          corners_are own items _ _ _ _ _ _ (k + 1) same (ap (λ ps. ps.items) w.points-is) w.at-is w.heading-is
-          (corner_same edge items are c.loop-run.points.items c.loop-run.at c.loop-run.heading k in_runs is (not_less r.lo r.hi (λ l. differs _ (long.1 l) w.if-has_length.false)))
+          corners_are own items _ _ _ _ _ _ (k + 1) same w.points-is w.at-is w.heading-is
+          (corner_same edge items are c.loop-run.points c.loop-run.at c.loop-run.heading k in_runs is (not_less r.lo r.hi (λ l. differs _ (long.1 l) w.if-has_length.false)))
     ]
 
 pub returns : goal.returns
 returns c =
     let runs = c.args.route.now.runs.items in
-    let all = corners_end runs c.loop-run.points.items _ c.loop-run.at c.loop-run.heading c.loop-run.run-index c.loop-run.invariant
+    let all = corners_end runs c.loop-run.points _ c.loop-run.at c.loop-run.heading c.loop-run.run-index c.loop-run.invariant
     (drop_all c.loop-run.run-index runs (let past = c.loop-run-test.false in let same = ap length c.deref-run-items.ensures.value in omega (arith, past, same)))
-    c.in_ok-push-2.ensures.items in
+    c.in_ok-push-2.ensures.ok in
     let drawn = corners_draw _ (walk_along runs) all in
     record { edge = refl; draws = drawn.0; corners = drawn.1 }

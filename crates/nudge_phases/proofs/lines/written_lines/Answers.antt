@@ -4,7 +4,7 @@ use Rattle.nudge_phases.proofs.RouteRuns.{each_all, each_more, each_none}
 use Rattle.nudge_phases.proofs.lines.written_lines.Goals as goal
 
 pub loop-route-init : goal.loop-route-init
-loop-route-init c = each_none IsWrittenLine c.args.routes.now c.new-lines.result.items c.new-lines.ensures.items
+loop-route-init c = each_none IsWrittenLine c.args.routes.now c.in_ok-lines.lines.items c.in_ok-lines.ensures.items
 
 pub loop-route-preserved : goal.loop-route-preserved
 loop-route-preserved c =

@@ -9,7 +9,8 @@ use Rattle.segment_order.specs.Run.{run_at}
 use Rattle.separation_model.specs.Bundle.{int_at}
 use Rattle.separation_model.specs.Rounded.{IsRoundedDown}
 use Rattle.separation_model.proofs.Rounding.{rounded_down_is, solution_on_sheet}
-use Rattle.nudge_phases.proofs.Putting.{CarriesOn, carries_more, puts_same, still_there}
+use Rattle.nudge_phases.specs.Steps.{CarriesOn}
+use Rattle.nudge_phases.proofs.Putting.{carries_more, puts_same, still_there}
 use Rattle.nudge_phases.proofs.RouteRuns.{past_run, same_read, still_rise}
 use Rattle.nudge_phases.proofs.moves.put_bundle.Goals as goal
 

@@ -2,8 +2,7 @@
 use Rattle.std.proofs.Common.{take}
 use Rattle.std.specs.Prelude.{All}
 use Rattle.nudge_phases.specs.Rising.{EdgesRise}
-use Rattle.nudge_phases.specs.Steps.{HasPlaceOf}
-use Rattle.nudge_phases.proofs.Putting.{CarriesOn}
+use Rattle.nudge_phases.specs.Steps.{CarriesOn, HasPlaceOf}
 use Rattle.nudge_phases.proofs.moves.put_bundle.Given as goal
 
 abbrev pub invariant-loop-item : goal.invariant-loop-item

@@ -1,4 +1,4 @@
--- The solution that is found shows itself with its own multipliers.
+-- What the solver finds for the widest gap is a solution.
 use Rattle.std.proofs.Common.{◌≡◌, ℤ, Result, Ok, Err, sym, subst, rules, w64, FitsSigned}
 use Rattle.std.specs.Prelude.{IfOk}
 use Rattle.std.proofs.lemmas.Int.{to_z-of_z}
@@ -9,12 +9,11 @@ use Rattle.separation_model.specs.Certified.{IsAccepted}
 use Rattle.separation_model.specs.Gap.{IsWidestGap}
 use Rattle.separation_model.specs.Least.{IsLeast}
 use Rattle.nudge_phases.specs.Phase.{IsSolutionOf}
-use Rattle.nudge_phases.proofs.ByFew.{shown_by_all}
 use Rattle.nudge_phases.proofs.solutions.settle.Goals as goal
 
 settled : (b : Bundle) (gap : ℤ) (r : Result Solution AllocError) → IsWidestGap b gap → IfOk r (λ s. s.gap ≡ gap) → IfOk r (IsAccepted b) →
     IfOk r (λ s. IsLeast b s.gap s.den.items s.pos.items) → IfOk r (IsSolutionOf b)
-settled b gap (Ok s) widest same accepted least = record { gap = subst (IsWidestGap b) (sym same) widest; least = least; shown = (s.mult, accepted); by_few = shown_by_all b s accepted }
+settled b gap (Ok s) widest same accepted least = record { gap = subst (IsWidestGap b) (sym same) widest; least = least; accepted = accepted }
 settled b gap (Err e) widest same accepted least = tt
 
 pub returns : goal.returns

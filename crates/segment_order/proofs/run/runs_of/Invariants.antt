@@ -5,4 +5,4 @@ use Rattle.segment_order.specs.Run.{runs_along}
 use Rattle.segment_order.proofs.run.runs_of.Given as goal
 
 abbrev pub invariant-loop-k : goal.invariant-loop-k
-invariant-loop-k l = l.runs.items ≡ runs_along l.edge 1 (take l.k l.points)
+invariant-loop-k g l = l.runs.items ≡ runs_along l.edge 1 (take l.k l.points)

@@ -11,9 +11,9 @@ use Rattle.separation_model.proofs.Optimum.Certificates.{certified_least}
 use Rattle.separation_solve.proofs.Networks.Upright.{same_objective}
 use Rattle.separation_solve.proofs.solver.solve.Goals as goal
 
-pub loop-network-smaller : goal.loop-network-smaller
-loop-network-smaller c =
-    let same = same_objective c.loop-network.network c.balance.new.self c.in_ok-block.ensures.same c.in_ok-block.ensures.places in
+pub loop-reach-smaller : goal.loop-reach-smaller
+loop-reach-smaller c =
+    let same = same_objective c.loop-reach.network c.balance.new.self c.in_ok-balance.ensures.same c.in_ok-balance.ensures.places in
     subst (λ z. unsigned_abs (objective c.shift.new.self) < unsigned_abs z) same c.in_ok-shift.ensures.falls
 
 -- what is accepted is least

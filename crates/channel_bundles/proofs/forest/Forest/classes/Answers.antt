@@ -1,8 +1,9 @@
 -- Each number goes to the list of its tree.
-use Rattle.std.proofs.Common.{◌≡◌, ◌<◌, ℕ, ◌+◌, List, [], ◌∷◌, ◌++◌, map, length, get_or, set, refl, sym, ap, subst, ◌∙◌, arith, Vec, Global}
+use Rattle.std.proofs.Common.{◌≡◌, ◌<◌, ℕ, ◌+◌, List, [], ◌∷◌, ◌++◌, map, length, get_or, set, refl, sym, ap, subst, ◌∙◌, arith, Vec}
 use Rattle.std.specs.Prelude.{All}
 use Rattle.std.proofs.lemmas.List.{get_or-map, length-map, map-set, length-set}
 use Rattle.std.proofs.lemmas.List.Elements.{All-get_or}
+use Rattle.separation_model.specs.Arena.{Arena}
 use Rattle.channel_bundles.specs.Classes.{AreTreeNumbers, AreClasses, Connected, LeadsUp}
 use Rattle.channel_bundles.specs.declared.forest.Seat.{Seat}
 use Rattle.channel_bundles.specs.Shares.{AreSeats}
@@ -10,29 +11,29 @@ use Rattle.channel_bundles.proofs.Listing.{IsListing, listed_all, listed_more, l
 use Rattle.channel_bundles.proofs.forest.Forest.classes.Goals as goal
 
 abbrev Lists : Type 0
-Lists = List (Vec ℕ Global)
+Lists = List (Vec ℕ Arena)
 
 abbrev items_of : Lists → List (List ℕ)
 items_of lists = map (λ list. list.items) lists
 
-no_items : (lists : Lists) (d : Vec ℕ Global) → All (λ list. list.items ≡ []) lists → (m : ℕ) → m < length (items_of lists) → length (get_or (items_of lists) m []) ≡ 0
+no_items : (lists : Lists) (d : Vec ℕ Arena) → All (λ list. list.items ≡ []) lists → (m : ℕ) → m < length (items_of lists) → length (get_or (items_of lists) m []) ≡ 0
 no_items lists d empty m h =
     let in_m : m < length lists = omega (arith, h, length-map {B = List ℕ} lists (λ list. list.items)) in
-    ap length (get_or-map (λ (list : Vec ℕ Global). list.items) lists m d [] in_m ∙ All-get_or (λ (list : Vec ℕ Global). list.items ≡ []) lists m d in_m empty)
+    ap length (get_or-map (λ (list : Vec ℕ Arena). list.items) lists m d [] in_m ∙ All-get_or (λ (list : Vec ℕ Arena). list.items ≡ []) lists m d in_m empty)
 
 -- the numbers before i have their places in the lists
 record IsSeated (numbers : List ℕ) (i : ℕ) (lists : Lists) (seats : List Seat) : Type 0 where
   listed : IsListing numbers i (items_of lists)
   seated : AreSeats i (items_of lists) seats
 
-more : (numbers : List ℕ) (i place : ℕ) (lists : Lists) (seats made : List Seat) (was new : Vec ℕ Global) → IsListing numbers i (items_of lists) → AreSeats i (items_of lists) seats → get_or numbers i 0 < length lists → was ≡ get_or lists (get_or numbers i 0) was →
+more : (numbers : List ℕ) (i place : ℕ) (lists : Lists) (seats made : List Seat) (was new : Vec ℕ Arena) → IsListing numbers i (items_of lists) → AreSeats i (items_of lists) seats → get_or numbers i 0 < length lists → was ≡ get_or lists (get_or numbers i 0) was →
     place ≡ length was.items → made ≡ seats ++ record { class = get_or numbers i 0; place = place } ∷ [] → new.items ≡ was.items ++ i ∷ [] → IsSeated numbers (i + 1) (set lists (get_or numbers i 0) new) made
 more numbers i place lists seats made was new is are in_tree read is_place is_made pushed =
     let tree = get_or numbers i 0 in
     let count = length-map {B = List ℕ} lists (λ list. list.items) in
-    let own : get_or (items_of lists) tree [] ≡ was.items = get_or-map (λ (list : Vec ℕ Global). list.items) lists tree was [] in_tree ∙ ap (λ list. list.items) (sym read) in
+    let own : get_or (items_of lists) tree [] ≡ was.items = get_or-map (λ (list : Vec ℕ Arena). list.items) lists tree was [] in_tree ∙ ap (λ list. list.items) (sym read) in
     let added : new.items ≡ get_or (items_of lists) tree [] ++ i ∷ [] = pushed ∙ ap (λ xs. xs ++ i ∷ []) (sym own) in
-    let same : items_of (set lists tree new) ≡ set (items_of lists) tree (get_or (items_of lists) tree [] ++ i ∷ []) = map-set (λ (list : Vec ℕ Global). list.items) lists tree new ∙ ap (λ xs. set (items_of lists) tree xs) added in
+    let same : items_of (set lists tree new) ≡ set (items_of lists) tree (get_or (items_of lists) tree [] ++ i ∷ []) = map-set (λ (list : Vec ℕ Arena). list.items) lists tree new ∙ ap (λ xs. set (items_of lists) tree xs) added in
     record {
       listed = subst (IsListing numbers (i + 1)) (sym same) (listed_more numbers i tree (items_of lists) is refl (omega (arith, in_tree, count)));
       seated = subst (λ xs. AreSeats (i + 1) xs made) (sym same) (subst (AreSeats (i + 1) (set (items_of lists) tree (get_or (items_of lists) tree [] ++ i ∷ []))) (sym is_made)

@@ -7,7 +7,7 @@ use Rattle.channel_bundles.proofs.forest.Forest.tree_numbers.Goals as goal
 use Rattle.channel_bundles.proofs.forest.Forest.tree_numbers.Goals.{then-above-number+in_ok-push+in_ok-push-2, else-above-number+in_ok-push-3}
 
 pub loop-number-init : goal.loop-number-init
-loop-number-init c = numbered_none _ _ _ (ap length c.new-roots.ensures.items) (ap length c.new-numbers.ensures.items)
+loop-number-init c = numbered_none _ _ _ (ap length c.in_ok-roots.ensures.items) (ap length c.in_ok-numbers.ensures.items)
 
 root : (above : List ℕ) (i read tree : ℕ) (roots numbers more made : List ℕ) → AreTreeNumbers above i roots numbers → IsForest above → i < length above → read ≡ get_or above i read → read ≡ i →
     tree ≡ length roots → made ≡ numbers ++ tree ∷ [] → more ≡ roots ++ i ∷ [] → AreTreeNumbers above (i + 1) more made
@@ -27,8 +27,8 @@ pub loop-number-preserved : goal.loop-number-preserved
 loop-number-preserved c =
     elim c.if-above-number.branch [
       | then-above-number+in_ok-push+in_ok-push-2 w ↦
-          root _ _ _ w.len.result _ _ _ _ c.loop-number.invariant c.requires (omega arith) c.index-above.ensures w.if-above-number.true
-          (omega (arith, w.len.ensures, c.loop-number.roots.ok.0)) (ap (λ v. v.items) w.numbers-is ∙ w.in_ok-push.ensures.items) (ap (λ v. v.items) w.roots-is ∙ w.in_ok-push-2.ensures.items)
+          root _ _ _ w.len-then-above-number.result _ _ _ _ c.loop-number.invariant c.requires (omega arith) c.index-above.ensures w.if-above-number.true
+          (omega (arith, w.len-then-above-number.ensures, c.loop-number.roots.ok.0)) (ap (λ v. v.items) w.numbers-is ∙ w.in_ok-push.ensures.items) (ap (λ v. v.items) w.roots-is ∙ w.in_ok-push-2.ensures.items)
       | else-above-number+in_ok-push-3 w ↦
           let differ = w.if-above-number.false in
           let at = c.loop-number.number in

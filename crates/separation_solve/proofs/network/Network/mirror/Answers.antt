@@ -1,7 +1,7 @@
 -- The mirror image is sound, and is of the same bundle.
 use Rattle.std.proofs.Common.{◌≡◌, ◌≤◌, ℤ, pos, neg_ℤ, Vec, List, All, map, length, unsigned_abs, arith, refl, sym, ap, ◌∙◌, subst}
 use Rattle.std.specs.Vec.{with_items}
-use Rattle.std.specs.declared.alloc.Global.{Global}
+use Rattle.separation_model.specs.Arena.{Arena}
 use Rattle.std.proofs.Math.IntN.{neg_ℤ-neg_ℤ}
 use Rattle.std.proofs.lemmas.List.{with_items_is, length-map}
 use Rattle.std.proofs.lemmas.List.Elements.{All-from_get_or}
@@ -11,7 +11,7 @@ use Rattle.separation_solve.proofs.Networks.Mirrored.{turned_link_twice, turned_
 use Rattle.separation_solve.proofs.network.Network.mirror.Goals as goal
 
 -- a list that was mirrored in its vector
-turned_items : {A : Type 0} (f : A → A) (v : Vec A Global) (lent new : List A) → lent ≡ v.items → new ≡ map f lent → (with_items v new).items ≡ map f v.items
+turned_items : {A : Type 0} (f : A → A) (v : Vec A Arena) (lent new : List A) → lent ≡ v.items → new ≡ map f lent → (with_items v new).items ≡ map f v.items
 turned_items f v lent new is turned =
     let e : new ≡ map f v.items = turned ∙ ap (map f) is in
     with_items_is v new (omega (arith, ap length e, length-map v.items f)) ∙ e

@@ -1,6 +1,6 @@
 -- The flow is sent, and the excess is changed at the start and, where an item takes the flow, at the end.
 use Rattle.std.proofs.Common.{◌≡◌, ◌≢◌, ℕ, ◌<◌, ◌≤◌, ◌^◌, ℤ, pos, neg_ℤ, ◌+ℤ◌, ◌-ℤ◌, ◌<ℤ◌, ◌≤ℤ◌, FitsSigned, Vec, List, length, get_or, set, arith, sym, ap, subst, ◌∙◌, to_z, of_z, to_z-of_z, lit<, get_or-set_other}
-use Rattle.std.specs.declared.alloc.Global.{Global}
+use Rattle.separation_model.specs.Arena.{Arena}
 use mir.Syntax.{w128}
 use Rattle.std.proofs.lemmas.Int.{ints, fits_signed_from_abs}
 use Rattle.std.proofs.lemmas.List.{get_or_read}
@@ -43,7 +43,7 @@ sent_known n now r k a sound way some capacity sent rest =
     record {
       fits = fits;
       sent = subst (λ z. IsSent n r k 0 z now.flow.items) (to_z-of_z fits) sent;
-      excess = ap (λ (v : Vec ℤ Global). v.items) rest.excess;
+      excess = ap (λ (v : Vec ℤ Arena). v.items) rest.excess;
       start_in = omega (arith, way.reach.start_item, sound.frame.excess);
       capacity = omega (arith, ints, capacity, (way.reach.steps k way.target).most);
       start_fits = (both.0, both.1);
@@ -112,7 +112,7 @@ end_here : (c : Then-end-wall) → AtEnd c.args.self.now c.args.reach.now c.args
 end_here c =
     let amount = c.sendable-amount.ensures in
     at_end c.args.self.now c.args.reach.now c.args.target c.sendable-amount.result c.index-2.result.now c.requires.sound c.requires.way amount.some amount.capacity amount.taken c.index-2.ensures
-    (λ e. c.if-end-wall.true (e ∙ sym (c.wall.ensures ∙ ap (λ (v : Vec ℤ Global). length v.items) c.send.ensures.rest.wants)))
+    (λ e. c.if-end-wall.true (e ∙ sym (c.wall.ensures ∙ ap (λ (v : Vec ℤ Arena). length v.items) c.send.ensures.rest.wants)))
 
 -- its excess, as it was read
 end_is : (n now : Network) (r : Reach) (k : ℕ) (a : ℤ) (s t : Step) (x y : ℤ) → IsWay n (start_of r) r k → Sent n now r k a → s ≡ get_or r.steps.items 0 s → x ≡ get_or now.excess.items s.node x → AtEnd n r k a t →
@@ -149,7 +149,7 @@ lowered n now r k a s t x y way sent e read end last =
     ∙ ap (set mid i) (to_z-of_z end.fits.1)
 
 -- the network that a push leaves
-left : (n now : Network) (excess : Vec ℤ Global) (r : Reach) (k : ℕ) (a : ℤ) → IsSound n → IsWay n (start_of r) r k → pos 0 <ℤ a → Sent n now r k a → KeepsRest n now → IsSettled n.excess.items excess.items (start_of r) (step_at r.steps.items k).node a a → IsSound (record now { excess = excess })
+left : (n now : Network) (excess : Vec ℤ Arena) (r : Reach) (k : ℕ) (a : ℤ) → IsSound n → IsWay n (start_of r) r k → pos 0 <ℤ a → Sent n now r k a → KeepsRest n now → IsSettled n.excess.items excess.items (start_of r) (step_at r.steps.items k).node a a → IsSound (record now { excess = excess })
 left n now excess r k a sound way some sent rest settled =
     subst IsSound (sym (ap (λ (m : Network). record m { excess = excess }) (rest_is n now rest))) (pushed n now.flow excess r k a sound way.reach way.target some sent.sent settled)
 
@@ -188,7 +188,7 @@ settled_else c =
     let node = (step_at r.steps.items c.args.target).node in
     let is = raised n c.send.new.self r c.args.target a c.index.result.now c.index_mut.result.now c.requires.way k c.index.ensures c.index_mut.ensures.value in
     let end : node ≡ length n.excess.items = at_wall n r c.args.target c.index-2.result.now c.requires.sound c.requires.way c.index-2.ensures
-    (c.if-end-wall.false ∙ c.wall.ensures ∙ ap (λ (v : Vec ℤ Global). length v.items) c.send.ensures.rest.wants) in
+    (c.if-end-wall.false ∙ c.wall.ensures ∙ ap (λ (v : Vec ℤ Arena). length v.items) c.send.ensures.rest.wants) in
     subst (λ es. IsSettled n.excess.items es (start_of r) node a a) (sym is)
     (settled_at_wall n.excess.items (start_of r) node a k.start_in end c.sendable-amount.ensures.some k.capacity)
 

@@ -1,7 +1,7 @@
 -- One link of the way at a time: the flow on it rises or falls by the amount.
 use Rattle.std.proofs.Common.{Vec, ◌≡◌, ℕ, ◌<◌, ◌<ℤ◌, ℤ, pos, ◌+ℤ◌, ◌-ℤ◌, FitsSigned, Some, None, length, get_or, arith, refl, sym, ap, ◌∙◌, subst, to_z, of_z, to_z-of_z}
 use mir.Syntax.{w128}
-use Rattle.std.specs.declared.alloc.Global.{Global}
+use Rattle.separation_model.specs.Arena.{Arena}
 use Rattle.std.proofs.lemmas.List.{get_or_read}
 use Rattle.separation_model.specs.Bundle.{int_at}
 use Rattle.separation_solve.specs.declared.network.Link.{Link}
@@ -23,7 +23,7 @@ via_is : (r : Reach) (k : ℕ) (s : Step) (v : Via) → k < length r.steps.items
 via_is r k s v h e via = ap (λ t. t.via) (sym (get_or_read r.steps.items k s h e _)) ∙ via
 
 link_is : (n now : Network) (j : ℕ) (l : Link) → KeepsRest n now → j < length n.links.items → l ≡ get_or now.links.items j l → l ≡ link_at n.links.items j
-link_is n now j l rest h e = get_or_read n.links.items j l h (e ∙ ap (λ (ls : Vec Link Global). get_or ls.items j l) rest.links) _
+link_is n now j l rest h e = get_or_read n.links.items j l h (e ∙ ap (λ (ls : Vec Link Arena). get_or ls.items j l) rest.links) _
 
 pub loop-via-init : goal.loop-via-init
 loop-via-init c = rw (to_z-of_z c.ranges.amount) (sending_none c.args.self.now c.args.reach.now c.args.target c.args.amount c.requires.sound c.requires.some c.requires.capacity)
@@ -69,7 +69,7 @@ round_here c =
 pub index-link-requires : goal.index-link-requires
 index-link-requires c =
     let k = round_here (goal.at.index-link-requires c).In-Some in
-    omega (arith, k.known.1.link, ap (λ (ls : Vec Link Global). length ls.items) k.was.rest.links)
+    omega (arith, k.known.1.link, ap (λ (ls : Vec Link Arena). length ls.items) k.was.rest.links)
 
 pub index_mut-requires : goal.index_mut-requires
 index_mut-requires c =

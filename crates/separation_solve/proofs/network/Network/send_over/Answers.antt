@@ -1,7 +1,7 @@
 -- The flow and the excess are those of a network with the deficit sent over the link.
 use Rattle.std.proofs.Common.{◌≡◌, ◌≢◌, ℕ, ◌<◌, ◌≤◌, ◌^◌, ℤ, pos, ◌+ℤ◌, ◌-ℤ◌, ◌≤ℤ◌, FitsSigned, unsigned_abs, Vec, List, length, set, arith, sym, ap, ◌∙◌, to_z-of_z, lit<, length-set, get_or-set_other}
 use Rattle.std.specs.Vec.{with_items}
-use Rattle.std.specs.declared.alloc.Global.{Global}
+use Rattle.separation_model.specs.Arena.{Arena}
 use mir.Syntax.{w128}
 use Rattle.std.proofs.lemmas.Int.{ints, fits_signed_from_abs}
 use Rattle.std.proofs.lemmas.List.{get_or_read, with_items_is}
@@ -17,7 +17,7 @@ use Rattle.separation_solve.proofs.network.Network.send_over.Goals as goal
 use Rattle.separation_solve.proofs.network.Network.send_over.Goals.{After-index, After-raise-2, After-raise-then-to-wall, Else-to-wall}
 
 -- the list with the number raised, in its vector
-raised_items : (v : Vec ℤ Global) (lent new : List ℤ) (i : ℕ) (by : ℤ) → lent ≡ v.items → new ≡ set lent i (int_at lent i +ℤ by) → (with_items v new).items ≡ set v.items i (int_at v.items i +ℤ by)
+raised_items : (v : Vec ℤ Arena) (lent new : List ℤ) (i : ℕ) (by : ℤ) → lent ≡ v.items → new ≡ set lent i (int_at lent i +ℤ by) → (with_items v new).items ≡ set v.items i (int_at v.items i +ℤ by)
 raised_items v lent new i by is raised =
     let e : new ≡ set v.items i (int_at v.items i +ℤ by) = raised ∙ ap (λ zs. set zs i (int_at zs i +ℤ by)) is in
     with_items_is v new (omega (arith, ap length e, length-set v.items i (int_at v.items i +ℤ by))) ∙ e
@@ -105,7 +105,7 @@ settled_else c =
     deficit_to_wall n.excess.items (with_items n.excess c.raise-2.new.numbers).items c.args.item c.index.result.now.to c.args.amount k.item_in wall c.requires.some c.requires.amount (excess_is here.After-raise-2)
 
 -- the network that is left
-left : (c : After-raise-2) (excess : Vec ℤ Global) → IsSettled c.args.self.now.excess.items excess.items c.args.item c.index.result.now.to c.args.amount (pos 0) →
+left : (c : After-raise-2) (excess : Vec ℤ Arena) → IsSettled c.args.self.now.excess.items excess.items c.args.item c.index.result.now.to c.args.amount (pos 0) →
     IsSound (record c.args.self.now { flow = with_items c.args.self.now.flow c.raise.new.numbers; excess = excess })
     × ((total_flow (with_items c.args.self.now.flow c.raise.new.numbers).items +ℤ total_size excess.items) ≤ℤ (load c.args.self.now +ℤ c.args.amount))
 left c excess settled =
