@@ -1,5 +1,5 @@
 -- A session with its document, the labels of what edits added, and the lines that were reported and asked for; and what its calls do.
-use Rattle.std.specs.Prelude.{◌≡◌, ℕ, [], List, length, Option, None, Some, Result, Ok, Err, IfErr}
+use Rattle.std.specs.Prelude.{◌≡◌, ℕ, [], List, length, Option, None, Some, Result, Ok, IfErr}
 use Rattle.gml_text.specs.Printed.{IsPrintable}
 use Rattle.gml_text.specs.Tree.{Pairs}
 use Rattle.gml_text.specs.declared.tree.Doc.{Doc}
@@ -7,15 +7,13 @@ use Rattle.gml_text.specs.View.{tree}
 use Rattle.diagram_read.specs.Scene.{scene_of}
 use Rattle.walk_model.specs.declared.route.WrittenRoute.{WrittenRoute}
 use Rattle.scene_model.specs.declared.edit.Command.{Command}
-use Rattle.scene_model.specs.declared.edit.Command.TheVariants.{Commit, Abort, Undo, Redo}
 use Rattle.scene_model.specs.declared.fault.SessionFault.{SessionFault}
-use Rattle.scene_model.specs.declared.fault.SessionFault.TheVariants.{NoTransaction}
 use Rattle.scene_model.specs.Answers.{AreAnswers}
 use Rattle.scene_model.specs.Scene.{Scene, connectors}
 use Rattle.scene_model.specs.World.{World, Everywhere, rolled_back, opened}
 use Rattle.session_model.specs.Calls.{IsCall}
 use Rattle.session_model.specs.State.{State}
-use Rattle.route_book.specs.Exchange.{CountsStale}
+use Rattle.route_session.specs.Runs.{IsRefusable, Searches}
 use Rattle.gml_scene.specs.Labels.{LabelLists, no_labels}
 use Rattle.gml_scene.specs.Origins.{AreEdgesOf, AreNodesOf}
 use Rattle.form_route.specs.Diagram.{IsDiagram}
@@ -77,19 +75,6 @@ pub record Previews (old new : DrawingState) : Type 0 where
   pub proposed : AreProposed new.session new.asked.lines
   pub asked : new.asked ≡ asked_of old.reported new.asked.lines
   pub reported : new.reported ≡ old.reported
-
--- a commit searches the stale connectors, and nothing else does; the answers change only where a commit, an undo or a redo is done
-abbrev pub Searches : Command → Result Unit SessionFault → State → State → Type 0
-Searches Commit (Ok done) old new = CountsStale old.world.present old.book new.world.present old.searched new.searched
-Searches Commit (Err fault) old new = new.book ≡ old.book
-Searches Undo (Ok done) old new = new.searched ≡ old.searched
-Searches Redo (Ok done) old new = new.searched ≡ old.searched
-Searches c answer old new = (new.book ≡ old.book) × (new.searched ≡ old.searched)
-
--- an abort is refused only where no transaction is open, for it takes no memory
-abbrev pub IsRefusable : Command → SessionFault → Type 0
-IsRefusable Abort fault = fault ≡ NoTransaction
-IsRefusable c fault = Unit {0}
 
 -- the session's call of the command, with this answer
 pub record IsDrawingCall (c : Command) (answer : Result Unit SessionFault) (old new : DrawingState) : Type 0 where

@@ -67,11 +67,10 @@ impl Model for Drawing {
 fn empty_document(alloc: Global) -> Result<Doc, AllocError>
     ensures { IfOk result (λ doc. tree doc ≡ empty_diagram) }
 {
-    let mut key = Vec::new(alloc);
-    key.extend_from_slice(b"graph")?;
+    let key = Bytes::from_slice(alloc, b"graph")?;
     let mut pairs = Vec::new(alloc);
     pairs.push(Pair {
-        key: Bytes(key),
+        key,
         value: Value::List(Vec::new(alloc)),
     })?;
     Ok(Doc { pairs })

@@ -57,7 +57,7 @@ impl Lines {
         ensures { IfOk result (λ lines. AreDrawn scene.now book.now lines) }
     {
         scene.valid();
-        let Nudged { routes, .. } = nudge(alloc, scene, book.answers())?;
+        let Nudged { routes } = nudge(alloc, scene, book.answers())?;
         Ok(Lines { routes })
     }
 

@@ -217,7 +217,7 @@ known_then edge before after known (Some l) rise has is =
 lines_rise : (s : Scene) (answers : List Answer) (lines : List WrittenRoute) → IsValid s → AreLines s answers lines → Pairs Rises lines
 lines_rise s answers lines valid are =
     let good = good_raws s answers valid are.right are.nudged.raw are.nudged.are_raw in
-    let numbers = line_edges s answers are.nudged.raw s.settings.nudge are.x_solutions are.y_solutions lines good are.nudged.nudged in
+    let numbers = line_edges s answers are.nudged.raw s.settings.nudge lines good are.nudged.nudged in
     pairs_from Rises lines (lines_are_routes s answers lines valid are.right numbers).rising
 
 pub clients_kept : ChangesKeepClients

@@ -28,7 +28,7 @@ module _ (one_answers : HaveOneList) (one_nudged : HaveOneNudged) where
   same_lines : (s : Scene) (answers others : List Answer) (these those : List WrittenRoute) → IsValid s → AreLines s answers these → AreLines s others those → these ≡ those
   same_lines s answers others these those valid a b =
       let moved = subst (λ (found : List Answer). AreLines s found those) (sym (one_answers s answers others a.right b.right)) b in
-      one_nudged s answers a.x_solutions a.y_solutions moved.x_solutions moved.y_solutions these those valid a.right a.nudged moved.nudged
+      one_nudged s answers these those valid a.right a.nudged moved.nudged
 
   pub commits_report : PreviewsAreCommits
   commits_report old middle new previewed said valid p call (inr unreported) = inr unreported.1

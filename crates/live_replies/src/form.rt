@@ -53,7 +53,7 @@ fn corners_of(alloc: Global, words: &[&[u8]]) -> Result<Option<Points>, AllocErr
         left = rest;
     }
     if left.is_empty() {
-        Ok(Some(Points(corners)))
+        Ok(Some(Points::from_vec(corners)))
     } else {
         Ok(None)
     }

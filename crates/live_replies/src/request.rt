@@ -142,7 +142,7 @@ fn label_request(alloc: Global, line: &[u8]) -> Result<Request, AllocError>
     let Some(what) = labelled_of(kind, word) else {
         return Ok(Request::Do(Command::Bad));
     };
-    let text = Bytes(Vec::from_slice(alloc, text)?);
+    let text = Bytes::from_slice(alloc, text)?;
     Ok(Request::Label(what, text))
 }
 

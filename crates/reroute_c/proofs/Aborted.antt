@@ -4,7 +4,8 @@ use Rattle.std.proofs.lemmas.Bool.{false≢true}
 use Rattle.std.specs.Prelude.{IfErr, IsSome}
 use Rattle.scene_model.specs.declared.edit.Command.TheVariants.{Abort}
 use Rattle.scene_model.specs.declared.fault.SessionFault.{SessionFault}
-use Rattle.drawing.specs.Drawing.{DrawingState, IsRefusable}
+use Rattle.route_session.specs.Runs.{IsRefusable}
+use Rattle.drawing.specs.Drawing.{DrawingState}
 use Rattle.reroute_c.specs.declared.fault.Fault.{Fault}
 use Rattle.reroute_c.specs.Codes.{IsAnswered, call_fault, fault_of, no_fault, no_transaction_fault}
 use Rattle.reroute_c.specs.Open.{IfOpen}

@@ -1,3 +1,4 @@
 -- The definitions of sessions.
+pub mod Runs
 pub mod Turning
 pub mod Upheld

@@ -3,6 +3,7 @@
 //! Coordinates, lengths and costs are whole thousandths of a GML unit.
 #![tactic(auto)]
 
+mod commands;
 mod present;
 mod scenes;
 mod session;

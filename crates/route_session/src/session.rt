@@ -383,14 +383,13 @@ impl Session {
         self.present.graph.arena().written()
     }
 
-    /// The lines of the present scene's routes, with the solutions of both phases of nudging. The
-    /// only error is out of memory.
+    /// The nudged lines of the present scene's routes. The only error is out of memory.
     pub fn nudged(&self) -> Result<Nudged, AllocError>
-        // The solutions of both phases and the lines are those of the right answers.
-        ensures nudged { IfOk result (λ n. IsNudgedScene self.now.world.present self.now.book n.x_solutions.items n.y_solutions.items n.routes.items) }
+        // The lines are those of both phases on the right answers.
+        ensures nudged { IfOk result (λ n. IsNudgedScene self.now.world.present self.now.book n.routes.items) }
         // Every separation of a phase is met: by its bundle's gap if it links two runs, otherwise
         // by the wanted nudge.
-        ensures apart { IfOk result (λ n. (p : IsNudgedScene self.now.world.present self.now.book n.x_solutions.items n.y_solutions.items n.routes.items) →
+        ensures apart { IfOk result (λ n. (p : IsNudgedScene self.now.world.present self.now.book n.routes.items) →
             KeepsApart p.nudged.x × KeepsApart p.nudged.y) }
         // Every line is a legal walk of its connector, with the choices of its route.
         ensures legal { IfOk result (λ n. AreLegalNudgedLines self.now.world.present self.now.book n.routes.items) }

@@ -1,4 +1,4 @@
 -- The lemmas of replays.
 pub mod Replying
-pub mod Commits
+pub mod Done
 pub mod Origins

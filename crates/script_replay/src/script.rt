@@ -1,13 +1,9 @@
 //! The replay of a script: its commands, one after another, and the reply to each.
-ghost use Rattle.std.specs.Prelude.{◌≡◌, ◌≢◌, ◌<◌, ◌≤◌, ◌+◌, ◌^◌, IfErr, IfOk, IsErr, IsErrOf, Ok, OnOk, length};
-ghost use Rattle.report_text.specs.declared.refusal.Refusal.TheVariants as reported;
-ghost use Rattle.report_text.specs.declared.reply.Reply.TheVariants as replies;
-ghost use Rattle.scene_model.specs.declared.edit.Command.TheVariants as commands;
-ghost use Rattle.scene_model.specs.declared.fault.SessionFault.TheVariants as faults;
+ghost use Rattle.std.specs.Prelude.{◌≡◌, ◌<◌, ◌≤◌, ◌+◌, ◌^◌, IfOk, length};
 ghost use Rattle.scene_model.specs.Answers.{AreAnswers};
 ghost use Rattle.scene_model.specs.Scene.{connectors};
 ghost use Rattle.scene_model.specs.World.{IsDirectedCommand, opened};
-ghost use Rattle.script_replay.specs.Replied.{AreReplied, IsReplied};
+ghost use Rattle.script_replay.specs.Replied.{AreReplied, IsReplied, done_reply};
 ghost use Rattle.script_replay.specs.Replies.{AreDirected, AreReplies, searched_in, world_after};
 
 use par_route::Gate;
@@ -115,51 +111,29 @@ fn reply_to<R: Threads + Sync, G: Gate>(
     requires directed { IsDirectedCommand command.now }
     ensures { IfOk result (IsReplied command.now session.old session.new) }
 {
-    match command {
-        Command::Begin => reply_of(session.begin(), Reply::Kept),
-        Command::Edit(edit) => reply_of(session.edit(edit), Reply::Kept),
-        Command::Commit => reply_to_commit(rt, session, workers, gate),
-        Command::Abort => reply_of(session.abort(), Reply::Kept),
-        Command::Undo => reply_of(session.undo(), Reply::Searched(0)),
-        Command::Redo => reply_of(session.redo(), Reply::Searched(0)),
-        Command::Bad => {
-            session.give_up();
-            Ok(Reply::Refused(Refusal::Syntax))
-        }
+    if matches!(command, Command::Bad) {
+        session.give_up();
+        return Ok(Reply::Refused(Refusal::Syntax));
     }
-}
-
-/// Executes a commit, and returns the number of connectors that it searched in its reply.
-fn reply_to_commit<R: Threads + Sync, G: Gate>(
-    rt: &R,
-    session: &mut Session,
-    workers: u32,
-    gate: &G,
-) -> Result<Reply, AllocError>
-    requires some { 1 ≤ workers }
-    requires few_workers { workers ≤ 4 }
-    requires countable { session.old.searched + 512 < 2 ^ 64 }
-    ensures { IfOk result (IsReplied commands.Commit session.old session.new) }
-{
     // For the proof: the book before is right.
     session.right();
     let before = session.searched();
-    let answer = session.commit(rt, workers, gate);
+    let answer = session.run(rt, command, workers, gate);
     // For the proof: the scene after has few connectors.
     session.scene().valid();
-    let searched = session.searched() - before;
-    reply_of(answer, Reply::Searched(searched))
-}
-
-/// The reply to a command with this result; it is `done` if the command was not refused.
-fn reply_of(answer: Result<(), SessionFault>, done: Reply) -> Result<Reply, AllocError>
-    ensures done { OnOk answer (result ≡ Ok done) }
-    ensures memory { IsErrOf answer faults.Memory → IsErr result }
-    ensures refused { IfErr answer (λ f. f ≢ faults.Memory → result ≡ Ok (replies.Refused (reported.Command f))) }
-{
     match answer {
-        Ok(()) => Ok(done),
+        Ok(()) => Ok(done_reply(command, session.searched() - before)),
         Err(SessionFault::Memory) => Err(AllocError),
         Err(fault) => Ok(Reply::Refused(Refusal::Command(fault))),
     }
+}
+
+/// The reply to a command that is done, with this many searches.
+fn done_reply(command: &Command, searched: u64) -> Reply
+    ensures { result ≡ done_reply command.now searched }
+{
+    if matches!(command, Command::Commit | Command::Undo | Command::Redo) {
+        return Reply::Searched(searched);
+    }
+    Reply::Kept
 }

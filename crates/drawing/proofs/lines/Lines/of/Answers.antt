@@ -14,8 +14,6 @@ returns c =
     let drawn : AreDrawn scene answers n.routes.items = record {
       are_lines = record {
         right = subst (AreAnswers scene) (sym c.answers.ensures) c.requires;
-        x_solutions = n.x_solutions.items;
-        y_solutions = n.y_solutions.items;
         nudged = c.in_ok-routes.ensures.nudged;
       };
       apart_x = apart.0;

@@ -1,0 +1,10 @@
+-- A commit writes what its own call does.
+use Rattle.route_session.proofs.Running.{commit_writes}
+use Rattle.route_session.proofs.session.Session.run.Goals as goal
+
+pub returns-in-None-clause-writes : goal.returns-in-None-clause-writes
+returns-in-None-clause-writes g c =
+    let made = c.commit.ensures in
+    let left = c.in-None.ensures in
+    commit_writes c.args.command.now c.commit.result c.args.self.now c.run_but_commit.new.self c.commit.new.self left.left left.stays
+    made.call made.written made.refused_written made.memory_written
