@@ -39,10 +39,10 @@ export interface Box {
 }
 export interface Connector {
   readonly number: number;
-  readonly from: Id;
-  readonly to: Id;
-  readonly fromClass: number;
-  readonly toClass: number;
+  readonly start: Id;
+  readonly end: Id;
+  readonly startClass: number;
+  readonly endClass: number;
   readonly checkpoints: readonly Corner[];
 }
 export interface Settings { readonly penalty: number; readonly buffer: number; readonly nudge: number }
@@ -100,7 +100,8 @@ export class Session {
   addPin(id: Id, pinClass: number, dx: number, dy: number, sides?: string): void;
   dropPin(id: Id, place: number): void;
   connect(start: Id, end: Id, startClass?: number, endClass?: number): number;
-  /** Moves an end of a connector to another box, and answers its new number. The other end and the checkpoints stay. */
+  /** Moves an end of a connector to another box, and answers its new number. The other end and the checkpoints stay; its label, its
+      weight and other keys of the diagram do not. */
   reconnect(edge: number, end: 'start' | 'end', id: Id, pinClass?: number): number;
   setClasses(edge: number, startClass: number, endClass: number): void;
   cut(edge: number): void;

@@ -99,7 +99,8 @@ typedef struct reroute_session { void *held; } reroute_session;
 size_t reroute_size(void);
 /* Makes the room, of reroute_size() bytes, that of a closed session. Call it once for a room, before any other call. */
 void reroute_ready(void *room);
-/* Opens the empty scene: penalty 50000, buffer 4000, nudge 4000. If the session is open, it stays: REROUTE_ALREADY_OPEN. */
+/* Opens the empty scene: penalty 50000, buffer 4000, nudge 4000. If the session is open, it stays: REROUTE_ALREADY_OPEN; after
+ * REROUTE_MEMORY it is closed, and may be opened again. */
 reroute_fault reroute_open(reroute_session *session);
 /* Opens the scene of a diagram in GML, with its boxes, pins, connectors, checkpoints and settings, as the program reads it.
  * The text is not NULL. If the session is open, it stays: REROUTE_ALREADY_OPEN; after any other fault it is closed, and may be
@@ -140,9 +141,9 @@ reroute_fault reroute_drop_pin(reroute_session *session, int64_t id, uint32_t pl
  * stays. */
 reroute_fault reroute_connect(reroute_session *session, int64_t from, uint32_t from_class, int64_t to, uint32_t to_class, uint32_t *number);
 /* Moves an end of a connector to another box, at any pin of the class there: the end where it begins, or with target the one
- * where it ends. The connector is cut, and a new one with its other end, the class of that and its checkpoints is added; a weight
- * that came with a diagram is lost. *number, which is not NULL, becomes the number of the new one; if the call is refused, it
- * stays. */
+ * where it ends. The connector is cut, and a new one with its other end, the class of that and its checkpoints is added, without
+ * the weight, the label and the other keys that came with a diagram, and without a label that was given to the old number.
+ * *number, which is not NULL, becomes the number of the new one; if the call is refused, it stays. */
 reroute_fault reroute_reconnect(reroute_session *session, uint32_t connector, bool target, int64_t id, uint32_t pin_class, uint32_t *number);
 /* The number that the next connector gets: in the open transaction, if one is open; 0 if the session is closed. */
 uint32_t reroute_next(reroute_session *session);

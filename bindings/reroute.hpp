@@ -134,7 +134,7 @@ public:
         return Open(*this).made(edits, false);
     }
 
-    // A box by its centre and its size; its id is yours.
+    // A box by its centre and its size; its id is yours, and has at most 18 digits.
     void addBox(int64_t id, double x, double y, double w, double h) {
         done(reroute_add_box(at(), id, milli(x), milli(y), milli(w), milli(h)));
     }
@@ -152,7 +152,8 @@ public:
         done(reroute_connect(at(), start, startClass, end, endClass, &number));
         return number;
     }
-    // Moves an end of a connector to another box, and answers its new number. The other end and the checkpoints stay.
+    // Moves an end of a connector to another box, and answers its new number. The other end and the checkpoints stay; its label,
+    // its weight and other keys of the diagram do not.
     uint32_t reconnect(uint32_t connector, End end, int64_t box, uint32_t pinClass = 0) {
         uint32_t number = 0;
         done(reroute_reconnect(at(), connector, end == End::end, box, pinClass, &number));

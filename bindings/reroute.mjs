@@ -254,7 +254,7 @@ export class Session {
 
   // --- Edits of the open transaction
 
-  /** A box by its id, its centre and its size. */
+  /** A box by its id, which has at most 18 digits, its centre and its size. */
   addBox(id, x, y, w, h) { this.#do('add_box', whole(id), milli(x), milli(y), milli(w), milli(h)); }
   move(id, x, y) { this.#do('move_box', whole(id), milli(x), milli(y)); }
   resize(id, w, h) { this.#do('size_box', whole(id), milli(w), milli(h)); }
@@ -271,7 +271,8 @@ export class Session {
     this.#do('connect', whole(start), count(startClass), whole(end), count(endClass), this.#out + 16);
     return this.#word(this.#out + 16);
   }
-  /** Moves the `start` or the `end` of a connector to another box, and answers its new number. The other end and the checkpoints stay. */
+  /** Moves the `start` or the `end` of a connector to another box, and answers its new number. The other end and the checkpoints
+      stay; its label, its weight and other keys of the diagram do not. */
   reconnect(edge, end, id, pinClass = 0) {
     if (!['start', 'end'].includes(end)) throw new RangeError(`${end} is no end`);
     this.#do('reconnect', count(edge), end === 'end', whole(id), count(pinClass), this.#out + 16);
@@ -372,8 +373,8 @@ export class Session {
   }
   /** The connectors in the order of their numbers, with their checkpoints. */
   connectors() {
-    return this.#all('connector', (at, place) => ({ number: this.#word(at), from: this.#id(at + 8), fromClass: this.#word(at + 16),
-      to: this.#id(at + 24), toClass: this.#word(at + 32), checkpoints: this.#points('checkpoint', place) }));
+    return this.#all('connector', (at, place) => ({ number: this.#word(at), start: this.#id(at + 8), end: this.#id(at + 24),
+      startClass: this.#word(at + 16), endClass: this.#word(at + 32), checkpoints: this.#points('checkpoint', place) }));
   }
   settings() {
     const at = this.#out + 32;

@@ -75,10 +75,10 @@ function replay(gml, script, wanted, byCalls) {
   const said = played(session, script, lines, byCalls), text = session.gml(), inText = linesIn(text);
   kept(lines, session.changes());
   assert.deepStrictEqual([...lines].sort(), [...session.lines()].sort(), 'what changes() tells is what lines() has');
-  session.connectors().forEach(({ number, from, to }, at) => {
+  session.connectors().forEach(({ number, start, end }, at) => {
     const cost = session.cost(number);
-    said.push(`# edge ${number}: ${from === to ? 'loop' : cost === null ? 'no route' : `cost ${cost.toFixed(3)}`}\n`);
-    if (from !== to) assert.deepStrictEqual(lines.get(number) ?? [], inText[at], `the line of connector ${number}`);
+    said.push(`# edge ${number}: ${start === end ? 'loop' : cost === null ? 'no route' : `cost ${cost.toFixed(3)}`}\n`);
+    if (start !== end) assert.deepStrictEqual(lines.get(number) ?? [], inText[at], `the line of connector ${number}`);
   });
   assert.strictEqual(said.join('') + text, wanted);
   assert.strictEqual(session.boxes().length, session.boxCount);
@@ -180,11 +180,11 @@ await part('the scene is read, and a connector moves to another box', () => {
     assert.deepStrictEqual(t.boxes()[2], { id: 9, x: 100, y: -90.5, w: 30, h: 30, isGroup: false, pins: [] });
     return t.reconnect(1, 'end', -7);
   });
-  assert.deepStrictEqual(s.connectors().map(({ number: one, from, to, fromClass, checkpoints }) => [one, from, to, fromClass, checkpoints.length]),
+  assert.deepStrictEqual(s.connectors().map(({ number: one, start, end, startClass, checkpoints }) => [one, start, end, startClass, checkpoints.length]),
     [[2, 9, 9, 0, 0], [3, 1, -7, 3, 1]]);
   assert.deepStrictEqual([number, s.next, [...s.lines().keys()]], [3, 4, [3]]);
   s.undo();
-  assert.deepStrictEqual([s.next, s.connectors()[1]], [3, { number: 2, from: 9, fromClass: 0, to: 9, toClass: 0, checkpoints: [] }]);
+  assert.deepStrictEqual([s.next, s.connectors()[1]], [3, { number: 2, start: 9, end: 9, startClass: 0, endClass: 0, checkpoints: [] }]);
   const refuses = (code, ...words) => refused(() => s.transaction(t => t.reconnect(...words)), code);
   refuses(5, 7, 'end', 9);
   refuses(4, 1, 'end', 8);

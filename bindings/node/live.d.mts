@@ -63,7 +63,8 @@ export class Session {
   addPin(box: Id, pinClass: number, dx: number, dy: number, sides?: string): Promise<void>;
   dropPin(box: Id, place: number): Promise<void>;
   connect(start: Id, end: Id, startClass?: number, endClass?: number): Promise<number>;
-  /** Moves an end of a connector to another box, and answers its new number. The other end and the checkpoints stay. */
+  /** Moves an end of a connector to another box, and answers its new number. The other end and the checkpoints stay; its label, its
+      weight and other keys of the diagram do not. */
   reconnect(edge: number, end: 'start' | 'end', box: Id, pinClass?: number): Promise<number>;
   setClasses(edge: number, startClass: number, endClass: number): Promise<void>;
   cut(edge: number): Promise<void>;

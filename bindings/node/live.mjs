@@ -318,7 +318,7 @@ export class Session {
     return done;
   }
 
-  /** A box by its centre and its size; its id is yours. */
+  /** A box by its centre and its size; its id is yours, and has at most 18 digits. */
   addBox(box, x, y, w, h) { return this.#edit(() => `node ${id(box)} ${unit(x)} ${unit(y)} ${unit(w)} ${unit(h)}`); }
   move(box, x, y) { return this.#edit(() => `move ${id(box)} ${unit(x)} ${unit(y)}`); }
   resize(box, w, h) { return this.#edit(() => `size ${id(box)} ${unit(w)} ${unit(h)}`); }
@@ -332,7 +332,8 @@ export class Session {
   connect(start, end, startClass = 0, endClass = 0) {
     return this.#edit(() => `edge ${id(start)} ${id(end)} ${count(startClass)} ${count(endClass)}`, () => this.#next++);
   }
-  /** Moves the `start` or the `end` of a connector to another box, and answers its new number. The other end and the checkpoints stay. */
+  /** Moves the `start` or the `end` of a connector to another box, and answers its new number. The other end and the checkpoints
+      stay; its label, its weight and other keys of the diagram do not. */
   reconnect(edge, end, box, pinClass = 0) {
     return this.#edit(() => `reconnect ${count(edge)} ${endWord(end)} ${id(box)} ${count(pinClass)}`, () => this.#next++);
   }

@@ -62,8 +62,8 @@ function boxOf(node) {
 }
 
 function connectorOf(edge, number) {
-  return { number, from: idOf(edge, 'source'), to: idOf(edge, 'target'), fromClass: numberOf(edge, 'sourcePin'),
-    toClass: numberOf(edge, 'targetPin'), checkpoints: listsOf(edge, 'via').map(via => [numberOf(via, 'x'), numberOf(via, 'y')]) };
+  return { number, start: idOf(edge, 'source'), end: idOf(edge, 'target'), startClass: numberOf(edge, 'sourcePin'),
+    endClass: numberOf(edge, 'targetPin'), checkpoints: listsOf(edge, 'via').map(via => [numberOf(via, 'x'), numberOf(via, 'y')]) };
 }
 
 /** Reads the scene from the diagram that the program writes. The number of a connector does not stand there, but follows from

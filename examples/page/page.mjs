@@ -176,8 +176,8 @@ function connect(from, to) {
 /** The edits that remove connectors, with the pins that no other uses. */
 function cutting(numbers) {
   const rest = [...connectors.values()].filter(one => !numbers.includes(one.number));
-  const ends = numbers.flatMap(number => { const c = connectors.get(number); return [[c.from, c.fromClass], [c.to, c.toClass]]; });
-  const isUsed = (id, kind) => rest.some(c => (c.from === id && c.fromClass === kind) || (c.to === id && c.toClass === kind));
+  const ends = numbers.flatMap(number => { const c = connectors.get(number); return [[c.start, c.startClass], [c.end, c.endClass]]; });
+  const isUsed = (id, kind) => rest.some(c => (c.start === id && c.startClass === kind) || (c.end === id && c.endClass === kind));
   const unused = ends.filter(([id, kind]) => kind && !isUsed(id, kind));
   const places = [...boxes.values()].flatMap(box => box.pins.flatMap((pin, at) => (
     unused.some(([id, kind]) => id === box.id && kind === pin.pinClass) ? [[box.id, at + 1]] : []))).reverse();
@@ -189,7 +189,7 @@ function remove() {
   const { box, edge } = chosen;
   chosen = start = null;
   if (edge !== undefined) return act('removed the connector', () => commit(cutting([edge])));
-  const ends = [...connectors.values()].filter(one => one.from === box || one.to === box).map(one => one.number);
+  const ends = [...connectors.values()].filter(one => one.start === box || one.end === box).map(one => one.number);
   return act(`removed ${nameOf(box)}`, () => commit(s => { cutting(ends)(s); s.drop(box); }));
 }
 
@@ -266,7 +266,7 @@ async function openGml(bytes) {
 
 /** What is said of a diagram that was opened: where ends have no pins, also what gives them pins. */
 function saidOfOpened(name) {
-  const lacksPins = [...connectors.values()].some(one => one.from !== one.to && !(one.fromClass && one.toClass));
+  const lacksPins = [...connectors.values()].some(one => one.start !== one.end && !(one.startClass && one.endClass));
   return `opened ${name}: ${boxes.size} boxes, ${connectors.size} connectors`
     + (lacksPins ? `; lines of one box run together without pins, which reroute-draw ${name} -o pinned.gml adds` : '');
 }
@@ -449,26 +449,26 @@ function drawWire(it, number, wire, changed) {
 /** What is drawn of each connector. */
 function wires({ boxes, lines }) {
   const drawn = new Map();
-  for (const [number, { from, to }] of connectors) {
-    const [a, b] = [boxes.get(from), boxes.get(to)], known = lines.get(number);
+  for (const [number, { start, end }] of connectors) {
+    const [a, b] = [boxes.get(start), boxes.get(end)], known = lines.get(number);
     if (!a || !b) continue;
-    drawn.set(number, from === to ? drawing.loopOf(a) : drawing.visible(known ?? [[a.x, a.y], [b.x, b.y]], a, b));
+    drawn.set(number, start === end ? drawing.loopOf(a) : drawing.visible(known ?? [[a.x, a.y], [b.x, b.y]], a, b));
   }
   const crossed = drawing.crossings(drawn);
   return new Map([...drawn].map(([number, corners]) => {
-    const { from, to } = connectors.get(number), isNone = from !== to && !lines.has(number);
+    const { start, end } = connectors.get(number), isNone = start !== end && !lines.has(number);
     return [number, { isNone, name: labels.connectors.get(number) ?? '', path: drawing.pathOf(corners, isNone ? [] : crossed.get(number)),
       head: drawing.headOf(corners), middle: drawing.middleOf(corners),
-      label: `Connector from ${nameOf(from)} to ${nameOf(to)}${isNone ? ', no legal route' : ''}` }];
+      label: `Connector from ${nameOf(start)} to ${nameOf(end)}${isNone ? ', no legal route' : ''}` }];
   }));
 }
 
 /** Why a connector has no line, as far as the page can see. */
-function reason({ from, to }, boxes) {
-  for (const end of [from, to]) {
-    const at = boxes.get(end), gap = settings.buffer;
+function reason({ start, end }, boxes) {
+  for (const one of [start, end]) {
+    const at = boxes.get(one), gap = settings.buffer;
     for (const [id, b] of boxes) {
-      if (b.isGroup || id === from || id === to) continue;
+      if (b.isGroup || id === start || id === end) continue;
       const isClose = Math.abs(at.x - b.x) < (at.w + b.w) / 2 + gap && Math.abs(at.y - b.y) < (at.h + b.h) / 2 + gap;
       if (isClose) return `${b.label} stands too close to ${at.label}`;
     }
@@ -477,10 +477,10 @@ function reason({ from, to }, boxes) {
 }
 
 function notes({ boxes, lines }) {
-  const missing = [...connectors.values()].filter(one => one.from !== one.to && !lines.has(one.number) && boxes.has(one.from));
+  const missing = [...connectors.values()].filter(one => one.start !== one.end && !lines.has(one.number) && boxes.has(one.start));
   if (!missing.length) return '';
   const [first] = missing, more = missing.length > 1 ? ` (and ${missing.length - 1} more)` : '';
-  return `${nameOf(first.from)} to ${nameOf(first.to)} has no legal route: ${reason(first, boxes)}${more}.`;
+  return `${nameOf(first.start)} to ${nameOf(first.end)} has no legal route: ${reason(first, boxes)}${more}.`;
 }
 
 /** The handle of the chosen box, from which a connector is pulled, and the line that is being pulled. */

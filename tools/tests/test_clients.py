@@ -417,19 +417,7 @@ class DragTest(unittest.TestCase):
 
 
 class ExamplesTest(LiveTest):
-    def commands(self):
-        yield [sys.executable, f'{DRAG}.py', f'{DRAG}.gml', LIVE]
-        if shutil.which('node'):
-            yield ['node', f'{TOP}/examples/clients/drag_a_box.mjs', f'{DRAG}.gml', LIVE]
-
-    def test_drags(self):
-        with open(f'{DRAG}.txt') as file:
-            wanted = file.read()
-        for words in self.commands():
-            with self.subTest(words[0]):
-                self.assertEqual(subprocess.check_output(words, text=True, timeout=PATIENCE), wanted)
-
-    def test_moves(self):
+    def test_examples(self):
         words = [sys.executable, f'{TOP}/tools/test-clients', LIVE]
         done = subprocess.run(words, capture_output=True, text=True, timeout=PATIENCE)
         self.assertEqual(done.returncode, 0, done.stdout)

@@ -205,7 +205,7 @@ class Session:
     # ---- edits of the open transaction ----
 
     def add_box(self, box: int, x: float, y: float, w: float, h: float) -> None:
-        """A box by its centre and its size; its id is yours."""
+        """A box by its centre and its size; its id is yours, and has at most 18 digits."""
         self._call('add_box', box, milli(x), milli(y), milli(w), milli(h))
 
     def move(self, box: int, x: float, y: float) -> None:
@@ -232,7 +232,7 @@ class Session:
 
     def reconnect(self, connector: int, end: str, box: int, pin_class: int = 0) -> int:
         """Moves the `start` or the `end` of a connector to another box, and answers its new number. The other end and the
-        checkpoints stay."""
+        checkpoints stay; its label, its weight and other keys of the diagram do not."""
         number = U()
         self._call('reconnect', connector, is_target(end), box, pin_class, number)
         return number.value

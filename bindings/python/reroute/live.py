@@ -253,7 +253,7 @@ class Session:
     # ---- edits of the open transaction ----
 
     def add_box(self, box: int, x: float, y: float, w: float, h: float) -> None:
-        """A box by its centre and its size; its id is yours."""
+        """A box by its centre and its size; its id is yours, and has at most 18 digits."""
         self.say(f'node {whole(box, 64)} {units(x)} {units(y)} {units(w)} {units(h)}')
 
     def move(self, box: int, x: float, y: float) -> None:
@@ -283,7 +283,7 @@ class Session:
 
     def reconnect(self, connector: int, end: str, box: int, pin_class: int = 0) -> int:
         """Moves the `start` or the `end` of a connector to another box, and answers its new number. The other end and the
-        checkpoints stay."""
+        checkpoints stay; its label, its weight and other keys of the diagram do not."""
         which = 'target' if is_target(end) else 'source'
         with self._lock:
             replies = self.say(f'reconnect {whole(connector, 32)} {which} {whole(box, 64)} {whole(pin_class, 32)}')
