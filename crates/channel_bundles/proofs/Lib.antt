@@ -1,7 +1,7 @@
 -- The lemmas on the bundles of a phase, callees first.
-pub mod Ranges
 pub mod Trees
-pub mod Sweeping
+pub mod Ranges
+pub mod Facing
 pub mod Neighbours
 pub mod Numbering
 pub mod Listing

@@ -149,11 +149,12 @@ not_less Less x y m e = absurd (cc)
 not_less Equal x y m e = omega (arith, ints)
 not_less Greater x y m e = omega (arith, ints)
 
-pub rises : (xs : List Span) → IsSortedByKey (λ (s : Span). s.lo) int_cmp xs → AllPairs (λ (a b : Span). a.lo ≤ℤ b.lo) xs
-rises xs up = λ i j d l k.
-    let a : ℤ = (get_or xs j d).lo in
-    let b : ℤ = (get_or xs i d).lo in
-    not_less (int_cmp a b) a b (int_ranked a b (int_cmp a b) refl) (sorted_far _ (ranks_by int_cmp_total (λ (s : Span). s.lo)) xs up i j d (omega arith) k)
+-- what is sorted by a key has keys that do not fall
+pub rises : {X : Type 0} (key : X → ℤ) (xs : List X) → IsSortedByKey key int_cmp xs → AllPairs (λ (a b : X). key a ≤ℤ key b) xs
+rises {X} key xs up = λ i j d l k.
+    let a = key (get_or xs j d) in
+    let b = key (get_or xs i d) in
+    not_less (int_cmp a b) a b (int_ranked a b (int_cmp a b) refl) (sorted_far _ (ranks_by int_cmp_total key) xs up i j d (omega arith) k)
 
 -- a span that nothing meets, for each group
 pub nowhere : (count : ℕ) (s : Span) (spans : List Span) → spans ≡ replicate count s → s.group ≡ 0 → s.place ≡ 0 → All (IsSpan count) spans

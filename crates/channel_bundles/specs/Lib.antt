@@ -1,6 +1,7 @@
 -- The definitions of a phase: its routes, how far their runs may move, and their bundles.
 pub mod Route
 pub mod Limits
+pub mod Walls
 pub mod Links
 pub mod Classes
 pub mod Groups

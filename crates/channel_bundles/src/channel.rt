@@ -12,6 +12,7 @@ ghost use Rattle.channel_bundles.specs.Bundles.{AreBundles, AreInOrder, members_
 ghost use Rattle.channel_bundles.specs.Listed.{AreListedOf, IsListed};
 ghost use Rattle.channel_bundles.specs.declared.channel.Listing.TheVariants as listings;
 ghost use Rattle.channel_bundles.specs.Placed.{AreRising, IsPlaced, pairs_of, standings_of};
+ghost use Rattle.channel_bundles.specs.Walls.{AreWalls};
 
 use crate::bare::bundle_with;
 use crate::leaders::{is_same_but_for_edge, leader_of, runs_at};
@@ -19,6 +20,7 @@ use crate::links::{linked_classes, rules_of};
 use crate::member::Member;
 use crate::route::PhaseRoute;
 use crate::shares::few_bundles_of;
+use crate::walls::Walls;
 use bumpalo::Bump;
 use plane_geom::{Solid, Way};
 use segment_order::{Run, line_order};
@@ -75,18 +77,18 @@ impl Placed<'_, '_> {
 /// Appends the runs of the way of the route at the index.
 fn add_runs<'r, 'p>(
     placed: &mut Vec<Placed<'r, 'p>>,
-    solids: &[Solid],
+    walls: &Walls<'_, '_>,
     routes: &'r [PhaseRoute<'p>],
     at: usize,
     way: Way,
 ) -> Result<(), AllocError>
-    requires solids { All IsSolid solids.now }
+    requires walls { AreWalls way walls.now }
     requires routes { All IsPhaseRoute routes.now }
-    requires movable { All (MayMove solids.now way) routes.now }
+    requires movable { All (MayMove walls.now.solids.now way) routes.now }
     requires at { at < length routes.now }
-    requires so_far { All (IsPlaced solids.now routes.now) placed.old.items }
+    requires so_far { All (IsPlaced walls.now.solids.now routes.now) placed.old.items }
     requires before { pairs_of placed.old.items ≡ runs_of_way way (take at routes.now) }
-    ensures each { IfOk result (λ _. All (IsPlaced solids.now routes.now) placed.new.items) }
+    ensures each { IfOk result (λ _. All (IsPlaced walls.now.solids.now routes.now) placed.new.items) }
     ensures runs { IfOk result (λ _. pairs_of placed.new.items ≡ runs_of_way way (take (at + 1) routes.now)) }
 {
     let route = &routes[at];
@@ -96,7 +98,7 @@ fn add_runs<'r, 'p>(
             placed.push(Placed {
                 route,
                 leader,
-                member: route.member(solids, k),
+                member: route.member(walls, k),
             })?;
         }
     }
@@ -116,19 +118,19 @@ fn count_of_way(routes: &[PhaseRoute<'_>], way: Way) -> usize {
 /// The runs of the way of all routes.
 fn runs_of<'r, 'p>(
     alloc: Global,
-    solids: &[Solid],
+    walls: &Walls<'_, '_>,
     routes: &'r [PhaseRoute<'p>],
     way: Way,
 ) -> Result<Vec<Placed<'r, 'p>>, AllocError>
-    requires solids { All IsSolid solids.now }
+    requires walls { AreWalls way walls.now }
     requires routes { All IsPhaseRoute routes.now }
-    requires movable { All (MayMove solids.now way) routes.now }
-    ensures each { IfOk result (λ placed. All (IsPlaced solids.now routes.now) placed.items) }
+    requires movable { All (MayMove walls.now.solids.now way) routes.now }
+    ensures each { IfOk result (λ placed. All (IsPlaced walls.now.solids.now routes.now) placed.items) }
     ensures runs { IfOk result (λ placed. pairs_of placed.items ≡ runs_of_way way routes.now) }
 {
     let mut placed = Vec::with_capacity(alloc, count_of_way(routes, way))?;
     for at in 0..routes.len() {
-        add_runs(&mut placed, solids, routes, at, way)?;
+        add_runs(&mut placed, walls, routes, at, way)?;
     }
     Ok(placed)
 }
@@ -136,17 +138,17 @@ fn runs_of<'r, 'p>(
 /// The runs of the way of all routes, in their order on the line.
 fn runs_in_order<'r, 'p>(
     alloc: Global,
-    solids: &[Solid],
+    walls: &Walls<'_, '_>,
     routes: &'r [PhaseRoute<'p>],
     way: Way,
 ) -> Result<Vec<Placed<'r, 'p>>, AllocError>
-    requires solids { All IsSolid solids.now }
+    requires walls { AreWalls way walls.now }
     requires routes { All IsPhaseRoute routes.now }
-    requires movable { All (MayMove solids.now way) routes.now }
-    ensures order { IfOk result (λ placed. AreInOrder solids.now routes.now way (standings_of placed.items)) }
-    ensures each { IfOk result (λ placed. All (IsPlaced solids.now routes.now) placed.items) }
+    requires movable { All (MayMove walls.now.solids.now way) routes.now }
+    ensures order { IfOk result (λ placed. AreInOrder walls.now.solids.now routes.now way (standings_of placed.items)) }
+    ensures each { IfOk result (λ placed. All (IsPlaced walls.now.solids.now routes.now) placed.items) }
 {
-    let mut placed = runs_of(alloc, solids, routes, way)?;
+    let mut placed = runs_of(alloc, walls, routes, way)?;
     placed.sort_unstable_by(|a, b| a.compare(b, routes));
     Ok(placed)
 }
@@ -258,7 +260,8 @@ fn listed_bundles<'a>(
     ensures few { listing ≡ listings.Few → IfOk result (λ few. AreFewBundles solids.now routes.now way nudge few.items) }
     ensures each { IfOk result (λ found. All (λ b. IsBundle b.bundle) found.items) }
 {
-    let placed = runs_in_order(alloc, solids, routes, way)?;
+    let walls = Walls::new(bump, solids, way)?;
+    let placed = runs_in_order(alloc, &walls, routes, way)?;
     let members = own_members(bump, &placed)?;
     // The runs need their routes no more.
     drop(placed);

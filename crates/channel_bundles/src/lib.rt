@@ -15,6 +15,7 @@ mod links;
 mod member;
 mod route;
 mod shares;
+mod walls;
 
 pub use channel::{RunBundle, bundles, few_bundles};
 pub use laws::reduced_connects;

@@ -1,18 +1,20 @@
 //! How far a run may move.
-ghost use Rattle.std.specs.Prelude.{◌≡◌, ◌↔◌, ◌+◌, ◌-◌, ◌<◌, ℤ, ◌<ℤ◌, ◌≤ℤ◌, All, Contains, IsTrue, length};
+ghost use Rattle.std.specs.Prelude.{◌≡◌, ◌↔◌, ◌+◌, ◌-◌, ◌<◌, ℤ, ◌<ℤ◌, ◌≤ℤ◌, All, AllPairs, Contains, IsTrue, length};
 ghost use Rattle.plane_geom.specs.declared.point.Point.{Point};
 ghost use Rattle.plane_geom.specs.Along.{across};
-ghost use Rattle.plane_geom.specs.Floor.{Holds, IsSolid};
+ghost use Rattle.plane_geom.specs.Floor.{Holds};
 ghost use Rattle.plane_geom.specs.Point.{IsCoordinate, opposite};
 ghost use Rattle.plane_geom.specs.Rect.{Overlaps};
 ghost use Rattle.segment_order.specs.Run.{IsRun, line_of_run, run_at};
 ghost use Rattle.channel_bundles.specs.Route.{HasToLeave, HasToReach, IsFixed, IsPhaseRoute};
 ghost use Rattle.channel_bundles.specs.Limits.{HasLimits, IsFromTo, IsReached, MayStandAt, Sweeps};
 ghost use Rattle.channel_bundles.specs.Links.{IsMember};
+ghost use Rattle.channel_bundles.specs.Walls.{AreWalls, StopsBefore, StopsBehind};
 
 use crate::member::Member;
 use crate::route::PhaseRoute;
-use plane_geom::{Dir, Point, SHEET_END, SHEET_START, Solid, Way};
+use crate::walls::{Wall, Walls};
+use plane_geom::{Dir, Point, SHEET_END, SHEET_START, Way};
 use segment_order::Run;
 
 /// The coordinates at which a run may be, from `low` to `high`.
@@ -22,14 +24,14 @@ pub(crate) struct Limits {
     high: i64,
 }
 
-/// Whether the range and the run's range share more than a point, or, for a run without length,
-/// whether its point is inside the range.
-fn is_along(start: i64, end: i64, run: &Run) -> bool
-    requires wide { start <ℤ end }
+/// Whether the wall and the run share more than a point along the way, or, for a run without
+/// length, whether its point is inside the wall.
+fn is_along(wall: &Wall, run: &Run) -> bool
+    requires wide { wall.now.lo <ℤ wall.now.hi }
     requires run { IsRun run.now }
-    ensures { IsTrue result ↔ Overlaps start end run.now.lo run.now.hi }
+    ensures { IsTrue result ↔ Overlaps wall.now.lo wall.now.hi run.now.lo run.now.hi }
 {
-    run.lo < end && start < run.hi
+    run.lo < wall.hi && wall.lo < run.hi
 }
 
 impl Limits {
@@ -70,45 +72,40 @@ impl Limits {
         if needed { self.reached(dir, at) } else { self }
     }
 
-    /// The coordinates that are reached from `at` without a step into the open interval, in which
-    /// `at` is not.
-    fn kept_beside(self, low: i64, high: i64, at: i64) -> Limits
-        requires wide { low <ℤ high }
-        requires clear { Overlaps low high at at → ⊥ }
-        ensures { (z : ℤ) → IsFromTo result.low result.high z ↔ (IsFromTo self.low self.high z × (Overlaps low high at z → ⊥)) }
+    /// The coordinates up to the first of the walls that the run would meet on its way to greater
+    /// ones.
+    fn up_to_first(self, walls: &[Wall], run: &Run) -> Limits
+        requires rise { AllPairs (λ v w. v.at ≤ℤ w.at) walls.now }
+        requires wide { All (λ w. w.lo <ℤ w.hi) walls.now }
+        requires run { IsRun run.now }
+        ensures { (z : ℤ) → IsFromTo result.low result.high z ↔ (IsFromTo self.low self.high z × All (StopsBefore run.now z) walls.now) }
     {
-        if high <= at {
-            self.from(high)
-        } else {
-            self.up_to(low)
+        let first = walls.partition_point(|wall| wall.at < run.at);
+        for next in first..walls.len() {
+            if is_along(&walls[next], run) {
+                return self.up_to(walls[next].at);
+            }
         }
+        self
     }
 
-    /// The coordinates for which a move of the run from its place sweeps no part of the solid.
-    fn kept_out(self, solid: &Solid, run: &Run) -> Limits
-        requires solid { IsSolid solid.now }
+    /// The coordinates from the first of the walls on that the run would meet on its way to lesser
+    /// ones.
+    fn from_first(self, walls: &[Wall], run: &Run) -> Limits
+        requires rise { AllPairs (λ v w. v.at ≤ℤ w.at) walls.now }
+        requires wide { All (λ w. w.lo <ℤ w.hi) walls.now }
         requires run { IsRun run.now }
-        requires clear { Sweeps run.now.way solid.now.rect run.now.at run.now.at run.now.lo run.now.hi → ⊥ }
-        ensures { (z : ℤ) → IsFromTo result.low result.high z ↔ (IsFromTo self.low self.high z
-            × (Sweeps run.now.way solid.now.rect run.now.at z run.now.lo run.now.hi → ⊥)) }
+        ensures { (z : ℤ) → IsFromTo result.low result.high z ↔ (IsFromTo self.low self.high z × All (StopsBehind run.now z) walls.now) }
     {
-        let rect = solid.rect;
-        match run.way {
-            Way::Vertical => {
-                if is_along(rect.top, rect.bottom, run) {
-                    self.kept_beside(rect.left, rect.right, run.at)
-                } else {
-                    self
-                }
-            }
-            Way::Horizontal => {
-                if is_along(rect.left, rect.right, run) {
-                    self.kept_beside(rect.top, rect.bottom, run.at)
-                } else {
-                    self
-                }
+        let first = walls.partition_point(|wall| wall.at <= run.at);
+        let mut next = first;
+        while next > 0 {
+            next -= 1;
+            if is_along(&walls[next], run) {
+                return self.from(walls[next].at);
             }
         }
+        self
     }
 
     /// The coordinates at which one who travels in the direction has reached each checkpoint on the
@@ -126,22 +123,21 @@ impl Limits {
 }
 
 /// The coordinates of the sheet for which a move of the run from its place sweeps no part of a
-/// solid.
-fn clear_of(solids: &[Solid], run: &Run) -> Limits
-    requires solids { All IsSolid solids.now }
+/// solid, of which the walls are.
+fn clear_of(walls: &Walls<'_, '_>, run: &Run) -> Limits
+    requires walls { AreWalls run.now.way walls.now }
     requires run { IsRun run.now }
-    requires clear { All (λ s. Sweeps run.now.way s.rect run.now.at run.now.at run.now.lo run.now.hi → ⊥) solids.now }
+    requires clear { All (λ s. Sweeps run.now.way s.rect run.now.at run.now.at run.now.lo run.now.hi → ⊥) walls.now.solids.now }
     ensures { (z : ℤ) → IsFromTo result.low result.high z ↔ (IsCoordinate z
-        × All (λ s. Sweeps run.now.way s.rect run.now.at z run.now.lo run.now.hi → ⊥) solids.now) }
+        × All (λ s. Sweeps run.now.way s.rect run.now.at z run.now.lo run.now.hi → ⊥) walls.now.solids.now) }
 {
-    let mut limits = Limits {
+    let sheet = Limits {
         low: SHEET_START,
         high: SHEET_END,
     };
-    for solid in solids {
-        limits = limits.kept_out(solid, run);
-    }
-    limits
+    sheet
+        .up_to_first(&walls.onward, run)
+        .from_first(&walls.backward, run)
 }
 
 impl PhaseRoute<'_> {
@@ -178,27 +174,27 @@ impl PhaseRoute<'_> {
     }
 
     /// The coordinates at which the run, which is not fixed, may be.
-    fn movable_limits(&self, solids: &[Solid], k: usize) -> Limits
+    fn movable_limits(&self, walls: &Walls<'_, '_>, k: usize) -> Limits
         requires route { IsPhaseRoute self.now }
-        requires solids { All IsSolid solids.now }
+        requires walls { AreWalls (run_at self.now.runs.items k).way walls.now }
         requires first { 0 < k }
         requires last { k + 1 < length self.now.runs.items }
-        requires stands { MayStandAt solids.now self.now k (run_at self.now.runs.items k).at }
-        ensures { (z : ℤ) → MayStandAt solids.now self.now k z ↔ IsFromTo result.low result.high z }
+        requires stands { MayStandAt walls.now.solids.now self.now k (run_at self.now.runs.items k).at }
+        ensures { (z : ℤ) → MayStandAt walls.now.solids.now self.now k z ↔ IsFromTo result.low result.high z }
     {
-        let clear = clear_of(solids, &self.run(k));
+        let clear = clear_of(walls, &self.run(k));
         self.reached_after(self.reached_before(clear, k), k)
     }
 
     /// The run with its limits.
-    pub(crate) fn member(&self, solids: &[Solid], k: usize) -> Member
+    pub(crate) fn member(&self, walls: &Walls<'_, '_>, k: usize) -> Member
         requires route { IsPhaseRoute self.now }
-        requires solids { All IsSolid solids.now }
+        requires walls { AreWalls (run_at self.now.runs.items k).way walls.now }
         requires within { k < length self.now.runs.items }
-        requires stands { (IsFixed self.now k → ⊥) → MayStandAt solids.now self.now k (run_at self.now.runs.items k).at }
+        requires stands { (IsFixed self.now k → ⊥) → MayStandAt walls.now.solids.now self.now k (run_at self.now.runs.items k).at }
         ensures run { result.run ≡ run_at self.now.runs.items k }
         ensures fixed { IsTrue result.fixed ↔ IsFixed self.now k }
-        ensures limits { HasLimits solids.now self.now k result.low result.high }
+        ensures limits { HasLimits walls.now.solids.now self.now k result.low result.high }
         ensures weight { result.weight ≡ self.now.weight }
         ensures member { IsMember result }
     {
@@ -210,7 +206,7 @@ impl PhaseRoute<'_> {
                 high: run.at,
             }
         } else {
-            self.movable_limits(solids, k)
+            self.movable_limits(walls, k)
         };
         Member {
             run,

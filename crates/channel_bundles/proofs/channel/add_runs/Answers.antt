@@ -9,6 +9,7 @@ use Rattle.channel_bundles.specs.Leaders.{without_edge}
 use Rattle.channel_bundles.specs.Limits.{MayMove}
 use Rattle.channel_bundles.specs.Placed.{IsPlaced, pairs_of}
 use Rattle.channel_bundles.specs.Route.{IsPhaseRoute, of_way}
+use Rattle.channel_bundles.specs.Walls.{AreWalls}
 use Rattle.channel_bundles.proofs.Leading.{runs_are}
 use Rattle.channel_bundles.proofs.Placing.{added, paired, is_placed, more_routes, none_more, one_more}
 use Rattle.channel_bundles.proofs.channel.add_runs.Goals as goal
@@ -18,15 +19,18 @@ pub member-requires-clause-route : goal.member-requires-clause-route
 member-requires-clause-route c =
     subst IsPhaseRoute (sym c.index-routes-at.is) (All-get_or IsPhaseRoute c.args.routes.now c.args.at c.index-routes-at.result c.requires.at c.requires.routes)
 
+pub member-requires-clause-walls : goal.member-requires-clause-walls
+member-requires-clause-walls c = subst (λ way. AreWalls way c.args.walls.now) (sym (c.is_of_way.ensures.0 c.if-is_of_way.true)) c.requires.walls
+
 pub member-requires-clause-stands : goal.member-requires-clause-stands
 member-requires-clause-stands c =
-    let may = subst (MayMove c.args.solids.now c.args.way) (sym c.index-routes-at.is)
-    (All-get_or (MayMove c.args.solids.now c.args.way) c.args.routes.now c.args.at c.index-routes-at.result c.requires.at c.requires.movable) in
+    let may = subst (MayMove c.args.walls.now.solids.now c.args.way) (sym c.index-routes-at.is)
+    (All-get_or (MayMove c.args.walls.now.solids.now c.args.way) c.args.routes.now c.args.at c.index-routes-at.result c.requires.at c.requires.movable) in
     may c.loop-k.k (omega arith) (c.is_of_way.ensures.0 c.if-is_of_way.true)
 
 pub loop-k-preserved : goal.loop-k-preserved
 loop-k-preserved c =
-    let solids = c.args.solids.now in
+    let solids = c.args.walls.now.solids.now in
     let routes = c.args.routes.now in
     let route = c.index-routes-at.result in
     let k = c.loop-k.k in

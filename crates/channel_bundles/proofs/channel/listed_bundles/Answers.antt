@@ -19,6 +19,7 @@ use Rattle.channel_bundles.specs.declared.channel.RunBundle.{RunBundle}
 use Rattle.channel_bundles.specs.Route.{runs_of_way}
 use Rattle.separation_model.specs.Bundle.{most_items}
 use Rattle.channel_bundles.specs.Few.{AreFewBundles}
+use Rattle.channel_bundles.specs.Limits.{MayMove}
 use Rattle.channel_bundles.specs.Links.{IsMember, IsNudge}
 use Rattle.channel_bundles.specs.Listed.{AreListedOf}
 use Rattle.channel_bundles.specs.declared.channel.Listing.{Listing}
@@ -57,9 +58,12 @@ few_found solids routes way nudge placed ms order e is_nudge all rising few list
     few_bundles nudge ms is_nudge all rising few b.items (subst (λ l. AreListedOf l nudge ms b.items) is_few is) solids routes way (standings_of placed) order e
 few_found solids routes way nudge placed ms order e is_nudge all rising few listing is_few (Err x) is = tt
 
+pub runs_in_order-requires-clause-movable : goal.runs_in_order-requires-clause-movable
+runs_in_order-requires-clause-movable c = subst (λ solids. All (MayMove solids c.args.way) c.args.routes.now) (sym c.in_ok-walls.ensures.solids) c.requires.movable
+
 pub bundles_of-requires-clause-members : goal.bundles_of-requires-clause-members
 bundles_of-requires-clause-members c =
-    own_members c.args.solids.now c.args.routes.now c.in_ok-placed.placed.items _ c.in_ok-placed.ensures.each (c.deref-2.ensures.value ∙ c.in_ok-members.ensures ∙ ap (map (λ (p : Placed). p.member)) c.deref.ensures.value)
+    own_members c.in_ok-walls.walls.solids.now c.args.routes.now c.in_ok-placed.placed.items _ c.in_ok-placed.ensures.each (c.deref-2.ensures.value ∙ c.in_ok-members.ensures ∙ ap (map (λ (p : Placed). p.member)) c.deref.ensures.value)
 
 pub bundles_of-requires-clause-few : goal.bundles_of-requires-clause-few
 bundles_of-requires-clause-few c =
@@ -75,7 +79,8 @@ returns-clause-all c =
     let fits : FitsSigned w64 c.args.nudge = search rules in
     let e = c.deref-2.ensures.value ∙ c.in_ok-members.ensures ∙ ap (map (λ (p : Placed). p.member)) c.deref.ensures.value in
     let is = simp to_z-of_z at c.bundles_of.ensures.bundles in
-    λ is_all. all_found c.args.solids.now c.args.routes.now c.args.way c.args.nudge c.in_ok-placed.placed.items _ c.in_ok-placed.ensures.order (own c.in_ok-placed.placed.items _ e) c.args.listing is_all c.bundles_of.result is
+    let order = subst (λ solids. AreInOrder solids c.args.routes.now c.args.way (standings_of c.in_ok-placed.placed.items)) c.in_ok-walls.ensures.solids c.in_ok-placed.ensures.order in
+    λ is_all. all_found c.args.solids.now c.args.routes.now c.args.way c.args.nudge c.in_ok-placed.placed.items _ order (own c.in_ok-placed.placed.items _ e) c.args.listing is_all c.bundles_of.result is
 
 pub returns-clause-few : goal.returns-clause-few
 returns-clause-few c =
@@ -85,5 +90,6 @@ returns-clause-few c =
     let placed = c.in_ok-placed.placed.items in
     let solids = c.args.solids.now in
     let routes = c.args.routes.now in
-    λ is_few. few_found solids routes c.args.way c.args.nudge placed _ c.in_ok-placed.ensures.order (own placed _ e) c.requires.nudge (own_members solids routes placed _ c.in_ok-placed.ensures.each e)
+    let order = subst (λ solids. AreInOrder solids c.args.routes.now c.args.way (standings_of c.in_ok-placed.placed.items)) c.in_ok-walls.ensures.solids c.in_ok-placed.ensures.order in
+    λ is_few. few_found solids routes c.args.way c.args.nudge placed _ order (own placed _ e) c.requires.nudge (own_members c.in_ok-walls.walls.solids.now routes placed _ c.in_ok-placed.ensures.each e)
     (own_rising placed _ e c.in_ok-placed.ensures.order.sorted) (omega (arith, ap length e, count routes c.args.way placed c.in_ok-placed.ensures.order.once, c.requires.few)) c.args.listing is_few c.bundles_of.result is

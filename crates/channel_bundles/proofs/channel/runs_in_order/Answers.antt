@@ -40,11 +40,11 @@ once placed sorted runs e moves =
     (IsPermutation-map (λ (s : Standing). (s.route, s.member.run)) (standings_of placed) (standings_of sorted) (IsPermutation-map standing_of placed sorted moves))
 
 pub returns-clause-each : goal.returns-clause-each
-returns-clause-each c = All-permutation (IsPlaced c.args.solids.now c.args.routes.now) c.in_ok-placed.placed.items c.sort_unstable_by.new.self.items c.sort_unstable_by.ensures.permutation c.in_ok-placed.ensures.each
+returns-clause-each c = All-permutation (IsPlaced c.args.walls.now.solids.now c.args.routes.now) c.in_ok-placed.placed.items c.sort_unstable_by.new.self.items c.sort_unstable_by.ensures.permutation c.in_ok-placed.ensures.each
 
 pub returns-clause-order : goal.returns-clause-order
 returns-clause-order c =
-    let solids = c.args.solids.now in
+    let solids = c.args.walls.now.solids.now in
     let routes = c.args.routes.now in
     let sorted = c.sort_unstable_by.new.self.items in
     let all = All-permutation (IsPlaced solids routes) c.in_ok-placed.placed.items sorted c.sort_unstable_by.ensures.permutation c.in_ok-placed.ensures.each in

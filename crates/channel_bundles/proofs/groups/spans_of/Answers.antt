@@ -33,4 +33,4 @@ returns-clause-all c =
     c.sort_unstable_by_key.ensures.permutation (is.1 k (omega (arith, h, c.loop-place-test.false)))
 
 pub returns-clause-order : goal.returns-clause-order
-returns-clause-order c = rises _ (c.sort_unstable_by_key.ensures.sorted (λ (s : Span). s.lo) (answers_always _ _ _ (λ f a r g h. search rules)))
+returns-clause-order c = rises (λ (s : Span). s.lo) _ (c.sort_unstable_by_key.ensures.sorted (λ (s : Span). s.lo) (answers_always _ _ _ (λ f a r g h. search rules)))

@@ -1,22 +1,37 @@
--- One solid after another is kept out.
-use Rattle.std.proofs.Common.{arith}
-use Rattle.plane_geom.specs.declared.rect.Solid.{Solid}
-use Rattle.channel_bundles.specs.Limits.{Sweeps}
-use Rattle.channel_bundles.proofs.Sweeping.{more}
+-- A run sweeps no part of a solid where its walls stop it.
+use Rattle.std.proofs.Common.{sym, subst}
+use Rattle.std.specs.Prelude.{All}
+use Rattle.channel_bundles.specs.Walls.{StopsBefore, StopsBehind, greater, lesser}
+use Rattle.channel_bundles.proofs.Facing.{AreWide, Rise, stopped_by_all, walls_are_wide}
 use Rattle.channel_bundles.proofs.limits.clear_of.Goals as goal
 
-pub loop-solid-init : goal.loop-solid-init
-loop-solid-init c = λ z. (λ f. (record { low = f.0; high = f.1 }, λ k d h. absurd (omega arith)), λ both. (both.0.low, both.0.high))
+pub up_to_first-requires-clause-rise : goal.up_to_first-requires-clause-rise
+up_to_first-requires-clause-rise c = subst Rise (sym c.deref.ensures.value) c.requires.walls.onward.rise
 
-pub loop-solid-preserved : goal.loop-solid-preserved
-loop-solid-preserved c =
-    let run = c.args.run.now in
-    λ z. more (λ (s : Solid). Sweeps run.way s.rect run.at z run.lo run.hi → ⊥) c.args.solids.now c.loop-solid.solid-index _ c.loop-solid-test.true (c.kept_out-limits.ensures z) (c.loop-solid.invariant z) (λ h. h, λ h. h)
+pub up_to_first-requires-clause-wide : goal.up_to_first-requires-clause-wide
+up_to_first-requires-clause-wide c =
+    subst AreWide (sym c.deref.ensures.value) (walls_are_wide (greater c.args.run.now.way) c.args.walls.now.solids.now c.args.walls.now.onward.items c.requires.walls.onward c.requires.walls.solids)
+
+pub from_first-requires-clause-rise : goal.from_first-requires-clause-rise
+from_first-requires-clause-rise c = subst Rise (sym c.deref-2.ensures.value) c.requires.walls.backward.rise
+
+pub from_first-requires-clause-wide : goal.from_first-requires-clause-wide
+from_first-requires-clause-wide c =
+    subst AreWide (sym c.deref-2.ensures.value) (walls_are_wide (lesser c.args.run.now.way) c.args.walls.now.solids.now c.args.walls.now.backward.items c.requires.walls.backward c.requires.walls.solids)
 
 pub returns : goal.returns
 returns c =
-    let whole = c.loop-solid-test.false in
-    λ z. (
-      λ f. let both = (c.loop-solid.invariant z).0 f in (both.0, λ k d h. both.1 k d (omega arith)),
-      λ both. (c.loop-solid.invariant z).1 (both.0, λ k d h. both.1 k d (omega arith)),
+    let run = c.args.run.now in
+    let walls = c.args.walls.now in
+    λ z.
+    let free = stopped_by_all run.way walls run z c.requires.walls c.requires.clear in
+    let up = c.up_to_first.ensures z in
+    let from = c.from_first.ensures z in (
+      λ r.
+          let f = from.0 r in
+          let u = up.0 f.0 in
+          (record { low = u.0.0; high = u.0.1 }, free.0 (subst (All (StopsBefore run z)) c.deref.ensures.value u.1, subst (All (StopsBehind run z)) c.deref-2.ensures.value f.1)),
+      λ is.
+          let stops = free.1 is.1 in
+          from.1 (up.1 ((is.0.low, is.0.high), subst (All (StopsBefore run z)) (sym c.deref.ensures.value) stops.0), subst (All (StopsBehind run z)) (sym c.deref-2.ensures.value) stops.1),
     )

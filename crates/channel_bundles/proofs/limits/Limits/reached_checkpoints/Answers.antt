@@ -7,7 +7,7 @@ use Rattle.plane_geom.specs.Along.{across}
 use Rattle.plane_geom.specs.Floor.{Holds}
 use Rattle.segment_order.specs.Run.{line_of_run}
 use Rattle.channel_bundles.specs.Limits.{IsReached}
-use Rattle.channel_bundles.proofs.Sweeping.{more}
+use Rattle.channel_bundles.proofs.Ranges.{more}
 use Rattle.channel_bundles.proofs.limits.Limits.reached_checkpoints.Goals as goal
 
 pub loop-p-init : goal.loop-p-init

@@ -52,7 +52,7 @@ movable_limits-limits-requires-clause-stands c = c.requires.stands (not_fixed _ 
 
 pub returns : goal.returns
 returns c =
-    let solids = c.args.solids.now in
+    let solids = c.args.walls.now.solids.now in
     let route = c.args.self.now in
     let k = c.args.k in
     let low : FitsSigned w64 c.if-fixed.limits.low = search rules in

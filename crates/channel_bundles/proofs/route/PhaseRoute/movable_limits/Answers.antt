@@ -24,4 +24,4 @@ narrowed solids route k z r own first last clear before after = (
 )
 
 pub returns : goal.returns
-returns c = λ z. narrowed c.args.solids.now c.args.self.now c.args.k z c.run.result c.run.ensures c.requires.first c.requires.last (c.clear_of-clear.ensures z) (c.reached_before.ensures z) (c.reached_after.ensures z)
+returns c = λ z. narrowed c.args.walls.now.solids.now c.args.self.now c.args.k z c.run.result c.run.ensures c.requires.first c.requires.last (c.clear_of-clear.ensures z) (c.reached_before.ensures z) (c.reached_after.ensures z)
