@@ -4,7 +4,6 @@ ghost use Rattle.std.specs.List.{flat_map};
 ghost use Rattle.fixed_milli.specs.Milli.{milli_text};
 ghost use Rattle.live_replies.specs.Texts.{connector_text, corner_text, corners_text, drawn_text, drawn_texts, gml_text, gone_text, next_text, ok_line};
 
-use fixed_milli::write_milli;
 use itoa::Buffer;
 use plane_geom::Point;
 use std::alloc::{AllocError, Global};
@@ -23,9 +22,8 @@ pub(crate) fn push_numbered(out: &mut Vec<u8>, text: &[u8], number: u64) -> Resu
 fn push_milli(alloc: Global, out: &mut Vec<u8>, value: i64) -> Result<(), AllocError>
     ensures { OnOk result (out.new.items ≡ out.old.items ++ (codes " " ++ milli_text value)) }
 {
-    let text = write_milli(alloc, value)?;
-    out.extend_from_slice(b" ")?;
-    out.extend_from_slice(text.as_bytes())
+    out.push(b' ')?;
+    report_text::push_milli(out, value)
 }
 
 fn push_corner(alloc: Global, out: &mut Vec<u8>, corner: &Point) -> Result<(), AllocError>

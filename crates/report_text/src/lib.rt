@@ -27,6 +27,7 @@ pub use file::{
 };
 pub use finding::{EdgeFinding, Finding, push_finding_lines};
 pub use hint::{Hint, Place, Unrouted};
+pub use number::push_milli;
 pub use outcome::{Outcome, no_diagram};
 pub use preview::{push_preview_lines, push_refused_preview};
 pub use refusal::{Refusal, push_refusal};
