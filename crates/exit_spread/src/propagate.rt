@@ -32,7 +32,7 @@ fn crossing_along(stops: &[Stop], along: i64) -> Option<CrossId>
 {
     for stop in stops {
         if stop.along == along {
-            return Some(stop.crossing);
+            return Some(stop.crossing.id());
         }
     }
     None
@@ -137,11 +137,11 @@ impl Run {
         let ahead = self.kept.ahead_at(reach(self.heading, at));
         Exit {
             place: Place {
-                crossing: stop.crossing,
+                crossing: stop.crossing.id(),
                 stage: self.stage,
                 heading: before,
             },
-            line: stop.across,
+            line: stop.across as usize,
             next: Some(self.heading),
             ahead: turned(before, at, self.heading, penalty, ahead),
         }
@@ -268,7 +268,14 @@ impl Spread {
         ensures turned { OnOk result (IsTurnedAt problem.now (number_of lists.now) self.new run.now before stop.now) }
     {
         let at = point_on(&lists.lines()[run.line], stop.along);
-        if !may_begin(problem, touches, stop.across, before, at, run.heading) {
+        if !may_begin(
+            problem,
+            touches,
+            stop.across as usize,
+            before,
+            at,
+            run.heading,
+        ) {
             return Ok(());
         }
         let exit = run.turn(before, stop, at, problem.task.penalty);

@@ -68,7 +68,8 @@ impl LineId {
 }
 
 impl CrossId {
-    pub(crate) fn new(place: usize) -> CrossId
+    /// The id with the number, whether or not there is a crossing.
+    pub fn new(place: usize) -> CrossId
         requires { place < usize.MAX }
         ensures { result ≡ place }
     {

@@ -13,4 +13,4 @@ mod stop;
 
 pub use laws::{further_is_later, one_number, stops_in_order};
 pub use lists::LineLists;
-pub use stop::Stop;
+pub use stop::{CrossNumber, Stop};

@@ -31,7 +31,8 @@ impl Model for LineLists {
 }
 
 impl LineLists {
-    /// The lists of the arena. The only error is out of memory.
+    /// The lists of the arena. The only error is out of memory, as which 2^32 lines or places for
+    /// crossings count.
     pub fn new(alloc: Global, arena: &LineArena) -> Result<LineLists, AllocError>
         ensures { IfOk result (AreListsOf arena.now) }
     {

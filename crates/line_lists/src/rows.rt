@@ -1,5 +1,5 @@
 //! The crossings of a horizontal line, one after the other from West to East.
-ghost use Rattle.std.specs.Prelude.{◌≡◌, ◌<◌, ◌++◌, ◌∷◌, [], ℕ, Some, IfSome, IsNone, IsSome, OnOk, length, slice_set};
+ghost use Rattle.std.specs.Prelude.{◌≡◌, ◌<◌, ◌^◌, ◌++◌, ◌∷◌, [], ℕ, Some, IfSome, IsNone, IsSome, OnOk, length, slice_set};
 ghost use Rattle.std.specs.FinMap as map;
 ghost use Rattle.line_arena.specs.Arena.{IsFirst, IsNearest, IsOn, LiesFurther};
 ghost use Rattle.plane_geom.specs.declared.point.Dir.TheVariants.{East};
@@ -7,13 +7,13 @@ ghost use Rattle.plane_geom.specs.declared.point.Way.TheVariants.{Vertical, Hori
 ghost use Rattle.line_lists.specs.Lists.{IsStopOf};
 ghost use Rattle.line_lists.specs.Rows.{HasRowCome, IsColumnAt, IsToldFirst};
 
-use crate::stop::{Numbers, Stop};
+use crate::stop::{CrossNumber, Numbers, Stop};
 use line_arena::{CrossId, LineArena, LineId};
 use plane_geom::{Dir, Line};
 use std::alloc::AllocError;
 
 /// Tells the first crossing of the vertical line the number of the line.
-pub fn tell_first(numbers: &mut [Numbers], arena: &LineArena, line: Line, id: LineId, number: usize)
+pub fn tell_first(numbers: &mut [Numbers], arena: &LineArena, line: Line, id: LineId, number: u32)
     requires is { map.get arena.now.lines id ≡ Some line }
     requires way { line.way ≡ Vertical }
     requires places { length numbers.old ≡ arena.now.places }
@@ -30,7 +30,7 @@ pub fn tell_first(numbers: &mut [Numbers], arena: &LineArena, line: Line, id: Li
 ///
 /// The lines further north have come, so a neighbour there has it; where there is none, the
 /// crossing is the first one of that line, and was told.
-fn column_at(numbers: &[Numbers], arena: &LineArena, crossing: CrossId) -> usize
+fn column_at(numbers: &[Numbers], arena: &LineArena, crossing: CrossId) -> u32
     requires live { IsSome (map.get arena.now.crossings crossing) }
     requires places { length numbers.now ≡ arena.now.places }
     ensures { IsColumnAt arena.now numbers.now crossing result }
@@ -53,6 +53,7 @@ fn stop_at(
     requires way { line.way ≡ Horizontal }
     requires on { IsOn arena.now id crossing }
     requires places { length numbers.now ≡ arena.now.places }
+    requires few { arena.now.places < 2 ^ 32 }
     ensures crossing { result.crossing ≡ crossing }
     ensures stop { IsStopOf arena.now id line result }
     ensures column { IsColumnAt arena.now numbers.now crossing result.across }
@@ -60,7 +61,7 @@ fn stop_at(
     arena.laws();
     Stop {
         along: arena.point(crossing).along(line.way),
-        crossing,
+        crossing: CrossNumber::new(arena.index(crossing) as u32),
         across: column_at(numbers, arena, crossing),
     }
 }
@@ -70,6 +71,7 @@ fn first_stop(numbers: &[Numbers], arena: &LineArena, line: Line, id: LineId) ->
     requires is { map.get arena.now.lines id ≡ Some line }
     requires way { line.way ≡ Horizontal }
     requires places { length numbers.now ≡ arena.now.places }
+    requires few { arena.now.places < 2 ^ 32 }
     ensures stop { IfSome result (IsStopOf arena.now id line) }
     ensures column { IfSome result (λ s. IsColumnAt arena.now numbers.now s.crossing s.across) }
     ensures first { IfSome result (λ s. IsFirst arena.now id s.crossing) }
@@ -91,12 +93,13 @@ fn next_stop(
     requires way { line.way ≡ Horizontal }
     requires stop { IsStopOf arena.now id line stop.now }
     requires places { length numbers.now ≡ arena.now.places }
+    requires few { arena.now.places < 2 ^ 32 }
     ensures stop { IfSome result (IsStopOf arena.now id line) }
     ensures column { IfSome result (λ s. IsColumnAt arena.now numbers.now s.crossing s.across) }
     ensures nearest { IfSome result (λ s. IsNearest arena.now East stop.now.crossing s.crossing) }
     ensures none { IsNone result → (c : ℕ) → LiesFurther arena.now East stop.now.crossing c → ⊥ }
 {
-    let crossing = arena.next_on_line(stop.crossing, Dir::East)?;
+    let crossing = arena.next_on_line(stop.crossing.id(), Dir::East)?;
     Some(stop_at(numbers, arena, line, id, crossing))
 }
 
@@ -105,7 +108,7 @@ fn push_stop(
     stops: &mut Vec<Stop>,
     numbers: &mut [Numbers],
     arena: &LineArena,
-    row: usize,
+    row: u32,
     stop: &Stop,
 ) -> Result<(), AllocError>
     requires live { IsSome (map.get arena.now.crossings stop.now.crossing) }
@@ -115,7 +118,7 @@ fn push_stop(
         (record { vertical = stop.now.across; horizontal = row }) }
     ensures within { stop.now.crossing < length numbers.old }
 {
-    numbers[arena.index(stop.crossing)] = Numbers {
+    numbers[arena.index(stop.crossing.id())] = Numbers {
         vertical: stop.across,
         horizontal: row,
     };
@@ -130,11 +133,12 @@ pub fn push_stops(
     arena: &LineArena,
     line: Line,
     id: LineId,
-    number: usize,
+    number: u32,
 ) -> Result<(), AllocError>
     requires is { map.get arena.now.lines id ≡ Some line }
     requires way { line.way ≡ Horizontal }
     requires places { length numbers.old ≡ arena.now.places }
+    requires few { arena.now.places < 2 ^ 32 }
     ensures places { length numbers.new ≡ length numbers.old }
     ensures come { OnOk result (HasRowCome arena.now id line number
         stops.old.items stops.new.items numbers.old numbers.new) }

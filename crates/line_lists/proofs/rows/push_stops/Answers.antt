@@ -34,6 +34,7 @@ next_stop-next-requires c =
       way = c.requires.way;
       stop = walking.rest.stop;
       places = ap length c.push_stop.ensures.numbers ∙ length-set c.loop-next.numbers c.in-Some.stop.crossing _ ∙ walking.places ∙ c.requires.places;
+      few = c.requires.few;
     }
 
 pub loop-next-smaller : goal.loop-next-smaller
