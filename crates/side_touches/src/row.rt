@@ -38,6 +38,13 @@ impl Rows {
     }
 }
 
+/// Where the sides of the line before were found, so that those of the next one are found at once.
+#[derive(Clone, Copy)]
+struct Near {
+    lesser: usize,
+    greater: usize,
+}
+
 /// Appends the rows of the lines, and their extents. The only error is out of memory.
 pub fn push_lines(
     alloc: Global,
@@ -64,22 +71,31 @@ fn push_all(
     requires sides { (solids : List Solid) × AreSides solids sides.now }
     ensures { OnOk result ((solids : List Solid) → AreSides solids sides.now → AreAllRows solids lines.now extents.new.items rows.new.items) }
 {
+    let mut near = Near {
+        lesser: 0,
+        greater: 0,
+    };
     for line in lines {
-        rows.push(push_rows(line, sides, extents)?)?;
+        rows.push(push_rows(line, sides, &mut near, extents)?)?;
     }
     Ok(())
 }
 
 /// Appends the extents of the sides that touch the line, and gives their rows.
-fn push_rows(line: &Line, sides: &Sides, extents: &mut Vec<Extent>) -> Result<Rows, AllocError>
+fn push_rows(
+    line: &Line,
+    sides: &Sides,
+    near: &mut Near,
+    extents: &mut Vec<Extent>,
+) -> Result<Rows, AllocError>
     requires { (solids : List Solid) × AreSides solids sides.now }
     ensures goes_on { OnOk result (GoesOn extents.old.items extents.new.items) }
     ensures rows { IfOk result (λ rows. (solids : List Solid) → AreSides solids sides.now → AreRowsOf solids extents.new.items line.now rows) }
 {
     let side = lesser_side(line.way);
     Ok(Rows {
-        lesser: push_row(line, sides.to(side), extents)?,
-        greater: push_row(line, sides.to(side.opposite()), extents)?,
+        lesser: push_row(line, sides.to(side), &mut near.lesser, extents)?,
+        greater: push_row(line, sides.to(side.opposite()), &mut near.greater, extents)?,
     })
 }
 
@@ -95,14 +111,19 @@ fn lesser_side(way: Way) -> Dir
 
 /// Appends the extents of those of the sides that touch the line, which runs along them, and gives
 /// their row.
-fn push_row(line: &Line, sides: &[Side], extents: &mut Vec<Extent>) -> Result<Row, AllocError>
+fn push_row(
+    line: &Line,
+    sides: &[Side],
+    near: &mut usize,
+    extents: &mut Vec<Extent>,
+) -> Result<Row, AllocError>
     requires { AllPairs (λ a b. a.at ≤ℤ b.at) sides.now }
     ensures goes_on { OnOk result (GoesOn extents.old.items extents.new.items) }
     ensures row { IfOk result (IsRow extents.new.items) }
     ensures members { IfOk result (λ row. (x : Extent) → Contains (in_row extents.new.items row) x ↔ Any (λ s. (s.at ≡ line.now.at) × (extent_met line.now s ≡ Some x)) sides.now) }
 {
     let begin = extents.len();
-    push_met(at_coordinate(sides, line.at), line, extents)?;
+    push_met(at_coordinate(sides, line.at, near), line, extents)?;
     Ok(Row {
         begin,
         end: extents.len(),

@@ -1,5 +1,5 @@
 //! The closed sides of solids, by the directions in which the solids lie from them.
-ghost use Rattle.std.specs.Prelude.{◌≡◌, ◌↔◌, ◌≤ℤ◌, ◌++◌, AllPairs, Contains, IfOk, OnOk};
+ghost use Rattle.std.specs.Prelude.{◌≡◌, ◌≢◌, true, false, ◌↔◌, ◌≤◌, ◌≤ℤ◌, ◌<ℤ◌, ◌++◌, All, AllPairs, Contains, IfOk, OnOk, drop, length, take};
 ghost use Rattle.std.specs.List.{filter_map};
 ghost use Rattle.side_touches.specs.declared.side.Side.{Side};
 ghost use Rattle.side_touches.specs.Sides.{AreSides, AreSidesTo, extent_met, side_of, sides_to};
@@ -79,13 +79,76 @@ fn side_of(side: Dir, rect: &Rect) -> Side
     }
 }
 
-/// The part of the sides, which rise by coordinate, that stands at the coordinate.
-pub fn at_coordinate(sides: &[Side], at: i64) -> &[Side]
+/// Whether the side stands before the coordinate.
+fn is_before(side: &Side, at: i64) -> bool
+    ensures before { result ≡ true → side.now.at <ℤ at }
+    ensures rest { result ≡ false → at ≤ℤ side.now.at }
+{
+    side.at < at
+}
+
+/// Whether the side stands at the coordinate.
+fn is_at(side: &Side, at: i64) -> bool
+    ensures here { result ≡ true → side.now.at ≡ at }
+    ensures beyond { result ≡ false → side.now.at ≢ at }
+{
+    side.at == at
+}
+
+/// The place `near`, if the sides before it stand before the coordinate, and else 0.
+fn begin_near(sides: &[Side], at: i64, near: usize) -> usize
+    requires { AllPairs (λ a b. a.at ≤ℤ b.at) sides.now }
+    ensures bound { result ≤ length sides.now }
+    ensures before { All (λ s. s.at <ℤ at) (take result sides.now) }
+{
+    if near > 0 && near <= sides.len() && is_before(&sides[near - 1], at) {
+        near
+    } else {
+        0
+    }
+}
+
+/// How many of the sides, which rise by coordinate, stand before the coordinate. Looks on from the
+/// place `near`, or from the first side where that many are too many.
+fn count_before(sides: &[Side], at: i64, near: usize) -> usize
+    requires { AllPairs (λ a b. a.at ≤ℤ b.at) sides.now }
+    ensures before { All (λ s. s.at <ℤ at) (take result sides.now) }
+    ensures rest { All (λ s. at ≤ℤ s.at) (drop result sides.now) }
+    ensures bound { result ≤ length sides.now }
+{
+    for place in begin_near(sides, at, near)..sides.len() {
+        if !is_before(&sides[place], at) {
+            return place;
+        }
+    }
+    sides.len()
+}
+
+/// How many of the sides, which rise from the coordinate on, stand at the coordinate.
+fn count_at(sides: &[Side], at: i64) -> usize
+    requires order { AllPairs (λ a b. a.at ≤ℤ b.at) sides.now }
+    requires from { All (λ s. at ≤ℤ s.at) sides.now }
+    ensures here { All (λ s. s.at ≡ at) (take result sides.now) }
+    ensures beyond { All (λ s. s.at ≢ at) (drop result sides.now) }
+    ensures bound { result ≤ length sides.now }
+{
+    for place in 0..sides.len() {
+        if !is_at(&sides[place], at) {
+            return place;
+        }
+    }
+    sides.len()
+}
+
+/// The part of the sides, which rise by coordinate, that stands at the coordinate, and begins at the
+/// new `near`. Looks on from the old one, so coordinates that rise from call to call need no search.
+pub fn at_coordinate<'a>(sides: &'a [Side], at: i64, near: &mut usize) -> &'a [Side]
     requires { AllPairs (λ a b. a.at ≤ℤ b.at) sides.now }
     ensures { (x : Side) → Contains result.now x ↔ Contains sides.now x × (x.at ≡ at) }
 {
-    let (upto, _) = sides.split_at(sides.partition_point(|side| side.at <= at));
-    let (_, here) = upto.split_at(upto.partition_point(|side| side.at < at));
+    *near = count_before(sides, at, *near);
+    let (_, rest) = sides.split_at(*near);
+    let (here, _) = rest.split_at(count_at(rest, at));
     here
 }
 

@@ -1,33 +1,29 @@
 -- The sides at the coordinate stand between two places.
-use Rattle.std.proofs.Common.{◌≡◌, ◌↔◌, ◌∙◌, ◌≤◌, true, false, not, sym, ap, subst, List, drop, take, length, rules}
-use Rattle.std.specs.Prelude.{Contains, int_lt}
-use Rattle.std.specs.List.Sorted.{IsPartitionedBy, IsPartitionPoint}
-use Rattle.std.proofs.lemmas.List.Sorted.{IsPartitionPoint-from_clause}
+use Rattle.std.proofs.Common.{ℤ, ◌≡◌, ◌≢◌, ◌↔◌, ◌∙◌, ◌≤ℤ◌, ◌<ℤ◌, FitsSigned, w64, of_z, to_z, sym, ap, subst, List, drop, take, rules}
+use Rattle.std.proofs.lemmas.Int.{to_z-of_z}
+use Rattle.std.specs.Prelude.{All, AllPairs, Contains}
 use Rattle.side_touches.specs.declared.side.Side.{Side}
-use Rattle.side_touches.proofs.InOrder.{at_one, before_falls, parted, taken_in_order, upto_falls}
+use Rattle.side_touches.proofs.InOrder.{at_one, dropped_in_order}
 use Rattle.side_touches.proofs.side.at_coordinate.Goals as goal
 
-upto : (c : goal.After-here-1) → IsPartitionPoint (λ (s : Side). not (int_lt c.args.at s.at) ≡ true) (λ (s : Side). not (int_lt c.args.at s.at) ≡ false) c.args.sides.now c.partition_point.result
-upto c =
-    let at = c.args.at in
-    IsPartitionPoint-from_clause (λ (s : Side). not (int_lt at s.at)) c.args.sides.now c.partition_point.result c.partition_point.ensures.partitioned
-    (parted (λ z. not (int_lt at z)) (upto_falls at) c.args.sides.now c.requires) (λ a r g h. search rules)
+pub count_at-requires-clause-order : goal.count_at-requires-clause-order
+count_at-requires-clause-order c =
+    subst (λ (xs : List Side). AllPairs (λ a b. a.at ≤ℤ b.at) xs) (sym c.split_at.ensures.back) (dropped_in_order c.count_before.result c.args.sides.now c.requires)
 
-before : (c : goal.After-here-1) → IsPartitionPoint (λ (s : Side). int_lt s.at c.args.at ≡ true) (λ (s : Side). int_lt s.at c.args.at ≡ false) c.split_at.result.0.now c.partition_point-2.result
-before c =
-    let at = c.args.at in
-    let i = c.partition_point.result in
-    let parts = parted (λ z. int_lt z at) (before_falls at) (take i c.args.sides.now) (taken_in_order i c.args.sides.now c.requires) in
-    IsPartitionPoint-from_clause (λ (s : Side). int_lt s.at at) c.split_at.result.0.now c.partition_point-2.result c.partition_point-2.ensures.partitioned
-    (subst (IsPartitionedBy (λ (s : Side). int_lt s.at at)) (sym c.split_at.ensures.front) parts) (λ a r g h. search rules)
+pub count_at-requires-clause-from : goal.count_at-requires-clause-from
+count_at-requires-clause-from c = subst (All (λ (s : Side). to_z w64 (of_z w64 c.args.at) ≤ℤ s.at)) (sym c.split_at.ensures.back) c.count_before.ensures.rest
 
 pub returns : goal.returns
 returns c =
     let at = c.args.at in
-    let sides = c.args.sides.now in
-    let j = c.partition_point-2.result in
-    let front = c.split_at.ensures.front in
-    let short = subst (λ (xs : List Side). j ≤ length xs) front c.partition_point-2.ensures.bound in
-    let parts = subst (λ xs. IsPartitionPoint (λ (s : Side). int_lt s.at at ≡ true) (λ (s : Side). int_lt s.at at ≡ false) xs j) front (before c) in
-    subst (λ xs. (x : Side) → Contains xs x ↔ (Contains sides x × (x.at ≡ at))) (sym (c.split_at-2.ensures.back ∙ ap (drop j) front))
-    (at_one at sides c.partition_point.result j c.partition_point.ensures.bound short (upto c) parts)
+    let xs = c.args.sides.now in
+    let i = c.count_before.result in
+    let j = c.count_at.result in
+    let back = c.split_at.ensures.back in
+    let fits : FitsSigned w64 at = search rules in
+    let read = to_z-of_z w64 at fits in
+    let before = subst (λ (z : ℤ). All (λ (s : Side). s.at <ℤ z) (take i xs)) read c.count_before.ensures.before in
+    let here = subst (λ (ys : List Side). All (λ s. s.at ≡ at) (take j ys)) back (subst (λ (z : ℤ). All (λ (s : Side). s.at ≡ z) (take j c.split_at.result.1.now)) read c.count_at.ensures.here) in
+    let beyond = subst (λ (ys : List Side). All (λ s. s.at ≢ at) (drop j ys)) back (subst (λ (z : ℤ). All (λ (s : Side). s.at ≢ z) (drop j c.split_at.result.1.now)) read c.count_at.ensures.beyond) in
+    subst (λ (ys : List Side). (x : Side) → Contains ys x ↔ (Contains xs x × (x.at ≡ at))) (sym (c.split_at-2.ensures.front ∙ ap (take j) back))
+    (at_one at xs i j before here beyond)
