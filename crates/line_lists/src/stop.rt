@@ -46,6 +46,13 @@ impl CrossNumber {
     }
 }
 
+/// A stop at a place for which none has come yet.
+pub const NO_STOP: Stop = Stop {
+    along: 0,
+    crossing: CrossNumber(0),
+    across: 0,
+};
+
 /// Where the stops of a line stand: from `begin` up to, and not with, `end`.
 #[derive(Clone, Copy, Debug)]
 pub struct Run {
