@@ -27,8 +27,9 @@ use Rattle.exit_rows.specs.declared.rows.Rows.{Rows}
 use Rattle.exit_spread.specs.declared.spread.Spread.{Spread}
 use Rattle.exit_spread.specs.Propagating.{IsSound}
 use Rattle.exit_spread.specs.Offers.{IsOffered, IsTaken, kept_of}
-use Rattle.exit_spread.specs.Searching.{AreNone, HasRooms, IsCandidate, IsKeptOf, IsSearching, IsSpread, IsStubOffered, weight}
+use Rattle.exit_spread.specs.Searching.{AreNone, HasRooms, IsCandidate, IsKeptOf, IsSearching, IsSettled, IsStubOffered, weight}
 use Rattle.exit_spread.specs.Taking.{Grows, IsExit}
+use Rattle.exit_spread.specs.Ways.{IsBest}
 use Rattle.exit_spread.proofs.Sizes.{small_ending}
 use Rattle.exit_spread.proofs.Spreading.Still.{still_late}
 use Rattle.exit_spread.proofs.Taking.Offered.{grows_both, grows_offered, same_searching}
@@ -48,12 +49,12 @@ no_exit : (t : Rows) → IsClear t → (k l : ℕ) (d : Dir) → kept_in t k l d
 no_exit t clear k l d = none_both (nat_lt l t.lines) (exits_in (slice_get t.rows.items (row_of t k l d))) (none_in t.rows.items (row_of t k l d) (slice_get t.rows.items (row_of t k l d)) refl clear.rows)
 
 module _ (p : Problem) (line_of : ℕ → Way → ℕ) where
-  pub searching_begins : (s : Spread) → AreNone s → HasRooms p line_of s → IsSearching p line_of s None None
-  searching_begins s none rooms = record {
+  pub searching_begins : (s : Spread) → AreNone s → HasRooms p line_of s → IsBest p s.limit s.best → IsSearching p line_of s None None
+  searching_begins s none rooms best = record {
     kept = λ k c d at here. (let l = line_of c (way_of d) in none_all (kept_in s.rows k l d) (no_exit s.rows none.rows k l d) (IsKeptOf p line_of k l d));
     propagated = λ k c d at e here has but. (let l = line_of c (way_of d) in absurd (none_has (kept_in s.rows k l d) (no_exit s.rows none.rows k l d) e has));
     candidates = none_all (heap_items s.queue.heap) none.queue (λ c. IsCandidate p line_of c.0);
-    best = record { most = omega (arith, none.best); of_walk = inl none.best };
+    best = best;
     marked = record {
       rows = λ k row is. inl (chosen (λ (r : Vec Kept Global). r.items ≡ []) s.rows.rows.items k row is none.rows.rows);
       marks = none_all s.rows.marked.items none.rows.marks (λ k. k < length s.rows.rows.items);
@@ -77,7 +78,7 @@ module _ (p : Problem) (line_of : ℕ → Way → ℕ) where
   -- a candidate is removed
   module _ (s : Spread) (q : Queue Exit) (h : IsSearching p line_of s None None) where
     abbrev pub left : Spread
-    left = record { rows = s.rows; queue = q; best = s.best }
+    left = record { rows = s.rows; queue = q; best = s.best; limit = s.limit }
 
     module _ (c : Candidate Exit) (removed : IsPermutation (heap_items s.queue.heap) (record { 0 = c } ∷ heap_items q.heap)) where
       candidate : IsCandidate p line_of c
@@ -132,7 +133,7 @@ module _ (p : Problem) (line_of : ℕ → Way → ℕ) where
         settled r x here (inr (inr (inl was))) = inr (inr (inl was))
         settled r x here (inr (inr (inr same))) = absurd (let wrong : ◌≡◌ {A = Option Exit} None (Some x) = same in cc)
 
-        pub spread_at_break : IsReady p → All (IsStubOffered p line_of s None) p.endings.items → IsSpread p line_of left
+        pub spread_at_break : IsReady p → All (IsStubOffered p line_of s None) p.endings.items → IsSettled p line_of left
         spread_at_break ready stubs = record {
           searching = same_searching p line_of s left None None settled refl sound None h;
           stubs = λ k d lt g. (
@@ -141,7 +142,7 @@ module _ (p : Problem) (line_of : ℕ → Way → ℕ) where
               let of = small.of in
               let here : StandsAt p.arena.now e.crossing e.port = subst (StandsAt p.arena.now e.crossing) (sym of.port) of.here in
               settled e.port _ here (stubs k d lt g));
-          settled = λ k d lt. (let upto = least k d lt in omega (arith, upto, more));
+          dear = λ k d lt. (let upto = least k d lt in omega (arith, upto, more));
         }
 
     -- none is left
@@ -152,12 +153,12 @@ module _ (p : Problem) (line_of : ℕ → Way → ℕ) where
       kept_on r x (inr (inr (inl taken))) = inr (inr (inl taken))
       kept_on r x (inr (inr (inr same))) = absurd (let wrong : ◌≡◌ {A = Option Exit} None (Some x) = same in cc)
 
-      pub spread_at_end : All (IsStubOffered p line_of s None) p.endings.items → IsSpread p line_of left
+      pub spread_at_end : All (IsStubOffered p line_of s None) p.endings.items → IsSettled p line_of left
       spread_at_end stubs = record {
         searching = same_searching p line_of s left None None (λ r x here o. kept_on r x o) refl
             (record { candidates = none_all (heap_items q.heap) none (λ c. IsCandidate p line_of c.0); best = h.best }) None h;
         stubs = λ k d lt g. kept_on _ _ (stubs k d lt g);
-        settled = none_all (heap_items q.heap) none (λ c. s.best < c.0.bound);
+        dear = none_all (heap_items q.heap) none (λ c. s.best < c.0.bound);
       }
 
 -- in the first of the stages the exit is taken

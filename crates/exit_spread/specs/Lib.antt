@@ -3,5 +3,6 @@ pub mod Ways
 pub mod Offers
 pub mod Searching
 pub mod Known
+pub mod Near
 pub mod Propagating
 pub mod Taking

@@ -63,11 +63,12 @@ pub record AreOf (p : Problem) (lists : Lists) (touches : List LineTouches) : Ty
 -- the candidates are exits that may be taken, and the best cost is one of a walk
 pub record IsSound (p : Problem) (line_of : ℕ → Way → ℕ) (s : Spread) : Type 0 where
   pub candidates : All (λ c. IsCandidate p line_of c.0) (heap_items s.queue.heap)
-  pub best : IsBest p s.best
+  pub best : IsBest p s.limit s.best
 
--- the rows stayed, the best cost did not rise, and at most n candidates were added
+-- the rows and the limit stayed, the best cost did not rise, and at most n candidates were added
 pub record Adds (p : Problem) (line_of : ℕ → Way → ℕ) (old new : Spread) (n : ℕ) : Type 0 where
   pub rows : new.rows ≡ old.rows
+  pub limit : new.limit ≡ old.limit
   pub best : new.best ≤ old.best
   pub kept : (c : Reverse (Candidate Exit)) → Contains (heap_items old.queue.heap) c → Contains (heap_items new.queue.heap) c
   pub count : length (heap_items new.queue.heap) ≤ length (heap_items old.queue.heap) + n

@@ -66,7 +66,7 @@ pub record IsSearching (p : Problem) (number_of : ℕ → Way → ℕ) (s : Spre
       Some (record { stage = k; line = number_of c (way_of d); heading = d; kept = e }) ≢ unpropagated →
       IsPropagated p number_of s hole k (number_of c (way_of d)) d e
   pub candidates : All (λ c. IsCandidate p number_of c.0) (heap_items s.queue.heap)
-  pub best : IsBest p s.best
+  pub best : IsBest p s.limit s.best
   pub marked : IsMarked s.rows
   pub rooms : HasRooms p number_of s
 
@@ -76,17 +76,21 @@ IsStubOffered p number_of s hole e =
     (h : Dir) → IsOffered p s hole e.port (exit_of number_of (place_at e.crossing (length p.task.now.via) h) None
     (with_stretch p.task.now.penalty h (record { from = e.port; dir = e.dir; steps = e.rest }) nothing))
 
--- no exit that is still to be taken matters
-pub record IsSpread (p : Problem) (number_of : ℕ → Way → ℕ) (s : Spread) : Type 0 where
+-- no exit that is still to be taken matters to a walk that costs no more than the best
+pub record IsSettled (p : Problem) (number_of : ℕ → Way → ℕ) (s : Spread) : Type 0 where
   pub searching : IsSearching p number_of s None None
   pub stubs : All (IsStubOffered p number_of s None) p.endings.items
-  pub settled : All (λ c. s.best < c.0.bound) (heap_items s.queue.heap)
+  pub dear : All (λ c. s.best < c.0.bound) (heap_items s.queue.heap)
+
+-- nor to any first walk: the best is the cost of a walk, or no first walk costs more
+pub record IsSpread (p : Problem) (number_of : ℕ → Way → ℕ) (s : Spread) : Type 0 where
+  pub settled : IsSettled p number_of s
+  pub best : IsBest p most_cost s.best
 
 -- between two searches there is no exit
 pub record AreNone (s : Spread) : Type 0 where
   pub rows : IsClear s.rows
   pub queue : heap_items s.queue.heap ≡ []
-  pub best : s.best ≡ most_cost
 
 -- an upper bound on the remaining work: each candidate counts, and each exit that lines may still keep, with the exits to which it may be propagated
 abbrev pub weight : Problem → Lists → Spread → ℕ

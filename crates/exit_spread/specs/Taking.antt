@@ -24,9 +24,10 @@ pub record IsExit (p : Problem) (line_of : ℕ → Way → ℕ) (x : Exit) (at :
   pub way : IsWayAhead p x.place at x.ahead
   pub small : IsSmallAhead x.ahead
 
--- lines keep what they kept, all candidates stay, and the best cost and the weight have not risen
+-- lines keep what they kept, all candidates and the limit stay, and the best cost and the weight have not risen
 pub record Grows (p : Problem) (lists : Lists) (old new : Spread) : Type 0 where
   pub rows : (k l : ℕ) (d : Dir) (e : Kept) → Contains (kept_in old.rows k l d) e → Contains (kept_in new.rows k l d) e
   pub queue : (c : Reverse (Candidate Exit)) → Contains (heap_items old.queue.heap) c → Contains (heap_items new.queue.heap) c
+  pub limit : new.limit ≡ old.limit
   pub best : new.best ≤ old.best
   pub weight : weight p lists new ≤ weight p lists old

@@ -41,10 +41,10 @@ pub record IsWayAhead (p : Problem) (x : Place) (at : Point) (v : Ahead) : Type 
 abbrev pub bound_at : Problem → Place → Point → ℕ
 bound_at p x at = bound_of p.origins.items p.task.now x.stage x.heading at
 
--- the number is `most_cost`, or the cost of a legal walk
-pub record IsBest (p : Problem) (best : ℕ) : Type 0 where
+-- the number is the limit, or the cost of a legal walk
+pub record IsBest (p : Problem) (limit best : ℕ) : Type 0 where
   pub most : best ≤ most_cost
-  pub of_walk : (best ≡ most_cost) ⊎ ((t : Triple) × IsLegalTriple p.solids.now p.task.now t × (best ≡ triple_cost p.task.now t))
+  pub of_walk : (best ≡ limit) ⊎ ((t : Triple) × IsLegalTriple p.solids.now p.task.now t × (best ≡ triple_cost p.task.now t))
 
 -- the lines through the crossings of the arena have numbers: the same line has one number, and different lines have different ones
 pub record AreNumbered (a : Arena) (number_of : ℕ → Way → ℕ) : Type 0 where

@@ -7,6 +7,8 @@
 mod ahead;
 mod held;
 mod laws;
+mod limit;
+mod near;
 mod propagate;
 mod run;
 mod spread;

@@ -14,7 +14,8 @@ ghost use Rattle.exit_spread.specs.Offers.{IsPropagatedAt};
 ghost use Rattle.exit_spread.specs.Searching.{most_stops};
 
 use crate::held::{held_from, may_begin};
-use crate::run::{Run, cheap_from, crosswise, last_begin, point_on, stops_between};
+use crate::near::near_from;
+use crate::run::{Run, crosswise, first_begin, last_begin, point_on, stops_between};
 use crate::spread::Spread;
 use exit_rows::Exit;
 use line_arena::CrossId;
@@ -305,7 +306,11 @@ impl Spread {
         let Some(held) = held_from(problem, touches, run, before) else {
             return Ok(());
         };
-        let from = cheap_from(self.best, &run.kept);
+        let origins = problem.origins_after(run.stage);
+        let Some(near) = near_from(origins, run, before, self.best, problem.task.penalty) else {
+            return Ok(());
+        };
+        let from = first_begin(near, &run.kept);
         let to = last_begin(held, &run.kept);
         if to < from {
             return Ok(());

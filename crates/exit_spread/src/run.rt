@@ -100,16 +100,12 @@ pub fn point_on(line: &Line, along: i64) -> Point
     }
 }
 
-/// From which reach on a walk along the run to the exit costs no more than `best` from there on.
-pub fn cheap_from(best: u64, kept: &Kept) -> i64
-    requires best { best ≤ most_cost }
-    requires kept { IsSmallKept kept.now }
-    ensures within { IsCoordinate result }
+/// From how far on runs to the exit begin at least, where they begin from `near` on.
+pub fn first_begin(near: i64, kept: &Kept) -> i64
     ensures from { kept.now.from ≤ℤ result }
-    ensures dear { (z : ℤ) → kept.now.from ≤ℤ z → z <ℤ kept.now.at → z <ℤ result → best < (ahead_at kept.now z).cost }
+    ensures both { (z : ℤ) → kept.now.from ≤ℤ z → near ≤ℤ z → result ≤ℤ z }
 {
-    let left = best.saturating_sub(kept.ahead.cost);
-    kept.from.max(kept.at - left as i64)
+    near.max(kept.from)
 }
 
 /// How far on runs to the exit may begin at most, where they begin up to `held`.

@@ -11,13 +11,14 @@ ghost use Rattle.search_problem.specs.Bounds.{most_cost};
 ghost use Rattle.side_touches.specs.Touches.{AreTouches};
 ghost use Rattle.search_problem.specs.Problems.{IsReady};
 ghost use Rattle.exit_rows.specs.Exits.{IsLate};
-ghost use Rattle.exit_rows.specs.Rows.{IsMarked, kept_in};
+ghost use Rattle.exit_rows.specs.Rows.{IsMarked, SameRooms, kept_in};
 ghost use Rattle.exit_spread.specs.Propagating.{Adds, AreOf, IsOfferable, IsSound};
 ghost use Rattle.exit_spread.specs.Offers.{IsOffered, IsTaken, exit_of, kept_of};
-ghost use Rattle.exit_spread.specs.Searching.{AreNone, HasRooms, IsSearching, IsSpread, IsStubOffered, weight};
+ghost use Rattle.exit_spread.specs.Searching.{AreNone, HasRooms, IsSearching, IsSettled, IsSpread, IsStubOffered, weight};
 ghost use Rattle.exit_spread.specs.Taking.{Grows, IsExit};
 ghost use Rattle.exit_spread.specs.Ways.{IsWayAhead, place_at};
 
+use crate::limit::{least_cost, raised};
 use crate::run::{Run, counts_from};
 use exit_rows::{Exit, Kept, Rows};
 use line_lists::LineLists;
@@ -30,12 +31,15 @@ use std::alloc::{AllocError, Global};
 /// What a search keeps: the exits that lines keep, those that are still to be taken, and the cost
 /// of the best walk that was found.
 ///
-/// Between two searches there is no exit, and `best` is `MOST_COST`.
+/// Between two searches there is no exit.
 #[derive(Drop)]
 pub struct Spread {
     pub rows: Rows,
     pub queue: Queue<Exit>,
+    /// The cost of the best walk that was found, or the limit.
     pub best: u64,
+    /// Only walks that cost no more are looked for.
+    pub limit: u64,
 }
 
 impl Spread {
@@ -47,17 +51,18 @@ impl Spread {
             rows: Rows::new(alloc),
             queue: Queue::new(alloc),
             best: MOST_COST,
+            limit: MOST_COST,
         }
     }
 
     /// Removes all exits, in the time that it took to keep them.
     pub fn clear(&mut self)
         requires { IsMarked self.old.rows }
-        ensures { AreNone self.new }
+        ensures none { AreNone self.new }
+        ensures rooms { SameRooms self.old.rows self.new.rows }
     {
         self.rows.clear();
         self.queue.clear();
-        self.best = MOST_COST;
     }
 
     /// Queues the exit, which is at the point, if it may be part of a first walk.
@@ -226,7 +231,40 @@ impl Spread {
         Ok(())
     }
 
+    /// Lets lines keep the exits of all walks that may be first and cost no more than the limit.
+    fn spread_within(
+        &mut self,
+        problem: &Problem<'_>,
+        lists: &LineLists,
+        touches: &Touches,
+        limit: u64,
+    ) -> Result<(), AllocError>
+        requires ready { IsReady problem.now }
+        requires lists { AreListsOf problem.now.arena.now lists.now }
+        requires touches { ∥ AreTouches lists.now.lines problem.now.solids.now touches.now ∥₁ }
+        requires none { AreNone self.old }
+        requires rooms { HasRooms problem.now (number_of lists.now) self.old }
+        requires limit { limit ≤ most_cost }
+        ensures settled { OnOk result (IsSettled problem.now (number_of lists.now) self.new) }
+        ensures limit { OnOk result (self.new.limit ≡ limit) }
+        ensures err { OnErr result (IsMarked self.new.rows) }
+    {
+        self.best = limit;
+        self.limit = limit;
+        self.offer_endings(problem, lists)?;
+        while let Some(candidate) = self.queue.pop() {
+            if candidate.bound > self.best {
+                break;
+            }
+            self.take(problem, lists, touches, &candidate.item)?;
+        }
+        Ok(())
+    }
+
     /// Lets lines keep the exits of all walks that may be first.
+    ///
+    /// Few exits matter where the limit is little more than what the first walk costs. So limits rise
+    /// from a lower bound, until a walk costs less.
     pub fn spread(
         &mut self,
         problem: &Problem<'_>,
@@ -241,13 +279,15 @@ impl Spread {
         ensures spread { OnOk result (IsSpread problem.now (number_of lists.now) self.new) }
         ensures err { OnErr result (IsMarked self.new.rows) }
     {
-        self.offer_endings(problem, lists)?;
-        while let Some(candidate) = self.queue.pop() {
-            if candidate.bound > self.best {
-                break;
+        let least = least_cost(problem);
+        let mut limit = raised(least, least, problem.task.penalty);
+        loop {
+            self.spread_within(problem, lists, touches, limit)?;
+            if self.best < limit || limit == MOST_COST {
+                return Ok(());
             }
-            self.take(problem, lists, touches, &candidate.item)?;
+            self.clear();
+            limit = raised(limit, least, problem.task.penalty);
         }
-        Ok(())
     }
 }

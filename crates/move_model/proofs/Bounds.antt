@@ -49,7 +49,7 @@ gap_is (pos a) (negsuc b) = inr (omega (arith, ints), refl)
 gap_is (negsuc a) (pos b) = inl (omega (arith, ints), omega (arith, ints))
 gap_is (negsuc a) (negsuc b) = by_lt_z (negsuc a) (negsuc b) (λ l. inl (omega (arith, ints, l), omega (arith, ints, l))) (λ l. inr (l, omega (arith, ints, l)))
 
-gap_none : (a b : ℤ) → b ≤ℤ a → int_gap a b ≡ 0
+pub gap_none : (a b : ℤ) → b ≤ℤ a → int_gap a b ≡ 0
 gap_none a b h = elim (gap_is a b) as (λ _. int_gap a b ≡ 0) [ inl up ↦ omega (arith, ints, h, up.0, up.1) | inr down ↦ down.1 ]
 
 -- a number that rises is above others by that much more, and no further below
@@ -190,7 +190,7 @@ module _ (from : Dir) (r : Rect) (p : Point) where
   as_back : (h : Dir) → turn from h ≡ 2 → fewest_bends from r p h ≡ 2
   as_back h twice = by_back (turn from h) (bends_on (behind_by from r p) (beside (way_of from) r p)) (bends_turned (behind_by from r p) (behind_by h r p)) twice
 
-  at_least : (h : Dir) → turn from h ≤ fewest_bends from r p h
+  pub at_least : (h : Dir) → turn from h ≤ fewest_bends from r p h
   at_least h = elim (one_direction from h) as (λ _. turn from h ≤ fewest_bends from r p h) [
     | inl same ↦ (let none : turn from h ≡ 0 = sym (ap (turn from) same) ∙ turn_same from in omega (arith, none))
     | inr some ↦ elim (one_or_two from h some) as (λ _. turn from h ≤ fewest_bends from r p h) [

@@ -64,6 +64,19 @@ fn outside(low: i64, z: i64, high: i64) -> u64
 }
 
 impl Origin {
+    /// The distance of the point to a side of the box, for one who leaves it along lines of the way.
+    pub fn beside(&self, way: Way, p: Point) -> u64
+        requires origin { IsOrigin self.now }
+        requires within { PointIsOnSheet p }
+        ensures exact { result ≡ beside way self.now.ports p }
+        ensures small { result ≤ 8 * 10 ^ 9 }
+    {
+        match way {
+            Way::Vertical => outside(self.ports.left, p.x, self.ports.right),
+            Way::Horizontal => outside(self.ports.top, p.y, self.ports.bottom),
+        }
+    }
+
     /// The least number of steps from the box to the point.
     fn distance(&self, p: Point) -> u64
         requires origin { IsOrigin self.now }
@@ -71,8 +84,7 @@ impl Origin {
         ensures exact { result ≡ distance_from self.now.ports p }
         ensures small { result ≤ 16 * 10 ^ 9 }
     {
-        outside(self.ports.left, p.x, self.ports.right)
-            + outside(self.ports.top, p.y, self.ports.bottom)
+        self.beside(Way::Vertical, p) + self.beside(Way::Horizontal, p)
     }
 
     /// Whether the point is to a side of the box, for one who leaves the box in the direction.
@@ -81,10 +93,7 @@ impl Origin {
         requires within { PointIsOnSheet p }
         ensures { IsTrue result ↔ (beside (way_of self.now.dir) self.now.ports p ≡ 0 → ⊥) }
     {
-        match self.dir.way() {
-            Way::Vertical => outside(self.ports.left, p.x, self.ports.right) > 0,
-            Way::Horizontal => outside(self.ports.top, p.y, self.ports.bottom) > 0,
-        }
+        self.beside(self.dir.way(), p) > 0
     }
 
     /// Whether the point lies behind the box, for one who leaves the box in the direction.

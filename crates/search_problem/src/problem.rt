@@ -184,6 +184,16 @@ impl<'a> Problem<'a> {
         })
     }
 
+    /// Where walks begin that have passed that many checkpoints.
+    pub fn origins_after(&self, stage: u32) -> &[Origin]
+        requires ready { IsReady self.now }
+        requires stage { stage ≤ length self.now.task.now.via }
+        ensures exact { result.now ≡ origins_after self.now.origins.items stage }
+        ensures origins { All IsOrigin result.now }
+    {
+        &self.origins[stage as usize]
+    }
+
     /// A lower bound on the cost of reaching the place, which is at the point.
     pub fn bound(&self, place: &Place, at: Point) -> u64
         requires ready { IsReady self.now }
@@ -192,7 +202,7 @@ impl<'a> Problem<'a> {
         ensures exact { result ≡ bound_of self.now.origins.items self.now.task.now place.now.stage place.now.heading at }
         ensures small { result ≤ 4 * 10 ^ 17 }
     {
-        let origins = &self.origins[place.stage as usize];
+        let origins = self.origins_after(place.stage);
         least_bound(origins, self.task.penalty, at, place.heading)
     }
 }

@@ -66,7 +66,7 @@ module _ (p : Problem) (number_of : ℕ → Way → ℕ) (s : Spread) (ready : I
     (t : Triple) (first : IsFirst p.solids.now p.task.now t) (along : GoesAlongWay p.solids.now p.arena.now p.task.now t) where
   -- a kept exit may be kept
   pub may_keep : (k c : ℕ) (d : Dir) (q : Point) (e : Kept) → StandsAt p.arena.now c q → Contains (row p number_of s k c d) e → IsKeptOf p number_of k (number_of c (way_of d)) d e
-  may_keep k c d q e here has = All-contains (λ (o : Kept). IsKeptOf p number_of k (number_of c (way_of d)) d o) (row p number_of s k c d) e (spread.searching.kept k c d q here) has
+  may_keep k c d q e here has = All-contains (λ (o : Kept). IsKeptOf p number_of k (number_of c (way_of d)) d o) (row p number_of s k c d) e (spread.settled.searching.kept k c d q here) has
 
   -- the way goes straight on at the place, and the exit was offered if more checkpoints were passed there
   pub record GoesOn (y : Place) (q : Point) (next : Option Dir) (v : Ahead) : Type 0 where
@@ -144,15 +144,15 @@ module _ (p : Problem) (number_of : ℕ → Way → ℕ) (s : Spread) (ready : I
     taken next offered = by_case offered
       where
         cheap : (before y.heading).cost + bound_at p y q ≤ s.best
-        cheap = (rest_matters p ready s.best spread.searching.best t first along y q n.station.back n.on).cheap
+        cheap = (rest_matters p ready s.best spread.best t first along y q n.station.back n.on).cheap
 
         by_case : IsOffered p s None q (exit_of number_of y next (before y.heading)) → Late next
         by_case (inl (inl dear)) = absurd (omega (arith, cheap, dear))
-        by_case (inl (inr many)) = absurd (let few = (rest_matters p ready s.best spread.searching.best t first along y q n.station.back n.on).few in omega (arith, few, many))
+        by_case (inl (inr many)) = absurd (let few = (rest_matters p ready s.best spread.best t first along y q n.station.back n.on).few in omega (arith, few, many))
         by_case (inr (inl queued)) = absurd (
             let dear = All-contains (λ (c : Reverse (Candidate Exit)). s.best < c.0.bound) (heap_items s.queue.heap)
             (record { 0 = record { bound = (before y.heading).cost + bound_at p y q; item = exit_of number_of y next (before y.heading) } })
-            spread.settled queued in
+            spread.settled.dear queued in
             omega (arith, cheap, dear))
         by_case (inr (inr (inl late))) = late x.stage comes
         by_case (inr (inr (inr hole))) = absurd (let wrong : ◌≡◌ {A = Option Exit} None (Some (exit_of number_of y next (before y.heading))) = hole in cc)

@@ -22,7 +22,7 @@ use Rattle.move_model.proofs.GoingOn.Joined.{way_ahead}
 use Rattle.move_model.proofs.GoingOn.Rivals.{least}
 use Rattle.move_model.proofs.GoingOn.Stretching.{stretch_ahead}
 use Rattle.move_model.proofs.Moving.Stages.{one_stage}
-use Rattle.search_problem.specs.Bounds.{origins_after}
+use Rattle.search_problem.specs.Bounds.{most_cost, origins_after}
 use Rattle.search_problem.specs.Ends.{IsEntryOf}
 use Rattle.search_problem.specs.Origins.{Covers}
 use Rattle.search_problem.specs.Problems.{IsReady}
@@ -113,7 +113,7 @@ module _ (p : Problem) (ready : IsReady p) where
   matters_behind best (g ∷ passed) legs x y at to e leads here there matters =
       matters_behind best passed legs g.to y leads.0.end to e leads.1 leads.0.there there (matters_next best x at g (passed ++ legs) e leads.0 here matters)
 
-  module _ (best : ℕ) (is_best : IsBest p best) (t : Triple) (first : IsFirst p.solids.now p.task.now t) (along : GoesAlongWay p.solids.now p.arena.now p.task.now t) where
+  module _ (best : ℕ) (is_best : IsBest p most_cost best) (t : Triple) (first : IsFirst p.solids.now p.task.now t) (along : GoesAlongWay p.solids.now p.arena.now p.task.now t) where
     on_floor : IsFirst ready.floor.solids p.task.now t
     on_floor = subst (λ z. IsFirst z p.task.now t) (sym ready.problem.same_solids) first
 

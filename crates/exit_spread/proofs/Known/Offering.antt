@@ -66,7 +66,7 @@ module _ (p : Problem) (number_of : ℕ → Way → ℕ) (s : Spread) (ready : I
       (found.3 ∙ one_point p.arena.now y.crossing q r ready.arena h.here at_r)
       (λ i. record { crossing = crossing i; stage = stage i; heading = y.heading })
       found.4
-      (All-contains (IsStubOffered p number_of s None) p.endings.items e spread.stubs found.1 y.heading))
+      (All-contains (IsStubOffered p number_of s None) p.endings.items e spread.settled.stubs found.1 y.heading))
 
   module _ (y : Place) (d : Dir) (z : Place) (next : Option Dir) (v : Ahead) (k : IsKnownBy p number_of s y d z next v) where
     kept_of_known : IsKeptOf p number_of y.stage (number_of y.crossing (way_of d)) d k.kept
@@ -74,7 +74,7 @@ module _ (p : Problem) (number_of : ℕ → Way → ℕ) (s : Spread) (ready : I
 
     -- what is known is not undercut, so it was propagated
     propagated : IsPropagatedAt p number_of s None y.stage d k.kept y.crossing k.point
-    propagated = elim (spread.searching.propagated y.stage y.crossing d k.point k.kept k.here k.has (λ none. cc) y.crossing k.point k.here refl k.counts) as (λ _. IsPropagatedAt p number_of s None y.stage d k.kept y.crossing k.point) [
+    propagated = elim (spread.settled.searching.propagated y.stage y.crossing d k.point k.kept k.here k.has (λ none. cc) y.crossing k.point k.here refl k.counts) as (λ _. IsPropagatedAt p number_of s None y.stage d k.kept y.crossing k.point) [
       | inl (i, o, lt, is, both) ↦ absurd (
           k.least o (i, lt, is) both.0 (ap (λ u. ahead_cmp u (ahead_at o (reach d k.point))) (sym k.is) ∙ less_is_greater (ahead_at o (reach d k.point)) (ahead_at k.kept (reach d k.point)) both.1))
       | inr at ↦ at

@@ -83,7 +83,7 @@ module _ (p : Problem) (number_of : ℕ → Way → ℕ) (s : Spread) (ready : I
       let kept = least_attained (row p number_of s x.stage x.crossing d) (reach d at) of.0 of.1 in
       let e : Kept = kept.1 in
       let may = All-contains (λ (o : Kept). IsKeptOf p number_of x.stage (number_of x.crossing (way_of d)) d o) (row p number_of s x.stage x.crossing d) e
-      (spread.searching.kept x.stage x.crossing d at here) (kept.0, kept.2, kept.3) in
+      (spread.settled.searching.kept x.stage x.crossing d at here) (kept.0, kept.2, kept.3) in
       let way = attained p number_of ready numbered x at d e here may kept.4.0 in
       subst (IsWayAhead p x at) (ap (turned p x.heading at d) kept.4.1 ∙ of.2) (turned_way p x at d (ahead_at e (reach d at)) way)
 

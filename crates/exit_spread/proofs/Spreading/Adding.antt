@@ -1,5 +1,5 @@
 -- Candidates are added: what was offered stays offered.
-use Rattle.std.proofs.Common.{◌≡◌, ℕ, ◌+◌, ◌≤◌, Option, None, Some, ◌∙◌, inl, inr, arith}
+use Rattle.std.proofs.Common.{◌≡◌, ℕ, ◌+◌, ◌≤◌, Option, None, Some, ◌∙◌, refl, inl, inr, arith}
 use Rattle.plane_geom.specs.declared.point.Point.{Point}
 use Rattle.plane_geom.specs.declared.point.Dir.{Dir}
 use Rattle.plane_geom.specs.declared.point.Way.{Way}
@@ -14,11 +14,12 @@ use Rattle.exit_spread.proofs.Spreading.Still.{same_kept, still_offered}
 
 module _ (p : Problem) (line_of : ℕ → Way → ℕ) where
   pub adds_none : (s : Spread) → IsSound p line_of s → Adds p line_of s s 0
-  adds_none s sound = record { rows = λ i. s.rows; best = omega arith; kept = λ c has. has; count = omega arith; sound = sound }
+  adds_none s sound = record { rows = λ i. s.rows; limit = refl; best = omega arith; kept = λ c has. has; count = omega arith; sound = sound }
 
   pub adds_both : (old mid new : Spread) (m n : ℕ) → Adds p line_of old mid m → Adds p line_of mid new n → Adds p line_of old new (m + n)
   adds_both old mid new m n f g = record {
     rows = g.rows ∙ f.rows;
+    limit = g.limit ∙ f.limit;
     best = (let a = f.best in let b = g.best in omega (arith, a, b));
     kept = λ c has. g.kept c (f.kept c has);
     count = (let a = f.count in let b = g.count in omega (arith, a, b));
@@ -27,7 +28,7 @@ module _ (p : Problem) (line_of : ℕ → Way → ℕ) where
 
   -- with room for more
   pub adds_more : (old new : Spread) (m n : ℕ) → m ≤ n → Adds p line_of old new m → Adds p line_of old new n
-  adds_more old new m n upto f = record { rows = f.rows; best = f.best; kept = f.kept; count = (let a = f.count in omega (arith, a, upto)); sound = f.sound }
+  adds_more old new m n upto f = record { rows = f.rows; limit = f.limit; best = f.best; kept = f.kept; count = (let a = f.count in omega (arith, a, upto)); sound = f.sound }
 
   module _ (old new : Spread) (n : ℕ) (adds : Adds p line_of old new n) where
     pub offered_on : (hole : Option Exit) (at : Point) (x : Exit) → IsOffered p old hole at x → IsOffered p new hole at x

@@ -24,11 +24,11 @@ pub counted_some : (e : Kept) (z : ℤ) (v : Ahead) → counted_at e z ≡ Some 
 counted_some e z v is = subst (λ (o : Option Ahead). IfSome o (λ u. CountsAt e z × (u ≡ ahead_at e z))) is (counted e z)
 
 -- the lesser of the best cost and the cost of a legal walk is a best cost
-pub lower_best : (p : Problem) (best cost : ℕ) → IsBest p best → (t : Triple) × IsLegalTriple p.solids.now p.task.now t × (triple_cost p.task.now t ≡ cost) → IsBest p (min best cost)
-lower_best p best cost h (t, legal, is) = elim (cases_lt cost best) as (λ _. IsBest p (min best cost)) [
+pub lower_best : (p : Problem) (limit best cost : ℕ) → IsBest p limit best → (t : Triple) × IsLegalTriple p.solids.now p.task.now t × (triple_cost p.task.now t ≡ cost) → IsBest p limit (min best cost)
+lower_best p limit best cost h (t, legal, is) = elim (cases_lt cost best) as (λ _. IsBest p limit (min best cost)) [
   | inl less ↦ (
       let most = h.most in
       let low : cost ≤ best = omega (arith, less) in
-      subst (IsBest p) (sym (min-eq_right low)) (record { most = omega (arith, less, most); of_walk = inr (t, legal, sym is) }))
-  | inr upto ↦ subst (IsBest p) (sym (min-eq_left upto)) h
+      subst (IsBest p limit) (sym (min-eq_right low)) (record { most = omega (arith, less, most); of_walk = inr (t, legal, sym is) }))
+  | inr upto ↦ subst (IsBest p limit) (sym (min-eq_left upto)) h
 ]

@@ -1,5 +1,5 @@
 -- Turns that cost too much are left out; and no line has more stops than the bound that is counted with.
-use Rattle.std.proofs.Common.{◌≡◌, ◌⊎◌, ℕ, ℤ, ◌<◌, ◌≤◌, ◌<ℤ◌, ◌≤ℤ◌, Bool, true, false, List, [], get_or, length, ap, refl, inl, inr, arith}
+use Rattle.std.proofs.Common.{◌≡◌, ◌⊎◌, ℕ, ℤ, ◌+◌, ◌*◌, ◌<◌, ◌≤◌, ◌<ℤ◌, ◌≤ℤ◌, Bool, true, false, List, [], get_or, length, ap, refl, inl, inr, arith}
 use Rattle.std.specs.Prelude.{int_lt, sum_by}
 use Rattle.std.proofs.lemmas.Bool.{cases_lt}
 use Rattle.std.proofs.lemmas.Int.{ints}
@@ -11,15 +11,20 @@ use Rattle.plane_geom.specs.declared.point.Way.{Way}
 use Rattle.plane_geom.specs.Along.{reach}
 use Rattle.line_lists.specs.Lists.{Lists, stops_of}
 use Rattle.line_lists.specs.declared.stop.Stop.{Stop}
+use Rattle.walk_model.specs.Cost.{turn}
 use Rattle.search_problem.specs.declared.problem.Problem.{Problem}
 use Rattle.exit_rows.specs.Exits.{ahead_at}
 use Rattle.exit_spread.specs.declared.run.Run.{Run}
 use Rattle.exit_spread.specs.declared.spread.Spread.{Spread}
 use Rattle.exit_spread.specs.Propagating.{IsTurnOffered}
 use Rattle.exit_spread.specs.Searching.{most_stops}
+use Rattle.exit_spread.specs.Ways.{bound_at, place_at}
 
-pub left_out : (p : Problem) (line_of : ℕ → Way → ℕ) (s : Spread) (r : Run) (h : Dir) (c : ℕ) (q : Point) → s.best < (ahead_at r.kept (reach r.heading q)).cost → IsTurnOffered p line_of s r h c q
-left_out p line_of s r h c q dear = inl (inl (omega (arith, dear)))
+pub left_out : (p : Problem) (line_of : ℕ → Way → ℕ) (s : Spread) (r : Run) (h : Dir) (c : ℕ) (q : Point) → turn h r.heading ≡ 1 →
+    s.best < (ahead_at r.kept (reach r.heading q)).cost + p.task.now.penalty + bound_at p (place_at c r.stage h) q → IsTurnOffered p line_of s r h c q
+left_out p line_of s r h c q once dear =
+    let bend = ap (λ n. p.task.now.penalty * n) once in
+    inl (inl (omega (arith, dear, bend)))
 
 few : (xs : List (List Stop)) (n : ℕ) → length (get_or xs n []) ≤ sum_by length xs
 few xs n = elim (cases_lt n (length xs)) as (λ _. length (get_or xs n []) ≤ sum_by length xs) [

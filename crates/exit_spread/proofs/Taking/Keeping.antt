@@ -34,7 +34,7 @@ use Rattle.exit_spread.proofs.Sizes.{kept_small}
 use Rattle.exit_spread.proofs.Spreading.Adding.{offered_in}
 use Rattle.exit_spread.proofs.Spreading.Still.{AllKept, still_offered}
 use Rattle.exit_spread.proofs.Taking.Numbered.{one_heading}
-use Rattle.exit_spread.proofs.Taking.Offered.{propagated_at, propagated_still}
+use Rattle.exit_spread.proofs.Taking.Offered.{propagated_at, propagated_still, same_rooms}
 
 module _ (p : Problem) (ready : IsReady p) (lists : Lists) (number_of : ℕ → Way → ℕ) (x : Exit) (at : Point) (is : IsExit p number_of x at) (k : ℕ) (comes : ComesTo p.task.now.via k at x.place.stage) where
   abbrev h : Dir
@@ -96,7 +96,7 @@ module _ (p : Problem) (ready : IsReady p) (lists : Lists) (number_of : ℕ → 
       -- the line keeps the exit, which is propagated
       module _ (numbered : AreNumbered p.arena.now number_of) (below : x.place.crossing < p.arena.now.places) (late : IsLate row e → ⊥)
           (rows : Rows) (keeps : Keeps old.rows rows k x.line h e) (marked : IsMarked rows) (new : Spread) (same : new.rows ≡ rows)
-          (adds : Adds p number_of (record { rows = rows; queue = old.queue; best = old.best }) new (2 * most_stops lists + 8))
+          (adds : Adds p number_of (record { rows = rows; queue = old.queue; best = old.best; limit = old.limit }) new (2 * most_stops lists + 8))
           (propagated : (c : ℕ) (q : Point) → IsBehind p number_of run c q → IsPropagatedAt p number_of new None k h run.kept c q) where
         -- each row is as it was, or is that of the exit
         record Grown (j c : ℕ) (d : Dir) : Type 0 where
@@ -133,6 +133,7 @@ module _ (p : Problem) (ready : IsReady p) (lists : Lists) (number_of : ℕ → 
         keeping_grows = record {
           rows = all_kept;
           queue = adds.kept;
+          limit = adds.limit;
           best = adds.best;
           weight =
               let now : rows_weight p.arena.now.places new.rows ≡ rows_weight p.arena.now.places rows = ap (rows_weight p.arena.now.places) same in
@@ -187,12 +188,6 @@ module _ (p : Problem) (ready : IsReady p) (lists : Lists) (number_of : ℕ → 
             only : (one o : Kept) → Contains (one ∷ []) o → o ≡ one
             only one o (zero, lt, same) = sym same
             only one o (suc n, lt, same) = absurd (omega (arith, lt))
-
-            same_rooms : (t u : Rows) (j l : ℕ) → SameRooms t u → HasRow t j l → HasRow u j l
-            same_rooms t u j l rooms was = record {
-              line = let n = rooms.lines in let less = was.line in omega (arith, n, less);
-              row = let n : j * u.lines ≡ j * t.lines = ap (λ m. j * m) rooms.lines in let many = rooms.rows in let less = was.row in omega (arith, n, many, less);
-            }
 
         late_then : IsLate (kept_in new.rows k x.line h) e
         late_then =

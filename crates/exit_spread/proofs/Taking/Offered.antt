@@ -1,5 +1,5 @@
 -- What was propagated is propagated still, while exits are offered and kept.
-use Rattle.std.proofs.Common.{◌≡◌, ◌⊎◌, ℕ, Option, Some, None, sym, subst, inl, inr, arith}
+use Rattle.std.proofs.Common.{◌≡◌, ◌⊎◌, ℕ, Option, Some, None, ◌*◌, refl, sym, ap, ◌∙◌, subst, inl, inr, arith}
 use Rattle.std.specs.Prelude.{All, Contains}
 use Rattle.plane_geom.specs.declared.point.Point.{Point}
 use Rattle.plane_geom.specs.declared.point.Dir.{Dir}
@@ -11,7 +11,7 @@ use Rattle.line_arena.specs.Arena.{StandsAt}
 use Rattle.line_lists.specs.Lists.{Lists}
 use Rattle.search_problem.specs.declared.problem.Problem.{Problem}
 use Rattle.exit_rows.specs.Exits.{IsUndercut, ahead_at}
-use Rattle.exit_rows.specs.Rows.{HasRow, IsMarked, kept_in}
+use Rattle.exit_rows.specs.Rows.{HasRow, IsMarked, SameRooms, kept_in}
 use Rattle.exit_rows.specs.declared.exit.Exit.{Exit}
 use Rattle.exit_rows.specs.declared.exit.Kept.{Kept}
 use Rattle.exit_rows.specs.declared.rows.Rows.{Rows}
@@ -70,13 +70,21 @@ adds_searching p number_of old new n a hole but s =
 
 -- ---- lines keep more
 
+-- they have the same rows
+pub same_rooms : (t u : Rows) (j l : ℕ) → SameRooms t u → HasRow t j l → HasRow u j l
+same_rooms t u j l rooms was = record {
+  line = let n = rooms.lines in let less = was.line in omega (arith, n, less);
+  row = let n : j * u.lines ≡ j * t.lines = ap (λ m. j * m) rooms.lines in let many = rooms.rows in let less = was.row in omega (arith, n, many, less);
+}
+
 pub grows_not : (p : Problem) (lists : Lists) (s : Spread) → Grows p lists s s
-grows_not p lists s = record { rows = λ k l d e has. has; queue = λ c has. has; best = omega arith; weight = omega arith }
+grows_not p lists s = record { rows = λ k l d e has. has; queue = λ c has. has; limit = refl; best = omega arith; weight = omega arith }
 
 pub grows_both : (p : Problem) (lists : Lists) (old mid new : Spread) → Grows p lists old mid → Grows p lists mid new → Grows p lists old new
 grows_both p lists old mid new a b = record {
   rows = λ k l d e has. b.rows k l d e (a.rows k l d e has);
   queue = λ c has. b.queue c (a.queue c has);
+  limit = b.limit ∙ a.limit;
   best = omega (arith, a.best, b.best);
   weight = omega (arith, a.weight, b.weight);
 }

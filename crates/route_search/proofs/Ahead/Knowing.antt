@@ -40,7 +40,7 @@ module _ (f : Follower) (h : IsKnowing f) where
   pub all_attained : IsAttained f.problem.now (known_of f)
   all_attained = record {
     attained = λ x v is. let k = is_known x v is in (k.0, known_attained f.problem.now (number_of f.lists.now) f.spread.now h.ready numbered h.spread x k.0 v k.1 k.2);
-    small = λ x v is. let k = is_known x v is in known_small f.problem.now (number_of f.lists.now) f.spread.now h.ready h.spread.searching x k.0 v k.1 k.2;
+    small = λ x v is. let k = is_known x v is in known_small f.problem.now (number_of f.lists.now) f.spread.now h.ready h.spread.settled.searching x k.0 v k.1 k.2;
   }
 
   -- and along the way of a first walk it is exactly what lies ahead

@@ -14,4 +14,4 @@ returns-clause-along c = λ p lists s ready are spread t first along x at rest h
     known_exactly p (number_of lists) s ready (lists_number p.arena.now lists ready.arena are) spread t first along x at rest h
 
 pub returns-clause-small : goal.returns-clause-small
-returns-clause-small c = λ p lists s ready are spread x at v here is. known_small p (number_of lists) s ready spread.searching x at v here is
+returns-clause-small c = λ p lists s ready are spread x at v here is. known_small p (number_of lists) s ready spread.settled.searching x at v here is

@@ -87,8 +87,9 @@ returns-in-Some-clause-adds c =
     let lesser = c.min-self.ensures in
     record {
       rows = refl;
+      limit = refl;
       best = subst (λ n. n ≤ s.best) (sym lesser) (min-le_left s.best (e.lead + c.turned-whole.result.cost));
       kept = λ x has. has;
       count = omega arith;
-      sound = record { candidates = c.requires.sound.candidates; best = subst (IsBest p) (sym lesser) (lower_best p s.best (e.lead + c.turned-whole.result.cost) c.requires.sound.best walk) };
+      sound = record { candidates = c.requires.sound.candidates; best = subst (IsBest p s.limit) (sym lesser) (lower_best p s.limit s.best (e.lead + c.turned-whole.result.cost) c.requires.sound.best walk) };
     }

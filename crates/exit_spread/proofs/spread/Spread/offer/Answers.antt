@@ -33,6 +33,7 @@ returns-clause-adds c = λ line_of line sound.
     } in
     record {
       rows = refl;
+      limit = refl;
       best = omega arith;
       kept = λ d has. push_keeps one old new c.in_ok-push.ensures.ok d has;
       count = push_count one old new c.in_ok-push.ensures.ok;

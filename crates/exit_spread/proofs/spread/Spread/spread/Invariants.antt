@@ -1,14 +1,16 @@
--- The stubs are offered; each candidate that is removed leaves less to be done.
-use Rattle.std.proofs.Common.{None, All}
+-- There is no exit at first, and each limit is greater than the last.
+use Rattle.std.proofs.Common.{◌≤◌, ◌-◌}
 use Rattle.line_lists.specs.Lists.{number_of}
-use Rattle.exit_spread.specs.Searching.{IsSearching, IsStubOffered, weight}
+use Rattle.search_problem.specs.Bounds.{most_cost}
+use Rattle.exit_spread.specs.Searching.{AreNone, HasRooms}
 use Rattle.exit_spread.proofs.spread.Spread.spread.Given as goal
 
-abbrev pub invariant-loop-candidate : goal.invariant-loop-candidate
-invariant-loop-candidate l = record {
-  searching : IsSearching l.problem (number_of l.lists) l.self None None;
-  stubs : All (IsStubOffered l.problem (number_of l.lists) l.self None) l.problem.endings.items;
+abbrev pub invariant-loop-self : goal.invariant-loop-self
+invariant-loop-self l = record {
+  none : AreNone l.self;
+  rooms : HasRooms l.problem (number_of l.lists) l.self;
+  limit : l.limit ≤ most_cost;
 }
 
-abbrev pub decreases-loop-candidate : goal.decreases-loop-candidate
-decreases-loop-candidate l = weight l.problem l.lists l.self
+abbrev pub decreases-loop-self : goal.decreases-loop-self
+decreases-loop-self l = most_cost - l.limit

@@ -1,6 +1,0 @@
--- Answers at which mutants of this function are refused.
-use Rattle.std.proofs.Common.{rules}
-use Rattle.exit_spread.proofs.spread.Spread.clear.Goals as goal
-
-pub returns : goal.returns
-returns c = search rules
