@@ -14,9 +14,9 @@ use Rattle.scene_model.specs.World.{World, Everywhere, rolled_back, opened}
 use Rattle.session_model.specs.Calls.{IsCall}
 use Rattle.session_model.specs.State.{State}
 use Rattle.route_session.specs.Runs.{IsRefusable, Searches}
+use Rattle.gml_scene.specs.Diagram.{IsDiagram}
 use Rattle.gml_scene.specs.Labels.{LabelLists, no_labels}
 use Rattle.gml_scene.specs.Origins.{AreEdgesOf, AreNodesOf}
-use Rattle.form_route.specs.Diagram.{IsDiagram}
 use Rattle.drawing.specs.Changes.{Asked, asked_of}
 use Rattle.drawing.specs.Lines.{AreDrawn, AreProposed}
 

@@ -3,14 +3,13 @@ use Rattle.std.specs.Prelude.{List, IsNone, IsSome, Ok}
 use Rattle.walk_model.specs.declared.route.WrittenRoute.{WrittenRoute}
 use Rattle.walk_model.specs.declared.route.Answer.{Answer}
 use Rattle.nudge_phases.specs.Apart.{KeepsApart}
-use Rattle.nudge_phases.specs.Nudged.{AreLegalNudgedLines}
+use Rattle.nudge_phases.specs.Nudged.{AreLegalNudgedLines, AreLines}
 use Rattle.scene_model.specs.Scene.{Scene}
 use Rattle.scene_model.specs.declared.edit.Command.TheVariants.{Commit}
 use Rattle.scene_model.specs.declared.fault.SessionFault.{SessionFault}
 use Rattle.scene_model.specs.declared.fault.SessionFault.TheVariants.{Memory, NoTransaction}
 use Rattle.session_model.specs.Calls.{IsCall}
 use Rattle.session_model.specs.State.{State}
-use Rattle.form_route.specs.Routes.{AreLines}
 
 -- the lines are those of the right answers of the scene, nudged; they are legal, and their separations are met
 pub record AreDrawn (s : Scene) (answers : List Answer) (lines : List WrittenRoute) : Type 0 where

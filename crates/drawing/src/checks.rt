@@ -1,17 +1,13 @@
-//! What is asked of the present scene: shared paths, crossings, and the verdict on a line that is given.
+//! The verdict on a line that is given for a connector of the present scene.
 ghost use Rattle.std.specs.Prelude.{◌≡◌, IfOk, None, position};
-ghost use Rattle.shared_paths.specs.Listed.{AreSharedPaths};
-ghost use Rattle.form_shared.specs.Shares.{CountsCrossings, raw_runs};
 ghost use Rattle.drawing.specs.Checks.{IsChecked, IsJudged, is_off_sheet, unjudged};
 
 use crate::drawing::Drawing;
-use form_shared::{crossings_of, paths_of};
 use plane_geom::{Point, is_coordinate};
 use route_check::{Breach, check};
 use scene_model::SceneFault;
 use scene_store::Scene;
-use shared_paths::SharedPath;
-use std::alloc::{AllocError, Global};
+use std::alloc::AllocError;
 
 /// The greatest number of corners that a line may have.
 const MOST_CORNERS: usize = 40_000_000;
@@ -54,20 +50,6 @@ fn judged(scene: &Scene, number: u32, corners: &[Point]) -> Result<Result<u64, B
 }
 
 impl Drawing {
-    /// The paths that the routes of the present scene share, before nudging, in order. The only error is out of memory.
-    pub fn shared_paths(&self, alloc: Global) -> Result<Vec<SharedPath>, AllocError>
-        ensures { IfOk result (λ paths. AreSharedPaths (raw_runs self.now.session.book) paths.items) }
-    {
-        paths_of(alloc, self.session.scene(), self.session.book().answers())
-    }
-
-    /// How often the nudged lines of the present scene cross. The only error is out of memory.
-    pub fn crossings(&self, alloc: Global) -> Result<u64, AllocError>
-        ensures { IfOk result (CountsCrossings self.now.session.world.present self.now.session.book) }
-    {
-        crossings_of(alloc, &self.session)
-    }
-
     /// What a line through these corners would cost a connector of the present scene, or the first rule that it breaks.
     ///
     /// The error is `UnknownEdge`, `SameNode` for a loop, `TooMany` where there are more than 40,000,000 corners,

@@ -13,8 +13,7 @@ use crate::changes::Differences;
 use crate::fault::OpenFault;
 use crate::lines::Lines;
 use diagram_read::scene_of;
-use form_route::printed_diagram;
-use gml_scene::Labels;
+use gml_scene::{Labels, printed_diagram};
 use gml_text::{Bytes, Doc, Pair, Value, parse};
 use par_route::Gate;
 use route_session::Session;
@@ -189,6 +188,13 @@ impl Drawing {
     pub fn text(&self, alloc: Global) -> Result<Vec<u8>, AllocError>
         ensures { IfOk result (λ text. IsWritten self.now text.items) }
     {
-        printed_diagram(alloc, &self.doc, &self.labels, &self.session)
+        let answers = self.session.book().answers();
+        printed_diagram(
+            alloc,
+            &self.doc,
+            &self.labels,
+            self.session.scene(),
+            answers,
+        )
     }
 }

@@ -2,7 +2,7 @@
 ghost use Rattle.std.specs.Prelude.{◌≡◌, IfOk, OnErr};
 ghost use Rattle.edit_script.specs.Script.{commands};
 ghost use Rattle.scene_model.specs.World.{IsDirectedCommand};
-ghost use Rattle.script_replay.specs.Replies.{AreDirected};
+ghost use Rattle.session_model.specs.Calls.{AreDirected};
 ghost use Rattle.drawing.specs.Played.{IsAnswered, IsPlayed};
 
 use crate::drawing::Drawing;

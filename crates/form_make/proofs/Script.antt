@@ -7,9 +7,9 @@ use Rattle.std.proofs.lemmas.List.Concat.{flat_map-append}
 use Rattle.scene_model.specs.declared.edit.Command.{Command}
 use Rattle.scene_model.specs.declared.edit.Command.TheVariants.{Undo}
 use Rattle.scene_model.specs.World.{IsDirectedCommand}
+use Rattle.session_model.specs.Calls.{AreDirected}
 use Rattle.form_make.specs.Draws.{first, state_after}
 use Rattle.form_make.specs.Made.{made_commands, made_transaction}
-use Rattle.script_replay.specs.Replies.{AreDirected}
 use Rattle.form_make.specs.Makes.{made_script, numbered_from}
 
 each_append : (P : Command → Type 0) (xs ys : List Command) → Each P xs → Each P ys → Each P (xs ++ ys)

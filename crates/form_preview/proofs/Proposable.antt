@@ -8,10 +8,10 @@ use Rattle.scene_model.specs.declared.edit.Command.{Command}
 use Rattle.scene_model.specs.declared.edit.Command.TheVariants.{Begin, Edit, Commit, Abort, Undo, Redo, Bad}
 use Rattle.scene_model.specs.Edits.{IsDirected}
 use Rattle.scene_model.specs.World.{IsDirectedCommand}
+use Rattle.session_model.specs.Calls.{AreDirected}
 use Rattle.report_text.specs.declared.refusal.Refusal.{Refusal}
 use Rattle.preview.specs.declared.proposals.Proposal.{Proposal}
 use Rattle.preview.specs.Previews.{IsProposable}
-use Rattle.script_replay.specs.Replies.{AreDirected}
 use Rattle.form_preview.specs.Blocks.{Blocks, Read, proposals, too_many, read_on, ended, unless_refused, blocks_from, blocks_of}
 
 -- edits that lead somewhere, of which there are no more than this

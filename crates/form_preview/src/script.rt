@@ -4,7 +4,7 @@ ghost use Rattle.report_text.specs.Outcome.{unsearched};
 ghost use Rattle.report_text.specs.Replies.{end_line, reply_text};
 ghost use Rattle.report_text.specs.declared.reply.Reply.TheVariants as replies;
 ghost use Rattle.preview.specs.Previews.{IsProposable};
-ghost use Rattle.script_replay.specs.Replies.{AreDirected};
+ghost use Rattle.session_model.specs.Calls.{AreDirected};
 ghost use Rattle.form_preview.specs.Blocks as blocks;
 ghost use Rattle.form_preview.specs.Proposes.{Answers, Previews, PreviewsBlocks};
 

@@ -1,4 +1,3 @@
 -- The lemmas of this crate.
-pub mod Lines
 pub mod Made
 pub mod OneOutput

@@ -8,6 +8,7 @@ use Rattle.scene_model.specs.declared.edit.Command.{Command}
 use Rattle.scene_model.specs.Scene.{Scene, connectors}
 use Rattle.scene_model.specs.World.{World, opened}
 use Rattle.report_text.specs.declared.reply.LineReply.{LineReply}
+use Rattle.nudge_phases.specs.Nudged.{AreLines}
 use Rattle.gml_scene.specs.Labels.{no_labels}
 use Rattle.gml_scene.specs.Tree.{tree_of}
 use Rattle.script_replay.specs.Replies.{AreReplies, searched_in, world_after}
@@ -16,7 +17,7 @@ use Rattle.report_text.specs.Outcome.{Outcome, counted, hinted}
 use Rattle.report_text.specs.declared.hint.Hint.{Hint}
 use Rattle.report_text.specs.declared.status.Status.{Status}
 use Rattle.form_route.specs.Report.{has_refusal, report, script_status, unrouted_hint, unrouted_in}
-use Rattle.form_route.specs.Routes.{AreLines, Replays}
+use Rattle.form_route.specs.Routes.{Replays}
 
 -- what holds of the value of a result
 pub of_ok : {T E : Type 0} (P : T → Type 0) (r : Result T E) (x : T) → r ≡ Ok x → IfOk r P → P x

@@ -9,12 +9,13 @@ use Rattle.scene_model.specs.Answers.{HaveOneList}
 use Rattle.scene_model.specs.Scene.{Scene, connectors}
 use Rattle.scene_model.specs.Valid.{IsValid}
 use Rattle.scene_model.specs.World.{IsDirectedCommand, ScenesStayValid, opened}
+use Rattle.session_model.specs.Calls.{AreDirected}
 use Rattle.gml_scene.specs.Labels.{no_labels}
 use Rattle.gml_scene.specs.Tree.{tree_of}
-use Rattle.nudge_phases.specs.Nudged.{HaveOneNudged}
-use Rattle.script_replay.specs.Replies.{AreDirected, HaveOneListOfReplies, searched_in, world_after}
+use Rattle.nudge_phases.specs.Nudged.{AreLines, HaveOneNudged}
+use Rattle.script_replay.specs.Replies.{HaveOneListOfReplies, searched_in, world_after}
 use Rattle.form_route.specs.Report.{has_refusal, report, unrouted_in}
-use Rattle.form_route.specs.Routes.{AreLines, ComesToOne}
+use Rattle.form_route.specs.Routes.{ComesToOne}
 
 all_directed : (commands : List (ℕ × Command)) → AreDirected commands → Each IsDirectedCommand (map (λ (c : ℕ × Command). c.1) commands)
 all_directed [] directed = tt

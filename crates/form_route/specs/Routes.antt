@@ -7,21 +7,16 @@ use Rattle.walk_model.specs.declared.route.WrittenRoute.{WrittenRoute}
 use Rattle.scene_model.specs.declared.edit.Command.{Command}
 use Rattle.scene_model.specs.Scene.{Scene, connectors}
 use Rattle.scene_model.specs.Valid.{IsValid}
-use Rattle.scene_model.specs.Answers.{AreAnswers}
 use Rattle.scene_model.specs.World.{opened}
+use Rattle.session_model.specs.Calls.{AreDirected}
 use Rattle.report_text.specs.declared.reply.LineReply.{LineReply}
 use Rattle.gml_scene.specs.Labels.{no_labels}
 use Rattle.gml_scene.specs.Tree.{tree_of}
-use Rattle.nudge_phases.specs.Nudged.{IsNudgedScene}
-use Rattle.script_replay.specs.Replies.{AreDirected, AreReplies, searched_in, world_after}
+use Rattle.nudge_phases.specs.Nudged.{AreLines}
+use Rattle.script_replay.specs.Replies.{AreReplies, searched_in, world_after}
 use Rattle.report_text.specs.Outcome.{Outcome, counted, hinted}
 use Rattle.report_text.specs.declared.hint.Unrouted.{Unrouted}
 use Rattle.form_route.specs.Report.{report, has_refusal, script_status, unrouted_hint, unrouted_in}
-
--- the scene routed alone: the first legal walks of its connectors, and their nudged lines
-pub record AreLines (s : Scene) (answers : List Answer) (lines : List WrittenRoute) : Type 0 where
-  pub right : AreAnswers s answers
-  pub nudged : IsNudgedScene s answers lines
 
 -- the output of a script on the diagram of the tree, whose scene is this one; whether something was refused; the number of searches; and how many connectors have no route
 pub record Routes (tree : Pairs) (s : Scene) (commands : List (ℕ × Command)) (count : Bool) (text : List ℕ) (refused : Bool) (searched : ℕ) (unrouted : Unrouted) : Type 0 where

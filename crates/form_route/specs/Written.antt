@@ -4,9 +4,10 @@ use Rattle.gml_text.specs.Tree.{Pairs}
 use Rattle.scene_model.specs.declared.edit.Command.{Command}
 use Rattle.scene_model.specs.Scene.{Scene}
 use Rattle.scene_model.specs.Valid.{IsValid}
+use Rattle.session_model.specs.Calls.{AreDirected}
 use Rattle.nudge_phases.specs.Apart.{KeepsApart}
 use Rattle.nudge_phases.specs.Nudged.{AreLegalNudgedLines}
-use Rattle.script_replay.specs.Replies.{AreDirected, world_after}
+use Rattle.script_replay.specs.Replies.{world_after}
 use Rattle.report_text.specs.declared.hint.Unrouted.{Unrouted}
 use Rattle.form_route.specs.Routes.{Routes}
 

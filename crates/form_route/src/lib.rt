@@ -8,4 +8,4 @@ mod script;
 pub use laws::{replays_come_to_one, written_lines_are_legal_and_apart};
 pub use report::{edges_routed, script_status};
 pub use report_text::Unrouted;
-pub use script::{Options, printed_diagram, route};
+pub use script::{Options, route};

@@ -2,16 +2,17 @@
 ghost use Rattle.std.specs.Prelude.{◌≡◌, ◌<◌, ◌≤◌, ◌^◌, IfOk, IsOk, Ok, OnOk, length};
 ghost use Rattle.gml_text.specs.Printed.{IsPrintable};
 ghost use Rattle.gml_text.specs.View.{tree};
-ghost use Rattle.gml_scene.specs.Origins.{AreEdgesOf, AreNodesOf, AreRoutesOf};
+ghost use Rattle.gml_scene.specs.Diagram.{EndsInDiagram};
+ghost use Rattle.gml_scene.specs.Origins.{AreEdgesOf, AreNodesOf};
 ghost use Rattle.gml_scene.specs.Labels.{no_labels};
 ghost use Rattle.diagram_read.specs.Scene.{scene_of};
-ghost use Rattle.script_replay.specs.Replies.{AreDirected};
-ghost use Rattle.form_route.specs.Diagram.{EndsInDiagram, IsDiagram, IsOutput};
-ghost use Rattle.form_route.specs.Routes.{AreLines, Replays};
+ghost use Rattle.session_model.specs.Calls.{AreDirected};
+ghost use Rattle.form_route.specs.Diagram.{IsOutput};
+ghost use Rattle.form_route.specs.Routes.{Replays};
 
 use crate::report::{hint_of, report, status_of};
-use gml_scene::{Labels, put_routes};
-use gml_text::{Doc, push_printed};
+use gml_scene::{Labels, push_diagram};
+use gml_text::Doc;
 use par_route::Gate;
 use report_text::{LineReply, Outcome};
 use route_session::Session;
@@ -20,7 +21,6 @@ use scene_store::Scene;
 use script_replay::{replay, replays_keep_origins};
 use std::alloc::{AllocError, Global};
 use std::thread::Threads;
-use walk_model::WrittenRoute;
 
 /// How a script is replayed, and what its report contains.
 #[derive(Clone, Copy, Debug, PartialEq, Eq)]
@@ -108,64 +108,6 @@ fn push_unlabelled(
         EndsInDiagram (tree doc.now) was session.now.world.present no_labels session.now.book text.old.items text.new.items)) }
 {
     let labels = Labels::none(alloc);
-    push_diagram(alloc, text, doc, &labels, session)
-}
-
-/// The printed document of the session's present scene, with the labels of what edits added and its nudged lines.
-pub fn printed_diagram(
-    alloc: Global,
-    doc: &Doc,
-    labels: &Labels,
-    session: &Session,
-) -> Result<Vec<u8>, AllocError>
-    requires source { IsOk (scene_of (tree doc.now)) }
-    requires nodes { IfOk (scene_of (tree doc.now)) (λ was. AreNodesOf was session.now.world.present) }
-    requires edges { IfOk (scene_of (tree doc.now)) (λ was. AreEdgesOf was session.now.world.present) }
-    requires printable { IsPrintable (tree doc.now) }
-    ensures { IfOk result (λ text. IfOk (scene_of (tree doc.now)) (λ was. IsDiagram (tree doc.now) was session.now.world.present labels.now session.now.book text.items)) }
-{
-    let mut text = Vec::new(alloc);
-    push_diagram(alloc, &mut text, doc, labels, session)?;
-    Ok(text)
-}
-
-/// Appends the printed document of the session's present scene, with these labels and its nudged lines.
-fn push_diagram(
-    alloc: Global,
-    text: &mut Vec<u8>,
-    doc: &Doc,
-    labels: &Labels,
-    session: &Session,
-) -> Result<(), AllocError>
-    requires source { IsOk (scene_of (tree doc.now)) }
-    requires nodes { IfOk (scene_of (tree doc.now)) (λ was. AreNodesOf was session.now.world.present) }
-    requires edges { IfOk (scene_of (tree doc.now)) (λ was. AreEdgesOf was session.now.world.present) }
-    requires printable { IsPrintable (tree doc.now) }
-    ensures { OnOk result (IfOk (scene_of (tree doc.now)) (λ was. EndsInDiagram (tree doc.now) was session.now.world.present labels.now session.now.book text.old.items text.new.items)) }
-{
-    let scene = session.scene();
-    scene.valid();
-    let nudged = session.nudged()?;
-    push_lines(alloc, text, doc, labels, session, &nudged.routes)
-}
-
-/// Appends the printed document of the session's present scene, with these labels and lines.
-fn push_lines(
-    alloc: Global,
-    text: &mut Vec<u8>,
-    doc: &Doc,
-    labels: &Labels,
-    session: &Session,
-    lines: &[WrittenRoute],
-) -> Result<(), AllocError>
-    requires source { IsOk (scene_of (tree doc.now)) }
-    requires nodes { IfOk (scene_of (tree doc.now)) (λ was. AreNodesOf was session.now.world.present) }
-    requires edges { IfOk (scene_of (tree doc.now)) (λ was. AreEdgesOf was session.now.world.present) }
-    requires routes { AreRoutesOf session.now.world.present lines.now }
-    requires lines { AreLines session.now.world.present session.now.book lines.now }
-    requires printable { IsPrintable (tree doc.now) }
-    ensures { OnOk result (IfOk (scene_of (tree doc.now)) (λ was. EndsInDiagram (tree doc.now) was session.now.world.present labels.now session.now.book text.old.items text.new.items)) }
-{
-    let routed = put_routes(alloc, doc, session.scene(), labels, lines)?;
-    push_printed(text, &routed)
+    let answers = session.book().answers();
+    push_diagram(alloc, text, doc, &labels, session.scene(), answers)
 }

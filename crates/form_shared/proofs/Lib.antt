@@ -1,4 +1,2 @@
--- The lemmas of this crate, callees first.
-pub mod Few
-pub mod Routes
+-- The lemmas of this crate.
 pub mod OneText

@@ -5,7 +5,8 @@ use Rattle.shared_paths.specs.Listed.{AreSharedPaths, HaveOneListOfPaths}
 use Rattle.shared_paths.specs.Crossings.{crossing_count}
 use Rattle.report_text.specs.Shared.{crossings_line, shared_lines}
 use Rattle.nudge_phases.specs.Nudged.{HaveOneNudged}
-use Rattle.form_shared.specs.Shares.{CountsCrossings, HaveOneText, line_runs, raw_runs}
+use Rattle.route_session.specs.Shares.{CountsCrossings, line_runs, raw_runs}
+use Rattle.form_shared.specs.Shares.{HaveOneText}
 
 pub comes_to_one : HaveOneList → HaveOneNudged → HaveOneListOfPaths → HaveOneText
 comes_to_one one_answers one_nudged one_paths s text other valid a b =

@@ -2,8 +2,7 @@
 #![tactic(auto)]
 
 mod laws;
-mod runs;
 mod sharing;
 
 pub use laws::shares_come_to_one;
-pub use sharing::{crossings_of, paths_of, share};
+pub use sharing::share;

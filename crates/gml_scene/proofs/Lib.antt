@@ -9,3 +9,4 @@ pub mod Labelling
 pub mod Fitting
 pub mod Printable
 pub mod OriginsKept
+pub mod LinesOf

@@ -6,3 +6,4 @@ pub mod Nodes
 pub mod Edges
 pub mod Tree
 pub mod Origins
+pub mod Diagram

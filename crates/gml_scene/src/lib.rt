@@ -12,6 +12,7 @@ mod forms;
 mod labels;
 mod laws;
 mod nodes;
+mod printing;
 mod settings;
 mod tree;
 
@@ -21,4 +22,5 @@ pub use diagram_read::{
 };
 pub use labels::{Label, LabelFault, Labels};
 pub use laws::{edits_keep_origins, own_scenes_fit};
+pub use printing::{printed_diagram, push_diagram};
 pub use tree::put_routes;

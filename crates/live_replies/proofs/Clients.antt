@@ -13,8 +13,8 @@ use Rattle.scene_model.specs.Scene.{Scene}
 use Rattle.scene_model.specs.Valid.{IsValid}
 use Rattle.scene_model.proofs.Editing.Entries.{Pairs, each_weaker, found_cases, found_none, found_passes, none_cases, pairs_from}
 use Rattle.nudge_phases.proofs.SceneLines.{good_raws, line_edges}
-use Rattle.form_route.specs.Routes.{AreLines}
-use Rattle.form_route.proofs.Lines.{lines_are_routes}
+use Rattle.nudge_phases.specs.Nudged.{AreLines}
+use Rattle.gml_scene.proofs.LinesOf.{lines_are_routes}
 use Rattle.drawing.specs.Changes.{are_same_corners, asked_of, gone_between, has_corners, is_changed, line_of}
 use Rattle.live_replies.specs.Changes.{Change, gone, drawn, changes, drawn_of}
 use Rattle.live_replies.specs.Client.{ChangesKeepClients, applied, with_change, without}

@@ -8,8 +8,7 @@ use Rattle.scene_model.specs.Scene.{Scene}
 use Rattle.scene_model.specs.Valid.{IsValid}
 use Rattle.scene_model.specs.World.{World, CommandRefusal}
 use Rattle.session_model.specs.Calls.{IsCall}
-use Rattle.nudge_phases.specs.Nudged.{HaveOneNudged}
-use Rattle.form_route.specs.Routes.{AreLines}
+use Rattle.nudge_phases.specs.Nudged.{AreLines, HaveOneNudged}
 use Rattle.drawing.specs.Changes.{asked_of}
 use Rattle.drawing.specs.Drawing.{DrawingState}
 use Rattle.live_replies.specs.Changes.{changes, changes_text}

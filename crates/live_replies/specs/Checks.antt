@@ -8,7 +8,7 @@ use Rattle.scene_model.specs.declared.fault.SceneFault.{SceneFault}
 use Rattle.scene_model.specs.declared.fault.SceneFault.TheVariants.{Memory}
 use Rattle.scene_model.specs.declared.fault.SessionFault.TheVariants.{Edit}
 use Rattle.session_model.specs.State.{State}
-use Rattle.form_shared.specs.Shares.{CountsCrossings, raw_runs}
+use Rattle.route_session.specs.Shares.{CountsCrossings, raw_runs}
 use Rattle.report_text.specs.declared.finding.EdgeFinding.{EdgeFinding}
 use Rattle.report_text.specs.declared.finding.Finding.TheVariants.{Judged}
 use Rattle.report_text.specs.declared.refusal.Refusal.TheVariants.{Command}

@@ -20,7 +20,7 @@ use std::alloc::{AllocError, Global};
 pub(crate) fn shared_text(alloc: Global, drawing: &Drawing) -> Result<Vec<u8>, AllocError>
     ensures { IfOk result (λ text. SaysShared drawing.now.session text.items) }
 {
-    let paths = drawing.shared_paths(alloc)?;
+    let paths = drawing.session().shared_paths(alloc)?;
     let mut text = Vec::new(alloc);
     push_shared_lines(&mut text, &paths)?;
     push_ok(&mut text)?;
@@ -31,7 +31,7 @@ pub(crate) fn shared_text(alloc: Global, drawing: &Drawing) -> Result<Vec<u8>, A
 pub(crate) fn crossings_text(alloc: Global, drawing: &Drawing) -> Result<Vec<u8>, AllocError>
     ensures { IfOk result (λ text. SaysCrossings drawing.now.session text.items) }
 {
-    let crossings = drawing.crossings(alloc)?;
+    let crossings = drawing.session().crossings(alloc)?;
     let mut text = Vec::new(alloc);
     push_crossings_line(&mut text, crossings)?;
     push_ok(&mut text)?;

@@ -4,7 +4,7 @@ ghost use Rattle.std.specs.Str.Lines.{strip_carriage_return};
 ghost use Rattle.live_replies.specs.Forms.{named_request};
 ghost use Rattle.live_replies.specs.Requests.{IsDirectedRequest, after_word, command_request, first_of, first_word, is_label, is_quit};
 ghost use Rattle.live_replies.specs.Requests.{is_word, label_request, labelled_of, request_of};
-ghost use Rattle.script_replay.specs.Replies.{AreDirected};
+ghost use Rattle.session_model.specs.Calls.{AreDirected};
 ghost use Rattle.edit_script.specs.Script.{HaveDirections, words};
 
 use crate::form::named_request;

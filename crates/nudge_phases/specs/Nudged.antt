@@ -23,6 +23,11 @@ pub record IsNudgedScene (s : Scene) (answers : List Answer) (lines : List Writt
   pub are_raw : AreRawRoutes s answers raw
   pub nudged : IsNudged (solids s) raw s.settings.nudge lines
 
+-- the scene routed alone: the first legal walks of its connectors, and their nudged lines
+pub record AreLines (s : Scene) (answers : List Answer) (lines : List WrittenRoute) : Type 0 where
+  pub right : AreAnswers s answers
+  pub nudged : IsNudgedScene s answers lines
+
 -- the line of the edge with the number draws a walk that is legal with the choices of its route
 pub record IsLegalNudgedLine (s : Scene) (number : ℕ) (route : Route) (line : WrittenRoute) : Type 0 where
   pub edge : Edge

@@ -11,7 +11,7 @@ use Rattle.route_check.specs.declared.verdict.Breach.{Breach}
 use Rattle.route_check.specs.declared.verdict.Breach.TheVariants.{Slanted, StartOff, EndOff, Hits, MissesVia}
 use Rattle.scene_model.specs.declared.fault.SceneFault.{SceneFault}
 use Rattle.scene_model.specs.Scene.{Scene}
-use Rattle.form_shared.specs.Shares.{raw_runs}
+use Rattle.route_session.specs.Shares.{raw_runs}
 use Rattle.drawing.specs.Drawing.{DrawingState}
 use Rattle.drawing.specs.Checks.{IsChecked, IsJudged}
 use Rattle.reroute_c.specs.declared.checks.SharedInfo.{SharedInfo}

@@ -2,7 +2,7 @@
 //!
 //! Nothing of the session changes, and an open transaction makes no difference.
 ghost use Rattle.std.specs.Prelude.{◌≡◌, ◌≢◌, IfOk, IfSome, IsNone, IsSome, map};
-ghost use Rattle.form_shared.specs.Shares.{CountsCrossings};
+ghost use Rattle.route_session.specs.Shares.{CountsCrossings};
 ghost use Rattle.drawing.specs.Checks.{IsChecked};
 ghost use Rattle.reroute_c.specs.Checks.{IsSharedTo, IsUnjudged, IsVerdictOn, breach_info, broken, end_code, point_of, shared_info, side_code, some_side_code, verdict_info};
 ghost use Rattle.reroute_c.specs.Codes.{closed_fault, memory_fault};
@@ -127,7 +127,7 @@ pub extern "C" fn reroute_shared(
     let Some(drawing) = handle.take() else {
         return Fault::closed();
     };
-    let answer = drawing.shared_paths(alloc);
+    let answer = drawing.session().shared_paths(alloc);
     handle.put(drawing);
     match answer {
         Ok(paths) => {
@@ -153,7 +153,7 @@ pub extern "C" fn reroute_crossings(alloc: Global, handle: &mut Handle, count: &
     let Some(drawing) = handle.take() else {
         return Fault::closed();
     };
-    let answer = drawing.crossings(alloc);
+    let answer = drawing.session().crossings(alloc);
     handle.put(drawing);
     match answer {
         Ok(crossings) => {

@@ -1,4 +1,5 @@
 -- The definitions of sessions.
 pub mod Runs
+pub mod Shares
 pub mod Turning
 pub mod Upheld

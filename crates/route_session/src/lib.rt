@@ -7,6 +7,7 @@ mod commands;
 mod present;
 mod scenes;
 mod session;
+mod shares;
 mod start;
 mod turning;
 

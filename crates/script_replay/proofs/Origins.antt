@@ -3,11 +3,12 @@ use Rattle.std.proofs.Common.{ℕ, List, [], ◌∷◌, map}
 use Rattle.std.specs.List.{AllByRecursion as Each}
 use Rattle.scene_model.specs.declared.edit.Command.{Command}
 use Rattle.scene_model.specs.Scene.{Scene}
-use Rattle.scene_model.specs.World.{opened, IsDirectedCommand, EditsKeep}
+use Rattle.scene_model.specs.World.{EditsKeep, IsDirectedCommand, opened}
+use Rattle.session_model.specs.Calls.{AreDirected}
 use Rattle.scene_model.proofs.Editing.Worlds.{played_keeps}
 use Rattle.gml_scene.specs.Origins.{AreNodesOf, AreEdgesOf}
 use Rattle.gml_scene.proofs.OriginsKept.{own_scenes_fit, edits_keep_origins}
-use Rattle.script_replay.specs.Replies.{AreDirected, world_after}
+use Rattle.script_replay.specs.Replies.{world_after}
 use Rattle.script_replay.specs.Origins.{ReplaysKeepOrigins}
 
 directed : (cs : List (ℕ × Command)) → AreDirected cs → Each IsDirectedCommand (map (λ c. c.1) cs)

@@ -3,8 +3,9 @@ use Rattle.std.specs.Prelude.{ℕ, List}
 use Rattle.scene_model.specs.declared.edit.Command.{Command}
 use Rattle.scene_model.specs.Scene.{Scene}
 use Rattle.scene_model.specs.Valid.{IsValid}
+use Rattle.session_model.specs.Calls.{AreDirected}
 use Rattle.gml_scene.specs.Origins.{AreNodesOf, AreEdgesOf}
-use Rattle.script_replay.specs.Replies.{AreDirected, world_after}
+use Rattle.script_replay.specs.Replies.{world_after}
 
 -- the law: each node and each edge of the present scene with an origin is one of the scene at the beginning
 pub record ReplaysKeepOrigins : Type 0 where

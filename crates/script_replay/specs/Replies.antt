@@ -1,13 +1,13 @@
 -- The replies to the commands of a script, one by one.
 use Rattle.std.specs.Prelude.{◌≡◌, ℕ, List, [], ◌∷◌, length, map, Result, Ok, Err}
-use Rattle.std.specs.List.{sum_by, AllByRecursion}
+use Rattle.std.specs.List.{sum_by}
 use Rattle.walk_model.specs.declared.route.Answer.{Answer}
 use Rattle.scene_model.specs.declared.edit.Command.{Command}
 use Rattle.scene_model.specs.declared.edit.Command.TheVariants.{Commit, Undo, Redo}
 use Rattle.scene_model.specs.Scene.{Scene}
 use Rattle.scene_model.specs.Answers.{AreAnswers}
 use Rattle.scene_model.specs.Stale.{AreStale}
-use Rattle.scene_model.specs.World.{World, CommandRefusal, syntax_error, refused, opened, step, next_world, played, IsDirectedCommand}
+use Rattle.scene_model.specs.World.{World, CommandRefusal, syntax_error, refused, opened, step, next_world, played}
 use Rattle.report_text.specs.declared.refusal.Refusal.{Refusal as ReportedRefusal}
 use Rattle.report_text.specs.declared.refusal.Refusal.TheVariants as reported
 use Rattle.report_text.specs.declared.reply.Reply.{Reply}
@@ -62,10 +62,6 @@ searched_by (Refused why) = 0
 
 abbrev pub searched_in : List LineReply → ℕ
 searched_in replies = sum_by (λ r. searched_by r.reply) replies
-
--- each pin that a command adds has a direction
-abbrev pub AreDirected : List (ℕ × Command) → Type 0
-AreDirected commands = AllByRecursion (λ c. IsDirectedCommand c.1) commands
 
 -- the law: there is at most one list of replies
 abbrev pub HaveOneListOfReplies : Type 0

@@ -3,8 +3,9 @@ ghost use Rattle.std.specs.Prelude.{◌≡◌, ◌<◌, ◌≤◌, ◌+◌, ◌^
 ghost use Rattle.scene_model.specs.Answers.{AreAnswers};
 ghost use Rattle.scene_model.specs.Scene.{connectors};
 ghost use Rattle.scene_model.specs.World.{IsDirectedCommand, opened};
+ghost use Rattle.session_model.specs.Calls.{AreDirected};
 ghost use Rattle.script_replay.specs.Replied.{AreReplied, IsReplied, done_reply};
-ghost use Rattle.script_replay.specs.Replies.{AreDirected, AreReplies, searched_in, world_after};
+ghost use Rattle.script_replay.specs.Replies.{AreReplies, searched_in, world_after};
 
 use par_route::Gate;
 use report_text::{LineReply, Refusal, Reply};

@@ -1,10 +1,11 @@
 -- The results of the calls of a session, and of a list of them.
-use Rattle.std.specs.Prelude.{◌≡◌, List, [], ◌∷◌, Result, Ok, Err, OnOk, OnErr, IfErr, IsOk, map}
+use Rattle.std.specs.Prelude.{◌≡◌, ℕ, List, [], ◌∷◌, Result, Ok, Err, OnOk, OnErr, IfErr, IsOk, map}
+use Rattle.std.specs.List.{AllByRecursion}
 use Rattle.scene_model.specs.declared.fault.SessionFault.{SessionFault}
 use Rattle.scene_model.specs.declared.fault.SessionFault.TheVariants.{Memory}
 use Rattle.scene_model.specs.declared.edit.Command.{Command}
 use Rattle.scene_model.specs.declared.edit.Command.TheVariants as commands
-use Rattle.scene_model.specs.World.{World, step, rolled_back, played, refused}
+use Rattle.scene_model.specs.World.{IsDirectedCommand, World, step, rolled_back, played, refused}
 use Rattle.scene_model.specs.Answers.{AreAnswers}
 use Rattle.session_model.specs.State.{State}
 
@@ -12,6 +13,10 @@ use Rattle.session_model.specs.State.{State}
 abbrev pub IsFaultOf : Command → World → SessionFault → Type 0
 IsFaultOf c w Memory = IsOk (step c w)
 IsFaultOf c w fault = step c w ≡ Err (refused fault)
+
+-- each pin that the commands add has a direction, where each has the number of its line
+abbrev pub AreDirected : List (ℕ × Command) → Type 0
+AreDirected commands = AllByRecursion (λ c. IsDirectedCommand c.1) commands
 
 -- the property of every call: the world's step, or the world's refusal, after which there is no transaction; and right answers
 pub record IsCall (c : Command) (answer : Result Unit SessionFault) (old new : State) : Type 0 where

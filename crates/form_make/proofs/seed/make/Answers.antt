@@ -1,6 +1,6 @@
 -- The script is the one that is generated from the seed.
 use Rattle.std.proofs.Common.{◌<◌, ◌^◌, length, sym, subst, ◌∙◌}
-use Rattle.script_replay.specs.Replies.{AreDirected}
+use Rattle.session_model.specs.Calls.{AreDirected}
 use Rattle.form_make.proofs.Script.{script_directed, script_short}
 use Rattle.form_make.proofs.seed.make.Goals as goal
 

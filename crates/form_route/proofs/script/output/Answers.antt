@@ -3,8 +3,8 @@ use Rattle.std.proofs.Common.{ℕ, List, subst}
 use Rattle.std.specs.Prelude.{IfOk}
 use Rattle.gml_text.specs.View.{tree}
 use Rattle.diagram_read.specs.Scene.{scene_of}
+use Rattle.gml_scene.specs.Diagram.{EndsInDiagram}
 use Rattle.gml_scene.specs.Labels.{no_labels}
-use Rattle.form_route.specs.Diagram.{EndsInDiagram}
 use Rattle.form_route.proofs.script.output.Goals as goal
 
 pub returns : goal.returns

@@ -6,7 +6,7 @@ use Rattle.gml_text.specs.Bytes.{quote}
 use Rattle.gml_text.specs.Grammar.{Lacks}
 use Rattle.gml_scene.specs.declared.labels.Label.{Label}
 use Rattle.gml_scene.specs.Labels.{AreTexts, IsRelabelled}
-use Rattle.gml_scene.proofs.Labelling.{label_gone, others}
+use Rattle.gml_scene.proofs.Labelling.{label_gone}
 use Rattle.gml_scene.proofs.labels.remove.Goals as goal
 
 pub returns-clause-label : goal.returns-clause-label

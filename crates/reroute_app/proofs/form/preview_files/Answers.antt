@@ -6,7 +6,7 @@ use Rattle.gml_text.specs.View.{tree}
 use Rattle.scene_model.specs.declared.edit.Command.{Command}
 use Rattle.scene_model.specs.Scene.{Scene}
 use Rattle.edit_script.proofs.Directed.{have_directions}
-use Rattle.script_replay.specs.Replies.{AreDirected}
+use Rattle.session_model.specs.Calls.{AreDirected}
 use Rattle.reroute_app.specs.Reads.{Ends}
 use Rattle.report_text.specs.Outcome.{Outcome}
 use Rattle.form_preview.specs.Proposes.{Previews}

@@ -7,7 +7,7 @@ use Rattle.gml_text.proofs.Printing.{document_is_printable}
 use Rattle.scene_model.specs.declared.edit.Command.{Command}
 use Rattle.scene_model.specs.Scene.{Scene}
 use Rattle.edit_script.proofs.Directed.{have_directions}
-use Rattle.script_replay.specs.Replies.{AreDirected}
+use Rattle.session_model.specs.Calls.{AreDirected}
 use Rattle.reroute_app.specs.Reads.{Ends}
 use Rattle.report_text.specs.Outcome.{Outcome}
 use Rattle.form_route.specs.Routes.{Replays}

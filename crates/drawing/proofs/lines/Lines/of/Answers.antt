@@ -1,7 +1,7 @@
 -- The lines are those that nudging returned, in the order of the answers.
 use Rattle.std.proofs.Common.{sym, subst}
 use Rattle.scene_model.specs.Answers.{AreAnswers}
-use Rattle.form_route.proofs.Lines.{lines_are_routes}
+use Rattle.gml_scene.proofs.LinesOf.{lines_are_routes}
 use Rattle.drawing.specs.Lines.{AreDrawn}
 use Rattle.drawing.proofs.lines.Lines.of.Goals as goal
 

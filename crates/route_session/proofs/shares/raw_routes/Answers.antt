@@ -1,9 +1,9 @@
 -- One more answer has its route, or none.
 use Rattle.std.proofs.Common.{◌∙◌, ap}
-use Rattle.form_shared.specs.Shares.{edge_runs}
-use Rattle.form_shared.proofs.Routes.{none_more, one_more}
-use Rattle.form_shared.proofs.runs.raw_routes.Goals as goal
-use Rattle.form_shared.proofs.runs.raw_routes.Goals.{in-Some+in_ok-edge_runs+in_ok-push, in_default}
+use Rattle.route_session.specs.Shares.{edge_runs}
+use Rattle.route_session.proofs.RawRoutes.{none_more, one_more}
+use Rattle.route_session.proofs.shares.raw_routes.Goals as goal
+use Rattle.route_session.proofs.shares.raw_routes.Goals.{in-Some+in_ok-edge_runs+in_ok-push, in_default}
 
 pub loop-answer-preserved : goal.loop-answer-preserved
 loop-answer-preserved c =

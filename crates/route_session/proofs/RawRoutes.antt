@@ -19,8 +19,8 @@ use Rattle.nudge_phases.specs.Raw.{routed, with_number}
 use Rattle.nudge_phases.proofs.Answered.{Before, IsAnswered, answered, answered_at, few_answered, numbers_rise, routed_more}
 use Rattle.nudge_phases.proofs.FewPoints.{few_of_route}
 use Rattle.nudge_phases.proofs.RawReady.{raw_long, raw_runs as runs_of_route}
-use Rattle.form_shared.specs.Shares.{edge_runs, raw_runs}
-use Rattle.form_shared.proofs.Few.{few_raw}
+use Rattle.route_session.specs.Shares.{edge_runs, raw_runs}
+use Rattle.route_session.proofs.FewRuns.{few_raw}
 
 abbrev of_pair : ℕ × Route → EdgeRuns
 of_pair p = edge_runs p.0 p.1.points

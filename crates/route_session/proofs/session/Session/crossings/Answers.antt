@@ -7,13 +7,13 @@ use Rattle.scene_model.specs.Answers.{AreAnswers}
 use Rattle.shared_paths.specs.Listed.{runs_in}
 use Rattle.nudge_phases.specs.Nudged.{HasFewPoints}
 use Rattle.nudge_phases.specs.Raw.{routed}
-use Rattle.form_shared.specs.Shares.{line_runs}
-use Rattle.form_shared.proofs.Few.{each_line_few, few_lines}
-use Rattle.form_shared.proofs.sharing.crossings_of.Goals as goal
+use Rattle.route_session.specs.Shares.{line_runs}
+use Rattle.route_session.proofs.FewRuns.{each_line_few, few_lines}
+use Rattle.route_session.proofs.session.Session.crossings.Goals as goal
 
 pub line_crossings-requires-clause-each : goal.line_crossings-requires-clause-each
 line_crossings-requires-clause-each c =
-    let session = c.args.session.now in
+    let session = c.args.self.now in
     let n = c.in_ok-nudged.nudged in
     let valid : IsValid session.world.present = subst IsValid c.scene.ensures.scene c.valid.ensures in
     let right : AreAnswers session.world.present session.book = subst (λ s. AreAnswers s session.book) c.scene.ensures.scene c.scene.ensures.right in
@@ -22,7 +22,7 @@ line_crossings-requires-clause-each c =
 
 pub line_crossings-requires-clause-few : goal.line_crossings-requires-clause-few
 line_crossings-requires-clause-few c =
-    let session = c.args.session.now in
+    let session = c.args.self.now in
     let n = c.in_ok-nudged.nudged in
     let valid : IsValid session.world.present = subst IsValid c.scene.ensures.scene c.valid.ensures in
     let right : AreAnswers session.world.present session.book = subst (λ s. AreAnswers s session.book) c.scene.ensures.scene c.scene.ensures.right in

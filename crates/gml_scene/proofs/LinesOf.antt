@@ -1,4 +1,4 @@
--- The lines of right answers are of different connectors, in the order of the scene.
+-- The nudged lines of right answers are of different connectors, in the order of the scene.
 use Rattle.std.proofs.Common.{◌≡◌, ◌≢◌, ℕ, ◌<◌, List, [], ◌∷◌, map, sym, subst}
 use Rattle.std.specs.Prelude.{IsSomeAnd}
 use Rattle.std.specs.List.{AllByRecursion as Each}

@@ -12,7 +12,7 @@ use Rattle.walk_model.specs.declared.route.Route.{Route}
 use Rattle.walk_model.specs.declared.route.WrittenRoute.{WrittenRoute}
 use Rattle.shared_paths.specs.declared.path.EdgeRuns.{EdgeRuns}
 use Rattle.shared_paths.specs.Listed.{runs_in}
-use Rattle.form_shared.specs.Shares.{edge_runs, line_runs}
+use Rattle.route_session.specs.Shares.{edge_runs, line_runs}
 
 runs_along-le : (edge place : ℕ) (points : List Point) → length (runs_along edge place points) ≤ length points
 runs_along-le edge place [] = omega arith
