@@ -3,6 +3,29 @@ export type Corner = readonly [x: number, y: number];
 export type Lines = Map<number, readonly Corner[]>;
 export type Id = number | bigint;
 
+export interface Pin { readonly pinClass: number; readonly dx: number; readonly dy: number; readonly sides: string }
+export interface Box {
+  readonly id: Id;
+  readonly x: number;
+  readonly y: number;
+  readonly w: number;
+  readonly h: number;
+  readonly isGroup: boolean;
+  readonly pins: readonly Pin[];
+}
+export interface Connector {
+  readonly number: number;
+  readonly start: Id;
+  readonly end: Id;
+  readonly startClass: number;
+  readonly endClass: number;
+  readonly checkpoints: readonly Corner[];
+  /** Of its route in the present scene, before nudging; null if it has none. */
+  readonly cost: number | null;
+}
+export interface Settings { readonly penalty: number; readonly buffer: number; readonly nudge: number }
+export interface Scene { readonly boxes: readonly Box[]; readonly connectors: readonly Connector[]; readonly settings: Settings }
+
 /** A path that the routes of two connectors share, before nudging: `first` and `last` are runs of `a`, counted from 1. */
 export interface SharedPath {
   readonly a: number;
@@ -83,6 +106,9 @@ export class Session {
   preview(): Promise<Lines>;
   /** What `changes` would tell after that commit. */
   previewChanges(): Promise<Lines>;
+
+  /** The scene of the open transaction, if one is open, otherwise the present one. */
+  scene(): Promise<Scene>;
 
   /** Of the present scene, whether or not a transaction is open. */
   sharedPaths(): Promise<readonly SharedPath[]>;

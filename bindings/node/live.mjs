@@ -99,6 +99,28 @@ function apply(reported, lines) {
   return lines;
 }
 
+/** The scene of the lines of a reply. */
+function sceneOf(reply) {
+  const found = { boxes: [], connectors: [], settings: null };
+  for (const [word, ...rest] of reply.map(line => line.split(' '))) {
+    const numbers = rest.map(Number);
+    if (word === 'settings') {
+      found.settings = { penalty: numbers[0], buffer: numbers[1], nudge: numbers[2] };
+    } else if (word === 'box') {
+      const [, x, y, w, h] = numbers;
+      found.boxes.push({ id: number(rest[0]), x, y, w, h, isGroup: rest[5] === 'group', pins: [] });
+    } else if (word === 'pin') {
+      found.boxes.at(-1).pins.push({ pinClass: numbers[0], dx: numbers[1], dy: numbers[2], sides: rest[3] });
+    } else if (word === 'connector') {
+      found.connectors.push({ number: numbers[0], start: number(rest[1]), end: number(rest[2]), startClass: numbers[3],
+        endClass: numbers[4], checkpoints: [], cost: rest[5] === 'cost' ? numbers[6] : null });
+    } else if (word === 'checkpoint') {
+      found.connectors.at(-1).checkpoints.push(numbers);
+    }
+  }
+  return found;
+}
+
 /** The path of a line as `shared 1 2 runs 1-3: back tie, ahead left, side left`. */
 function sharedPath(line) {
   const [, a, b, , runs, , back, , ahead, , side] = line.replace(/[:,]/g, '').split(' ');
@@ -407,6 +429,11 @@ export class Session {
     this.#watching.clear();
     woken.forEach(done => done());
   }
+
+  // ---- the scene ----
+
+  /** The scene of the open transaction, if one is open, otherwise the present one. A cost is that in the present scene. */
+  async scene() { return sceneOf(await this.say('scene')); }
 
   // ---- questions about the present scene, whether or not a transaction is open ----
 

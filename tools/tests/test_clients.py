@@ -94,6 +94,19 @@ class PythonTest(LiveTest):
             session.reconnect(2, 'target', 3)
         self.assertEqual(sorted(session.lines()), [2, 4, 5])
 
+    def test_the_scene_is_that_of_the_open_transaction(self):
+        session = self.drawn()
+        boxes = [(1, 0, 0, 20, 20, False, []), (2, 100, 0, 20, 20, False, []), (3, 50, 80, 20, 40, False, [])]
+        self.assertEqual(session.scene(), (boxes, [(1, 1, 2, 0, 0, [])], {1: 100}, (50, 4, 4)))
+        with session.trial():
+            session.add_pin(3, 7, 0, -20, 'WN')
+            session.add_checkpoint(1, 1, 50, 0.5)
+            session.set('buffer', 5)
+            session.connect(3, 2, 7)
+            boxes[2][-1].append((7, 0, -20, 'WN'))
+            connectors = [(1, 1, 2, 0, 0, [(50, 0.5)]), (2, 3, 2, 7, 0, [])]
+            self.assertEqual(session.scene(), (boxes, connectors, {1: 100, 2: None}, (50, 5, 4)))
+
     def test_questions_about_the_present_scene(self):
         session = self.drawn()
         self.assertEqual((session.shared_paths(), session.crossings()), ([], 0))
@@ -255,6 +268,20 @@ await tried(() => session.transaction(() => session.reconnect(9, 'end', 3)));
 await tried(() => session.transaction(() => session.reconnect(2, 'end', 9)));
 await tried(() => session.transaction(() => session.reconnect(2, 'target', 3)));
 await session.close();''', '^2 3 4 5$', '^next 6$', '^2,4,5$', 'Refused X5 UnknownEdge 9', 'Refused X4 UnknownNode 9', 'TypeError')
+
+    def test_the_scene_is_that_of_the_open_transaction(self):
+        self.assert_says('''
+const session = await drawn();
+const told = async () => { const { boxes, connectors, settings } = await session.scene(); say(JSON.stringify([boxes[2], connectors, settings])); };
+await session.trial(async () => {
+  await session.addPin(3, 7, 0, -20, 'WN');
+  await session.addCheckpoint(1, 1, 50, 0.5);
+  await told();
+});
+await told();
+await session.close();''', r'"pins":\[{"pinClass":7,"dx":0,"dy":-20,"sides":"WN"}\]},\[{"number":1,"start":1,"end":2,"startClass":0,"endClass":0,'
+                         r'"checkpoints":\[\[50,0.5\]\],"cost":100}\],{"penalty":50,"buffer":4,"nudge":4}\]$',
+                         r'^\[{"id":3,"x":50,"y":80,"w":20,"h":40,"isGroup":false,"pins":\[\]},.*"checkpoints":\[\],"cost":100}\]')
 
     def test_questions_about_the_present_scene(self):
         self.assert_says('''

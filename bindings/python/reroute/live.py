@@ -16,12 +16,12 @@ import os
 import subprocess
 import tempfile
 import threading
-from typing import Any, BinaryIO, Iterable, Iterator, List, NamedTuple, Optional, Tuple, Union
+from typing import Any, BinaryIO, Dict, Iterable, Iterator, List, NamedTuple, Optional, Tuple, Union
 
 from ._faults import Refused, milli, whole
-from ._session import Lines, Verdict, is_target
+from ._session import Box, Connector, Lines, Pin, Settings, Verdict, is_target
 
-__all__ = ['Ended', 'Refused', 'Session', 'SharedPath', 'Verdict']
+__all__ = ['Box', 'Connector', 'Ended', 'Pin', 'Refused', 'Scene', 'Session', 'Settings', 'SharedPath', 'Verdict']
 
 SIDES = 'ESWN'
 SETTINGS = ('penalty', 'buffer', 'nudge')
@@ -42,6 +42,15 @@ class SharedPath(NamedTuple):
     back: str
     ahead: str
     side: Optional[str]
+
+
+class Scene(NamedTuple):
+    """The boxes with their pins, the connectors with their checkpoints, what the routes of these cost in the present scene,
+    None where there is none, and the settings."""
+    boxes: List[Box]
+    connectors: List[Connector]
+    costs: Dict[int, Optional[float]]
+    settings: Settings
 
 
 def units(value: float) -> str:
@@ -80,6 +89,29 @@ def verdict(line: str) -> Verdict:
     if word == 'cost':
         return Verdict(None, None, None, float(rest[0]))
     return Verdict(word, int(rest[0]) if rest else None, int(rest[2]) if word == 'Hits' else None, None)
+
+
+def scene(reply: Iterable[Any]) -> Scene:
+    """The scene of the lines of a reply."""
+    boxes: List[Box] = []
+    connectors: List[Connector] = []
+    costs: Dict[int, Optional[float]] = {}
+    settings = Settings(0.0, 0.0, 0.0)
+    for word, *rest in (line.split() for line in reply):
+        if word == 'settings':
+            settings = Settings(*map(float, rest))
+        elif word == 'box':
+            x, y, w, h = map(float, rest[1:5])
+            boxes.append(Box(int(rest[0]), x, y, w, h, rest[5:] == ['group'], []))
+        elif word == 'pin':
+            boxes[-1].pins.append(Pin(int(rest[0]), float(rest[1]), float(rest[2]), rest[3]))
+        elif word == 'connector':
+            number, start, end, start_class, end_class = map(int, rest[:5])
+            connectors.append(Connector(number, start, end, start_class, end_class, []))
+            costs[number] = float(rest[6]) if rest[5] == 'cost' else None
+        elif word == 'checkpoint':
+            connectors[-1].checkpoints.append((float(rest[0]), float(rest[1])))
+    return Scene(boxes, connectors, costs, settings)
 
 
 def copied(lines: Lines) -> Lines:
@@ -343,6 +375,10 @@ class Session:
     def preview_changes(self) -> Lines:
         """What `changes` would tell after that commit. What was told last stays."""
         return differences(self._told, self.preview())
+
+    def scene(self) -> Scene:
+        """The scene of the open transaction, if one is open, otherwise the present one."""
+        return scene(self.say('scene'))
 
     def shared_paths(self) -> List[SharedPath]:
         """The paths that the routes of the present scene share."""

@@ -5,6 +5,8 @@ use Rattle.gml_text.specs.Tree.{Pairs}
 use Rattle.gml_text.specs.declared.tree.Doc.{Doc}
 use Rattle.gml_text.specs.View.{tree}
 use Rattle.diagram_read.specs.Scene.{scene_of}
+use Rattle.walk_model.specs.declared.route.Answer.{Answer}
+use Rattle.walk_model.specs.declared.route.Route.{Route}
 use Rattle.walk_model.specs.declared.route.WrittenRoute.{WrittenRoute}
 use Rattle.scene_model.specs.declared.edit.Command.{Command}
 use Rattle.scene_model.specs.declared.fault.SessionFault.{SessionFault}
@@ -64,6 +66,15 @@ edited_scene (Some working) present = working
 -- the number that the next connector gets
 abbrev pub next_edge : World → ℕ
 next_edge w = (edited_scene w.working w.present).next_edge
+
+-- the cost of an answer's route, if it has one
+abbrev pub cost_of_route : Option Route → Option ℕ
+cost_of_route None = None
+cost_of_route (Some route) = Some route.cost
+
+abbrev pub cost_of : Option Answer → Option ℕ
+cost_of None = None
+cost_of (Some answer) = cost_of_route answer.route
 
 -- the lines of the present scene are reported, and compared with those that were reported before
 pub record Reports (old new : DrawingState) : Type 0 where

@@ -4,9 +4,10 @@ ghost use Rattle.gml_text.specs.Printed.{IsPrintable};
 ghost use Rattle.gml_text.specs.View.{tree};
 ghost use Rattle.diagram_read.specs.Scene.{scene_of};
 ghost use Rattle.scene_model.specs.Scene.{empty_scene};
+ghost use Rattle.scene_model.specs.Stale.{answer_of};
 ghost use Rattle.gml_scene.specs.Labels.{no_labels};
 ghost use Rattle.drawing.specs.Changes.{asked_of};
-ghost use Rattle.drawing.specs.Drawing.{IsOpened, IsSource, IsWritten, edited_scene, next_edge};
+ghost use Rattle.drawing.specs.Drawing.{IsOpened, IsSource, IsWritten, cost_of, edited_scene, next_edge};
 ghost use Rattle.drawing.specs.Opening.{IsOpenFault, Opens, empty_diagram};
 
 use crate::changes::Differences;
@@ -181,6 +182,19 @@ impl Drawing {
         ensures { result ≡ next_edge self.now.session.world }
     {
         self.scene().next_edge()
+    }
+
+    /// What the route of a connector of the present scene costs before nudging, length and bends, if it has one.
+    pub fn cost(&self, number: u32) -> Option<u64>
+        ensures { result ≡ cost_of (answer_of self.now.session.book number) }
+    {
+        let Some(answer) = self.session.book().answer(number) else {
+            return None;
+        };
+        match &answer.route {
+            Some(route) => Some(route.cost),
+            None => None,
+        }
     }
 
     /// The bytes of the document, with the present scene, the labels of what edits added, and its lines

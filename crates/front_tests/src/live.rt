@@ -5,4 +5,5 @@ mod faults;
 mod inputs;
 mod labels;
 mod runs;
+mod scenes;
 mod sessions;

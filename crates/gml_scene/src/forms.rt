@@ -89,8 +89,8 @@ pub(crate) fn push_via(
 }
 
 /// The letters of the directions, in the order E, S, W, N.
-fn letters_of(alloc: Global, dirs: Dirs) -> Result<Value, AllocError>
-    ensures { IfOk result (λ v. content v ≡ text (letters dirs)) }
+pub fn letters_of(alloc: Global, dirs: Dirs) -> Result<Vec<u8>, AllocError>
+    ensures { IfOk result (λ v. v.items ≡ letters dirs) }
 {
     let mut letters = Vec::new(alloc);
     if dirs.east {
@@ -105,7 +105,7 @@ fn letters_of(alloc: Global, dirs: Dirs) -> Result<Value, AllocError>
     if dirs.north {
         letters.push(b'N')?;
     }
-    Ok(Value::Text(Bytes::from_vec(letters)))
+    Ok(letters)
 }
 
 /// Appends the cost of a pin, if it is not 0.
@@ -126,7 +126,8 @@ fn pin_of(alloc: Global, pin: Pin) -> Result<Value, AllocError>
     push(alloc, &mut list, b"class", class_of(alloc, pin.class)?)?;
     push_length(alloc, &mut list, b"x", pin.dx)?;
     push_length(alloc, &mut list, b"y", pin.dy)?;
-    push(alloc, &mut list, b"dirs", letters_of(alloc, pin.dirs)?)?;
+    let letters = Bytes::from_vec(letters_of(alloc, pin.dirs)?);
+    push(alloc, &mut list, b"dirs", Value::Text(letters))?;
     push_cost(alloc, &mut list, pin.cost)?;
     Ok(Value::List(list))
 }

@@ -20,6 +20,7 @@ pub use diagram_read::{
     DiagramFault, Part, first_faults_count, line_of, numbers_agree, others_are_passed_over,
     scene_of,
 };
+pub use forms::letters_of;
 pub use labels::{Label, LabelFault, Labels};
 pub use laws::{edits_keep_origins, own_scenes_fit};
 pub use printing::{printed_diagram, push_diagram};

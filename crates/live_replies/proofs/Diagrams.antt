@@ -6,7 +6,7 @@ use Rattle.scene_model.specs.Scene.{Scene}
 use Rattle.scene_model.specs.declared.edit.Command.{Command}
 use Rattle.scene_model.specs.declared.edit.Command.TheVariants.{Begin, Edit, Commit, Abort, Undo, Redo, Bad}
 use Rattle.live_replies.specs.declared.request.Request.{Request}
-use Rattle.live_replies.specs.declared.request.Request.TheVariants.{Nothing, Do, Label, Reconnect, Preview, Lines, Gml, Next, Why, Shared, Crossings, Check, Quit as AskForEnd}
+use Rattle.live_replies.specs.declared.request.Request.TheVariants.{Nothing, Do, Label, Reconnect, Preview, Lines, Gml, Next, ReadScene, Why, Shared, Crossings, Check, Quit as AskForEnd}
 use Rattle.live_replies.specs.declared.serving.End.{End}
 use Rattle.live_replies.specs.declared.serving.End.TheVariants.{Input, Quit}
 use Rattle.live_replies.specs.declared.serving.ServeFault.{ServeFault}
@@ -51,6 +51,8 @@ module _ (old new : DrawingState) (said : List ℕ) where
   after_request Gml (inr h) = same h.0
   after_request Next (inl h) = same h.0
   after_request Next (inr h) = same h.0
+  after_request ReadScene (inl h) = same h.0
+  after_request ReadScene (inr h) = same h.0
   after_request Why (inl h) = same h.0
   after_request Why (inr h) = same h.0
   after_request Shared (inl h) = same h.0

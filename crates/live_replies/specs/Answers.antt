@@ -13,16 +13,17 @@ use Rattle.scene_model.specs.declared.fault.SessionFault.TheVariants.{Memory, No
 use Rattle.report_text.specs.declared.refusal.Refusal.TheVariants as refusals
 use Rattle.session_model.specs.Calls.{IsCall}
 use Rattle.drawing.specs.Changes.{asked_of}
-use Rattle.drawing.specs.Drawing.{DrawingState, IsWritten, RollsBack, next_edge}
+use Rattle.drawing.specs.Drawing.{DrawingState, IsWritten, RollsBack, edited_scene, next_edge}
 use Rattle.drawing.specs.Labelled.{GivesLabel}
 use Rattle.drawing.specs.declared.labels.Labelled.{Labelled}
 use Rattle.drawing.specs.Lines.{AreDrawn, AreProposed}
 use Rattle.live_replies.specs.declared.request.Request.{Request}
-use Rattle.live_replies.specs.declared.request.Request.TheVariants.{Nothing, Do, Label, Reconnect, Preview, Lines, Gml, Next, Why, Shared, Crossings, Check, Quit}
+use Rattle.live_replies.specs.declared.request.Request.TheVariants.{Nothing, Do, Label, Reconnect, Preview, Lines, Gml, Next, ReadScene, Why, Shared, Crossings, Check, Quit}
 use Rattle.live_replies.specs.Changes.{changes, changes_text}
 use Rattle.live_replies.specs.Checks.{SaysCrossings, SaysShared, SaysVerdict}
 use Rattle.live_replies.specs.Reconnect.{AnswersReconnect}
 use Rattle.live_replies.specs.Requests.{request_of}
+use Rattle.live_replies.specs.Scene.{scene_lines}
 use Rattle.live_replies.specs.Texts.{drawn_texts, gml_text, next_text, no_memory_line, ok_line, refused_line, too_long_line, unreported_line}
 use Rattle.live_replies.specs.Why.{SaysWhy}
 
@@ -100,6 +101,11 @@ ReportsDiagram old new said = (new ≡ old) × ((text : List ℕ) × IsWritten o
 abbrev pub ReportsNext : DrawingState → DrawingState → List ℕ → Type 0
 ReportsNext old new said = (new ≡ old) × (said ≡ next_text (next_edge old.session.world) ++ ok_line)
 
+-- the scene that the next edit changes: that of the open transaction, if one is open
+abbrev pub ReportsScene : DrawingState → DrawingState → List ℕ → Type 0
+ReportsScene old new said =
+    (new ≡ old) × (said ≡ scene_lines (edited_scene old.session.world.working old.session.world.present) old.session.book ++ ok_line)
+
 -- a label is given; or it has a quote, and so is no valid line; or no memory is left for it
 abbrev pub AnswersLabel : Labelled → List ℕ → DrawingState → DrawingState → List ℕ → Type 0
 AnswersLabel what text old new said =
@@ -115,6 +121,7 @@ Answers Preview old new said = AnswersPreview old.session.world.working old new 
 Answers Lines old new said = ReportsLines old new said ⊎ AnswersNoMemory old new said
 Answers Gml old new said = ReportsDiagram old new said ⊎ AnswersNoMemory old new said
 Answers Next old new said = ReportsNext old new said ⊎ AnswersNoMemory old new said
+Answers ReadScene old new said = ReportsScene old new said ⊎ AnswersNoMemory old new said
 Answers Why old new said = ((new ≡ old) × SaysWhy old.session said) ⊎ AnswersNoMemory old new said
 Answers Shared old new said = ((new ≡ old) × SaysShared old.session said) ⊎ AnswersNoMemory old new said
 Answers Crossings old new said = ((new ≡ old) × SaysCrossings old.session said) ⊎ AnswersNoMemory old new said

@@ -1,5 +1,6 @@
 -- The replies of a session beside an editor.
 pub mod Texts
+pub mod Scene
 pub mod Changes
 pub mod Forms
 pub mod Requests

@@ -9,7 +9,7 @@ use Rattle.edit_script.specs.Values.{count_of, id_of_word}
 use Rattle.drawing.specs.declared.labels.Labelled.{Labelled}
 use Rattle.drawing.specs.declared.labels.Labelled.TheVariants as labelled
 use Rattle.live_replies.specs.declared.request.Request.{Request}
-use Rattle.live_replies.specs.declared.request.Request.TheVariants.{Nothing, Do, Label, Reconnect, Preview, Lines, Gml, Next, Why, Shared, Crossings, Check, Quit}
+use Rattle.live_replies.specs.declared.request.Request.TheVariants.{Nothing, Do, Label, Reconnect, Preview, Lines, Gml, Next, ReadScene, Why, Shared, Crossings, Check, Quit}
 use Rattle.live_replies.specs.Forms.{named_request}
 
 -- the first of the commands, or nothing
@@ -71,6 +71,7 @@ request_of line =
     else if is_word (codes "lines") line then Lines
     else if is_word (codes "gml") line then Gml
     else if is_word (codes "next") line then Next
+    else if is_word (codes "scene") line then ReadScene
     else if is_word (codes "why") line then Why
     else if is_word (codes "shared") line then Shared
     else if is_word (codes "crossings") line then Crossings
@@ -88,6 +89,7 @@ IsDirectedRequest Preview = ⊤
 IsDirectedRequest Lines = ⊤
 IsDirectedRequest Gml = ⊤
 IsDirectedRequest Next = ⊤
+IsDirectedRequest ReadScene = ⊤
 IsDirectedRequest Why = ⊤
 IsDirectedRequest Shared = ⊤
 IsDirectedRequest Crossings = ⊤

@@ -10,6 +10,7 @@ mod live;
 mod reconnect;
 mod reply;
 mod request;
+mod scene;
 mod serving;
 mod text;
 mod why;

@@ -1,5 +1,6 @@
 //! The lines of replies.
 ghost use Rattle.std.specs.Prelude.{◌≡◌, ◌++◌, OnOk, codes, decimal};
+ghost use Rattle.std.specs.Fmt.{signed_decimal};
 ghost use Rattle.std.specs.List.{flat_map};
 ghost use Rattle.fixed_milli.specs.Milli.{milli_text};
 ghost use Rattle.live_replies.specs.Texts.{connector_text, corner_text, corners_text, drawn_text, drawn_texts, gml_text, gone_text, next_text, ok_line};
@@ -18,15 +19,29 @@ pub(crate) fn push_numbered(out: &mut Vec<u8>, text: &[u8], number: u64) -> Resu
     out.extend_from_slice(buffer.format(number).as_bytes())
 }
 
+/// Appends a text and the id of a box after it.
+pub(crate) fn push_with_id(out: &mut Vec<u8>, text: &[u8], id: i64) -> Result<(), AllocError>
+    ensures { OnOk result (out.new.items ≡ out.old.items ++ (text.now ++ signed_decimal id)) }
+{
+    let mut buffer = Buffer::new();
+    out.extend_from_slice(text)?;
+    out.extend_from_slice(buffer.format(id).as_bytes())
+}
+
 /// Appends a space and a length in units.
-fn push_milli(alloc: Global, out: &mut Vec<u8>, value: i64) -> Result<(), AllocError>
+pub(crate) fn push_milli(alloc: Global, out: &mut Vec<u8>, value: i64) -> Result<(), AllocError>
     ensures { OnOk result (out.new.items ≡ out.old.items ++ (codes " " ++ milli_text value)) }
 {
     out.push(b' ')?;
     report_text::push_milli(out, value)
 }
 
-fn push_corner(alloc: Global, out: &mut Vec<u8>, corner: &Point) -> Result<(), AllocError>
+/// Appends a corner.
+pub(crate) fn push_corner(
+    alloc: Global,
+    out: &mut Vec<u8>,
+    corner: &Point,
+) -> Result<(), AllocError>
     ensures { OnOk result (out.new.items ≡ out.old.items ++ corner_text corner.now) }
 {
     push_milli(alloc, out, corner.x)?;

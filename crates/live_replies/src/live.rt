@@ -21,6 +21,7 @@ use crate::checks::{crossings_text, report_verdict, shared_text};
 use crate::reconnect::report_reconnect;
 use crate::reply::{Said, refused};
 use crate::request::{Request, is_quit, request_of};
+use crate::scene::scene_text;
 use crate::text::{changes_text, gml_text, lines_text, next_text};
 use crate::why::why_text;
 use drawing::{Compared, Drawing, LabelFault, Labelled};
@@ -262,6 +263,7 @@ impl Live {
             Request::Lines => self.report_lines(),
             Request::Gml => Said::of(self.diagram()),
             Request::Next => Said::of(self.next()),
+            Request::ReadScene => Said::of(scene_text(self.alloc, &self.drawing)),
             Request::Why => Said::of(why_text(self.alloc, self.drawing.session())),
             Request::Shared => Said::of(shared_text(self.alloc, &self.drawing)),
             Request::Crossings => Said::of(crossings_text(self.alloc, &self.drawing)),

@@ -39,6 +39,8 @@ pub enum Request {
     Gml,
     /// The number of the next connector that is added.
     Next,
+    /// The scene.
+    ReadScene,
     /// Why connectors have no route.
     Why,
     /// The paths that routes share.
@@ -178,6 +180,8 @@ pub(crate) fn request_of(alloc: Global, line: &[u8]) -> Result<Request, AllocErr
         Ok(Request::Gml)
     } else if is_word(b"next", line) {
         Ok(Request::Next)
+    } else if is_word(b"scene", line) {
+        Ok(Request::ReadScene)
     } else if is_word(b"why", line) {
         Ok(Request::Why)
     } else if is_word(b"shared", line) {

@@ -1,22 +1,11 @@
 //! What is said of the connectors that have no route.
 ghost use Rattle.std.specs.Prelude.{◌≡◌, ◌++◌, IfOk, OnOk};
-ghost use Rattle.std.specs.Fmt.{signed_decimal};
 ghost use Rattle.live_replies.specs.Why.{SaysWhy, cause_text, unrouted_text, unrouted_texts};
 
-use crate::line::{push_numbered, push_ok};
-use itoa::Buffer;
+use crate::line::{push_numbered, push_ok, push_with_id};
 use route_causes::{Cause, End, Unrouted, all_unrouted};
 use route_session::Session;
 use std::alloc::{AllocError, Global};
-
-/// Appends a text and the id of a box after it.
-fn push_with_id(out: &mut Vec<u8>, text: &[u8], id: i64) -> Result<(), AllocError>
-    ensures { OnOk result (out.new.items ≡ out.old.items ++ (text.now ++ signed_decimal id)) }
-{
-    let mut buffer = Buffer::new();
-    out.extend_from_slice(text)?;
-    out.extend_from_slice(buffer.format(id).as_bytes())
-}
 
 /// Appends a cause, with the id of its box last.
 fn push_cause(out: &mut Vec<u8>, cause: Cause) -> Result<(), AllocError>

@@ -32,6 +32,6 @@ pub use outcome::{Outcome, no_diagram};
 pub use preview::{push_preview_lines, push_refused_preview};
 pub use refusal::{Refusal, push_refusal};
 pub use reply::{LineReply, Reply, push_end_line, push_open_line, push_reply_lines};
-pub use routed::{EdgeRouted, Routed, push_routed_lines};
+pub use routed::{EdgeRouted, Routed, push_routed, push_routed_lines};
 pub use shared::{push_crossings_line, push_shared_lines};
 pub use status::Status;

@@ -45,7 +45,8 @@ fn push_routed_line(out: &mut Vec<u8>, edge: &EdgeRouted) -> Result<(), AllocErr
     Ok(())
 }
 
-pub(crate) fn push_routed(out: &mut Vec<u8>, routed: &Routed) -> Result<(), AllocError>
+/// Appends how an edge is routed.
+pub fn push_routed(out: &mut Vec<u8>, routed: &Routed) -> Result<(), AllocError>
     ensures { OnOk result (out.new.items ≡ out.old.items ++ routed_text routed.now) }
 {
     match *routed {

@@ -1,8 +1,6 @@
 -- The lines as C reads them.
 use Rattle.std.specs.Prelude.{◌≡◌, ℕ, Bool, true, false, length, Option, None, Some, slice_get, unwrap_or}
 use Rattle.plane_geom.specs.declared.point.Point.{Point}
-use Rattle.walk_model.specs.declared.route.Answer.{Answer}
-use Rattle.walk_model.specs.declared.route.Route.{Route}
 use Rattle.walk_model.specs.declared.route.WrittenRoute.{WrittenRoute}
 use Rattle.drawing.specs.Drawing.{DrawingState}
 use Rattle.scene_model.specs.declared.fault.SessionFault.{SessionFault}
@@ -50,15 +48,6 @@ corner_at d place at = corner_of (slice_get d.asked.lines place) at
 abbrev pub IsWritten : Option Point → Bool → Corner → Corner → Type 0
 IsWritten None there old new = (there ≡ false) × (new ≡ old)
 IsWritten (Some p) there old new = (there ≡ true) × (new ≡ record { x = p.x; y = p.y })
-
--- the cost of an answer's route, if it has one
-abbrev pub cost_of_route : Option Route → Option ℕ
-cost_of_route None = None
-cost_of_route (Some route) = Some route.cost
-
-abbrev pub cost_of : Option Answer → Option ℕ
-cost_of None = None
-cost_of (Some answer) = cost_of_route answer.route
 
 -- the cost is written if there is one; otherwise nothing is
 abbrev pub IsCost : Option ℕ → Bool → ℕ → ℕ → Type 0

@@ -1,8 +1,8 @@
 //! The lines: of the present scene or of a preview, their corners, their costs, which changed, and which are gone.
 ghost use Rattle.std.specs.Prelude.{◌≡◌, ◌≢◌, IfSome, IsNone, IsSome, false, length};
-ghost use Rattle.drawing.specs.Drawing.{Previews, Reports};
+ghost use Rattle.drawing.specs.Drawing.{Previews, Reports, cost_of};
 ghost use Rattle.reroute_c.specs.Codes.{memory_fault};
-ghost use Rattle.reroute_c.specs.Lines.{IsCost, IsUnpreviewed, IsWritten, corner_at, cost_of, gone_at, line_at, no_line};
+ghost use Rattle.reroute_c.specs.Lines.{IsCost, IsUnpreviewed, IsWritten, corner_at, gone_at, line_at, no_line};
 ghost use Rattle.reroute_c.specs.Open.{IfOpen, IsRefusedClosed};
 ghost use Rattle.scene_model.specs.Stale.{answer_of};
 
@@ -201,13 +201,10 @@ pub extern "C" fn reroute_corner(
 fn write_cost(drawing: &Drawing, connector: u32, cost: &mut u64) -> bool
     ensures { IsCost (cost_of (answer_of drawing.now.session.book connector)) result cost.old cost.new }
 {
-    let Some(answer) = drawing.session().book().answer(connector) else {
+    let Some(found) = drawing.cost(connector) else {
         return false;
     };
-    let Some(route) = &answer.route else {
-        return false;
-    };
-    *cost = route.cost;
+    *cost = found;
     true
 }
 
