@@ -139,7 +139,7 @@ export class Session {
   settings(): Settings;
   /** All three. */
   scene(): Scene;
-  /** Of the present scene, whether or not a transaction is open. */
+  /** How many boxes and connectors it has. */
   readonly boxCount: number;
   readonly connectorCount: number;
   readonly next: number;

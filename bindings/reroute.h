@@ -200,9 +200,6 @@ uint32_t reroute_gone(reroute_session *session, size_t place);
 bool reroute_cost(reroute_session *session, uint32_t number, uint64_t *cost);
 /* How many searches the session has made; 0 if it is closed. */
 uint64_t reroute_searched(reroute_session *session);
-/* How many boxes the present scene has, and how many connectors between two of them; 0 if the session is closed. */
-size_t reroute_box_count(reroute_session *session);
-size_t reroute_connector_count(reroute_session *session);
 /* A path that the routes of two connectors share, before nudging. a stands earlier in the scene than b. Runs are the straight
  * pieces of a route, counted from 1: the path has the runs from first to last of a, and those from b_first to b_last of b, which
  * count down where b goes the other way. back is the end where the path begins, seen along a, and ahead that where it ends:
@@ -236,8 +233,11 @@ typedef struct reroute_verdict { uint32_t breach; uint32_t place; int64_t box; u
 reroute_fault reroute_check(reroute_session *session, uint32_t connector, const reroute_point *corners, size_t count, reroute_verdict *verdict);
 
 /* --- The scene, by places: that of the open transaction if one is open, otherwise the present one ------------------- */
-/* Each call writes what has the place, from 0, and returns true; it returns false and writes nothing if nothing has the place,
+/* Each call with a place writes what has it, from 0, and returns true; it returns false and writes nothing if nothing has the place,
  * or the session is closed. What is written to is not NULL. Places stay until the next edit, commit, undo or redo. */
+/* How many boxes have a place, and how many connectors, those from a box to itself among them; 0 if the session is closed. */
+size_t reroute_box_count(reroute_session *session);
+size_t reroute_connector_count(reroute_session *session);
 /* A box: its id, its centre, its whole width and height, how many pins it has, and whether it is a group, which lines may
  * cross. A width or a height that was not even is told rounded up to an even number. */
 typedef struct reroute_box_info { int64_t id, x, y, w, h; size_t pins; bool group; } reroute_box_info;

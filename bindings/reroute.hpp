@@ -258,7 +258,7 @@ public:
         if (!reroute_settings(at(), &found)) throw Refused({REROUTE_NO_SESSION, 0});
         return {units(found.penalty), units(found.buffer), units(found.nudge)};
     }
-    // Of the present scene, whether or not a transaction is open.
+    // How many boxes and connectors there are in it.
     std::size_t boxCount() const { return reroute_box_count(at()); }
     std::size_t connectorCount() const { return reroute_connector_count(at()); }
     // The number that the next connector gets.

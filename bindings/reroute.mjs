@@ -383,7 +383,7 @@ export class Session {
   }
   /** All three. */
   scene() { return { boxes: this.boxes(), connectors: this.connectors(), settings: this.settings() }; }
-  /** How many boxes and connectors the present scene has, whether or not a transaction is open. */
+  /** How many boxes and connectors it has. */
   get boxCount() { return this.#call('box_count', this.#handle); }
   get connectorCount() { return this.#call('connector_count', this.#handle); }
   /** The number that the next connector gets. */

@@ -74,7 +74,7 @@ static void draw(reroute_session *s) {
     WANT(reroute_next(s) == 1);
     DONE(reroute_connect(s, 1, 0, 2, 0, &number));
     WANT(number == 1 && reroute_next(s) == 2);
-    WANT(reroute_box_count(s) == 0 && reroute_connector_count(s) == 0);
+    WANT(reroute_box_count(s) == 3 && reroute_connector_count(s) == 1);
     DONE(reroute_commit(s));
     WANT(reroute_box_count(s) == 3 && reroute_connector_count(s) == 1);
     costs(s, 1, 100000);
@@ -452,13 +452,13 @@ static void reconnect(reroute_session *s) {
     reroute_point point;
     DONE(reroute_begin(s));
     DONE(reroute_reconnect(s, 1, false, 3, 0, &number));
-    WANT(number == 4 && reroute_next(s) == 5 && reroute_connector_count(s) == 2);
+    WANT(number == 4 && reroute_next(s) == 5 && reroute_connector_count(s) == 3);
     WANT(reroute_connector(s, 2, &connector) && connector.number == 4 && connector.from == 3 && connector.to == 2);
     WANT(connector.checkpoints == 1 && reroute_checkpoint(s, 2, 0, &point) && point.x == 50000 && point.y == 30000);
     DONE(reroute_reconnect(s, 4, true, 1, 0, &number));
     WANT(number == 5 && reroute_connector(s, 2, &connector) && connector.from == 3 && connector.to == 1);
     DONE(reroute_commit(s));
-    WANT(reroute_connector_count(s) == 2 && reroute_next(s) == 6);
+    WANT(reroute_connector_count(s) == 3 && reroute_next(s) == 6);
     DONE(reroute_undo(s));
     WANT(reroute_connector(s, 0, &connector) && connector.number == 1 && connector.from == 1 && connector.to == 2);
 }
@@ -476,7 +476,7 @@ static void no_reconnect(reroute_session *s) {
     DONE(reroute_begin(s));
     REFUSES(reroute_reconnect(s, 1, true, 3, 5, &number), REROUTE_UNKNOWN_PIN_CLASS, 5);
     REFUSES(reroute_commit(s), REROUTE_NO_TRANSACTION, 0);
-    WANT(number == 7 && reroute_connector_count(s) == 2 && reroute_next(s) == 4);
+    WANT(number == 7 && reroute_connector_count(s) == 3 && reroute_next(s) == 4);
 }
 
 static void questions(reroute_session *s) {

@@ -364,12 +364,12 @@ class Session:
 
     @property
     def box_count(self) -> int:
-        """How many boxes the present scene has, whether or not a transaction is open."""
+        """How many boxes `boxes` has."""
         return self._library.reroute_box_count(self._handle)
 
     @property
     def connector_count(self) -> int:
-        """How many connectors the present scene has, whether or not a transaction is open."""
+        """How many connectors `connectors` has."""
         return self._library.reroute_connector_count(self._handle)
 
     # ---- labels and texts ----
