@@ -24,13 +24,13 @@ unjudged s number corners = first_some (
     ∷ option_map (λ place. OutOfRange (2 * place + 3)) (position is_off_sheet corners) ∷ [])
 
 -- the verdict on the line, for the task of the connector
-pub record IsJudged (s : Scene) (number : ℕ) (corners : List Point) (verdict : Result ℕ Breach) : Type 0 where
+pub record IsLineJudged (s : Scene) (number : ℕ) (corners : List Point) (verdict : Result ℕ Breach) : Type 0 where
   pub edge : Edge
   pub is_edge : edge_with s number ≡ Some edge
   pub is_verdict : IsVerdict (solids s) (task_of s edge) corners verdict
 
 -- the line is judged, or there is this reason why not, or no memory is left
 abbrev pub IsChecked : Scene → ℕ → List Point → Result (Result ℕ Breach) SceneFault → Type 0
-IsChecked s number corners (Ok verdict) = IsJudged s number corners verdict
+IsChecked s number corners (Ok verdict) = IsLineJudged s number corners verdict
 IsChecked s number corners (Err Memory) = Unit {0}
 IsChecked s number corners (Err fault) = unjudged s number corners ≡ Some fault

@@ -23,9 +23,9 @@ IsRefused c NoForm old new = (c ≡ Bad) × RollsBack old new
 IsRefused c (Refused fault) old new = IsDrawingCall c (Err fault) old new
 
 -- the command is done, or refused
-abbrev pub IsAnswered : Command → Option Why → DrawingState → DrawingState → Type 0
-IsAnswered c None old new = IsDrawingCall c (Ok tt) old new
-IsAnswered c (Some why) old new = IsRefused c why old new
+abbrev pub IsCommandPlayed : Command → Option Why → DrawingState → DrawingState → Type 0
+IsCommandPlayed c None old new = IsDrawingCall c (Ok tt) old new
+IsCommandPlayed c (Some why) old new = IsRefused c why old new
 
 -- the commands before one of this line are done, and it is refused
 pub record StopsAt (commands : List (ℕ × Command)) (stopped : Stopped) (old new : DrawingState) : Type 0 where

@@ -1,6 +1,6 @@
 //! The verdict on a line that is given for a connector of the present scene.
 ghost use Rattle.std.specs.Prelude.{◌≡◌, IfOk, None, position};
-ghost use Rattle.drawing.specs.Checks.{IsChecked, IsJudged, is_off_sheet, unjudged};
+ghost use Rattle.drawing.specs.Checks.{IsChecked, IsLineJudged, is_off_sheet, unjudged};
 
 use crate::drawing::Drawing;
 use plane_geom::{Point, is_coordinate};
@@ -42,7 +42,7 @@ fn unjudged(scene: &Scene, number: u32, corners: &[Point]) -> Option<SceneFault>
 /// The verdict on a line that can be judged. The only error is out of memory.
 fn judged(scene: &Scene, number: u32, corners: &[Point]) -> Result<Result<u64, Breach>, AllocError>
     requires { unjudged scene.now number corners.now ≡ None }
-    ensures { IfOk result (IsJudged scene.now number corners.now) }
+    ensures { IfOk result (IsLineJudged scene.now number corners.now) }
 {
     let floor = scene.floor()?;
     let task = scene.task(number)?;

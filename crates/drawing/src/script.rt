@@ -3,7 +3,7 @@ ghost use Rattle.std.specs.Prelude.{◌≡◌, IfOk, OnErr};
 ghost use Rattle.edit_script.specs.Script.{commands};
 ghost use Rattle.scene_model.specs.World.{IsDirectedCommand};
 ghost use Rattle.session_model.specs.Calls.{AreDirected};
-ghost use Rattle.drawing.specs.Played.{IsAnswered, IsPlayed};
+ghost use Rattle.drawing.specs.Played.{IsCommandPlayed, IsPlayed};
 
 use crate::drawing::Drawing;
 use edit_script::{commands, scripts_have_directions};
@@ -32,7 +32,7 @@ impl Drawing {
     /// refused, if it is.
     fn answer(&mut self, command: &Command) -> Option<Why>
         requires { IsDirectedCommand command.now }
-        ensures { IsAnswered command.now result self.old self.new }
+        ensures { IsCommandPlayed command.now result self.old self.new }
     {
         if matches!(command, Command::Bad) {
             self.roll_back();

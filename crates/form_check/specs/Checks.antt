@@ -33,7 +33,7 @@ first_line_fault tree [] = None
 first_line_fault tree (e ∷ es) = option_or (line_fault tree e) (first_line_fault tree es)
 
 -- the result for a line of a connector: the verdict on it, for the task of the connector, if it can be judged
-pub record IsJudged (s : Scene) (e : Edge) (points : List Point) (f : Finding) : Type 0 where
+pub record IsEdgeJudged (s : Scene) (e : Edge) (points : List Point) (f : Finding) : Type 0 where
   pub verdict : Result ℕ Breach
   pub task : IsTask (task_of s e)
   pub is_verdict : IsVerdict (solids s) (task_of s e) points verdict
@@ -42,7 +42,7 @@ pub record IsJudged (s : Scene) (e : Edge) (points : List Point) (f : Finding) :
 -- the result for a connector with this reading of its line
 abbrev pub IsLineFinding : Scene → Edge → Result (Option (List Point)) DiagramFault → Finding → Type 0
 IsLineFinding s e (Ok None) finding = finding ≡ NoLine
-IsLineFinding s e (Ok (Some points)) finding = IsJudged s e points finding
+IsLineFinding s e (Ok (Some points)) finding = IsEdgeJudged s e points finding
 IsLineFinding s e (Err fault) finding = ⊥
 
 -- the result for an edge that is a loop or not, and with this reading of its line

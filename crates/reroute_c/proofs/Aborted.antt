@@ -7,7 +7,7 @@ use Rattle.scene_model.specs.declared.fault.SessionFault.{SessionFault}
 use Rattle.route_session.specs.Runs.{IsRefusable}
 use Rattle.drawing.specs.Drawing.{DrawingState}
 use Rattle.reroute_c.specs.declared.fault.Fault.{Fault}
-use Rattle.reroute_c.specs.Codes.{IsAnswered, call_fault, fault_of, no_fault, no_transaction_fault}
+use Rattle.reroute_c.specs.Codes.{IsFaultAnswered, call_fault, fault_of, no_fault, no_transaction_fault}
 use Rattle.reroute_c.specs.Open.{IfOpen}
 
 abbrev IsAbortFault : Fault → Type 0
@@ -17,7 +17,7 @@ of_answer : (answer : Result Unit SessionFault) (fault : Fault) → fault ≡ fa
 of_answer (Ok done) fault is why = inl is
 of_answer (Err f) fault is why = inr (is ∙ ap call_fault why)
 
-pub aborted : (old new : Option DrawingState) (fault : Fault) → IsSome old → IsSome new → IfOpen old new (IsAnswered Abort fault) → IsAbortFault fault
+pub aborted : (old new : Option DrawingState) (fault : Fault) → IsSome old → IsSome new → IfOpen old new (IsFaultAnswered Abort fault) → IsAbortFault fault
 aborted None new fault was_open there call = absurd (false≢true was_open)
 aborted (Some s) None fault was_open there call = absurd (false≢true there)
 aborted (Some s) (Some n) fault was_open there call = of_answer call.0 fault call.1 call.2.refusable

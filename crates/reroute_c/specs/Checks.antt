@@ -13,7 +13,7 @@ use Rattle.scene_model.specs.declared.fault.SceneFault.{SceneFault}
 use Rattle.scene_model.specs.Scene.{Scene}
 use Rattle.route_session.specs.Shares.{raw_runs}
 use Rattle.drawing.specs.Drawing.{DrawingState}
-use Rattle.drawing.specs.Checks.{IsChecked, IsJudged}
+use Rattle.drawing.specs.Checks.{IsChecked, IsLineJudged}
 use Rattle.reroute_c.specs.declared.checks.SharedInfo.{SharedInfo}
 use Rattle.reroute_c.specs.declared.checks.Verdict.{Verdict}
 use Rattle.reroute_c.specs.declared.fault.Fault.{Fault}
@@ -76,7 +76,7 @@ verdict_info (Err breach) = breach_info breach
 
 -- the line is judged, and this is the verdict
 abbrev pub IsVerdictOn : Scene → ℕ → List Corner → Verdict → Type 0
-IsVerdictOn s connector corners info = (verdict : Result ℕ Breach) × IsJudged s connector (map point_of corners) verdict × (info ≡ verdict_info verdict)
+IsVerdictOn s connector corners info = (verdict : Result ℕ Breach) × IsLineJudged s connector (map point_of corners) verdict × (info ≡ verdict_info verdict)
 
 -- the line is not judged, and this is reported
 abbrev pub IsUnjudged : Scene → ℕ → List Corner → Fault → Type 0

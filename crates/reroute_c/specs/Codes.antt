@@ -61,5 +61,5 @@ fault_of (Ok done) = no_fault
 fault_of (Err fault) = call_fault fault
 
 -- the session's call of the command has an answer with this fault
-abbrev pub IsAnswered : Command → Fault → DrawingState → DrawingState → Type 0
-IsAnswered c fault old new = (answer : Result Unit SessionFault) × (fault ≡ fault_of answer) × IsDrawingCall c answer old new
+abbrev pub IsFaultAnswered : Command → Fault → DrawingState → DrawingState → Type 0
+IsFaultAnswered c fault old new = (answer : Result Unit SessionFault) × (fault ≡ fault_of answer) × IsDrawingCall c answer old new

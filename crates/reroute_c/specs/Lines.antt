@@ -45,9 +45,9 @@ abbrev pub corner_at : DrawingState → ℕ → ℕ → Option Point
 corner_at d place at = corner_of (slice_get d.asked.lines place) at
 
 -- the corner is written if there is one; otherwise nothing is
-abbrev pub IsWritten : Option Point → Bool → Corner → Corner → Type 0
-IsWritten None there old new = (there ≡ false) × (new ≡ old)
-IsWritten (Some p) there old new = (there ≡ true) × (new ≡ record { x = p.x; y = p.y })
+abbrev pub IsCornerWritten : Option Point → Bool → Corner → Corner → Type 0
+IsCornerWritten None there old new = (there ≡ false) × (new ≡ old)
+IsCornerWritten (Some p) there old new = (there ≡ true) × (new ≡ record { x = p.x; y = p.y })
 
 -- the cost is written if there is one; otherwise nothing is
 abbrev pub IsCost : Option ℕ → Bool → ℕ → ℕ → Type 0

@@ -1,6 +1,6 @@
 //! The calls of a session: open, close, transactions, undo and redo.
 ghost use Rattle.std.specs.Prelude.{◌≡◌, ◌≢◌, ◌⊎◌, IfSome, IsNone, IsSome, None};
-ghost use Rattle.reroute_c.specs.Codes.{IsAnswered, already_open_fault, memory_fault, no_fault, no_transaction_fault};
+ghost use Rattle.reroute_c.specs.Codes.{IsFaultAnswered, already_open_fault, memory_fault, no_fault, no_transaction_fault};
 ghost use Rattle.reroute_c.specs.Open.{IfOpen, IsOpenedEmpty, IsRefusedClosed};
 ghost use Rattle.scene_model.specs.World.{IsDirectedCommand};
 ghost use Rattle.scene_model.specs.declared.edit.Command.TheVariants as commands;
@@ -70,7 +70,7 @@ pub(crate) fn call(handle: &mut Handle, command: &Command) -> Fault
     requires form { command.now ≢ commands.Bad }
     ensures closed { IsNone handle.old.drawing → IsRefusedClosed result handle.new.drawing }
     ensures open { IsSome handle.old.drawing → IsSome handle.new.drawing }
-    ensures call { IfOpen handle.old.drawing handle.new.drawing (IsAnswered command.now result) }
+    ensures call { IfOpen handle.old.drawing handle.new.drawing (IsFaultAnswered command.now result) }
 {
     let Some(mut drawing) = handle.take() else {
         return Fault::closed();
@@ -85,7 +85,7 @@ pub(crate) fn call(handle: &mut Handle, command: &Command) -> Fault
 pub extern "C" fn reroute_begin(handle: &mut Handle) -> Fault
     ensures closed { IsNone handle.old.drawing → IsRefusedClosed result handle.new.drawing }
     ensures open { IsSome handle.old.drawing → IsSome handle.new.drawing }
-    ensures call { IfOpen handle.old.drawing handle.new.drawing (IsAnswered commands.Begin result) }
+    ensures call { IfOpen handle.old.drawing handle.new.drawing (IsFaultAnswered commands.Begin result) }
 {
     call(handle, &Command::Begin)
 }
@@ -95,7 +95,7 @@ pub extern "C" fn reroute_begin(handle: &mut Handle) -> Fault
 pub extern "C" fn reroute_commit(handle: &mut Handle) -> Fault
     ensures closed { IsNone handle.old.drawing → IsRefusedClosed result handle.new.drawing }
     ensures open { IsSome handle.old.drawing → IsSome handle.new.drawing }
-    ensures call { IfOpen handle.old.drawing handle.new.drawing (IsAnswered commands.Commit result) }
+    ensures call { IfOpen handle.old.drawing handle.new.drawing (IsFaultAnswered commands.Commit result) }
 {
     call(handle, &Command::Commit)
 }
@@ -106,7 +106,7 @@ pub extern "C" fn reroute_abort(handle: &mut Handle) -> Fault
     ensures faults { IsSome handle.old.drawing → (result ≡ no_fault) ⊎ (result ≡ no_transaction_fault) }
     ensures closed { IsNone handle.old.drawing → IsRefusedClosed result handle.new.drawing }
     ensures open { IsSome handle.old.drawing → IsSome handle.new.drawing }
-    ensures call { IfOpen handle.old.drawing handle.new.drawing (IsAnswered commands.Abort result) }
+    ensures call { IfOpen handle.old.drawing handle.new.drawing (IsFaultAnswered commands.Abort result) }
 {
     call(handle, &Command::Abort)
 }
@@ -116,7 +116,7 @@ pub extern "C" fn reroute_abort(handle: &mut Handle) -> Fault
 pub extern "C" fn reroute_undo(handle: &mut Handle) -> Fault
     ensures closed { IsNone handle.old.drawing → IsRefusedClosed result handle.new.drawing }
     ensures open { IsSome handle.old.drawing → IsSome handle.new.drawing }
-    ensures call { IfOpen handle.old.drawing handle.new.drawing (IsAnswered commands.Undo result) }
+    ensures call { IfOpen handle.old.drawing handle.new.drawing (IsFaultAnswered commands.Undo result) }
 {
     call(handle, &Command::Undo)
 }
@@ -126,7 +126,7 @@ pub extern "C" fn reroute_undo(handle: &mut Handle) -> Fault
 pub extern "C" fn reroute_redo(handle: &mut Handle) -> Fault
     ensures closed { IsNone handle.old.drawing → IsRefusedClosed result handle.new.drawing }
     ensures open { IsSome handle.old.drawing → IsSome handle.new.drawing }
-    ensures call { IfOpen handle.old.drawing handle.new.drawing (IsAnswered commands.Redo result) }
+    ensures call { IfOpen handle.old.drawing handle.new.drawing (IsFaultAnswered commands.Redo result) }
 {
     call(handle, &Command::Redo)
 }

@@ -2,7 +2,7 @@
 //!
 //! Each is refused as the working scene refuses it; then no transaction is open any more.
 ghost use Rattle.std.specs.Prelude.{◌≡◌, ◌≢◌, ◌<◌, ◌≤◌, ◌^◌, IfSome, IsNone, IsSome, false, true, unsigned_abs};
-ghost use Rattle.reroute_c.specs.Codes.{IsAnswered, syntax_fault};
+ghost use Rattle.reroute_c.specs.Codes.{IsFaultAnswered, syntax_fault};
 ghost use Rattle.drawing.specs.Drawing.{next_edge};
 ghost use Rattle.reroute_c.specs.Edits.{IsRolledBack, Reconnects, dirs_of, end_of, has_direction, long_id_fault};
 ghost use Rattle.reroute_c.specs.Open.{IfOpen, IsRefusedClosed};
@@ -36,7 +36,7 @@ fn edit(handle: &mut Handle, edit: Edit) -> Fault
     requires { IsDirected edit }
     ensures closed { IsNone handle.old.drawing → IsRefusedClosed result handle.new.drawing }
     ensures open { IsSome handle.old.drawing → IsSome handle.new.drawing }
-    ensures call { IfOpen handle.old.drawing handle.new.drawing (IsAnswered (commands.Edit edit) result) }
+    ensures call { IfOpen handle.old.drawing handle.new.drawing (IsFaultAnswered (commands.Edit edit) result) }
 {
     call(handle, &Command::Edit(edit))
 }
@@ -55,7 +55,7 @@ pub extern "C" fn reroute_add_box(
 ) -> Fault
     ensures closed { IsNone handle.old.drawing → IsRefusedClosed result handle.new.drawing }
     ensures open { IsSome handle.old.drawing → IsSome handle.new.drawing }
-    ensures call { unsigned_abs id < 10 ^ 18 → IfOpen handle.old.drawing handle.new.drawing (IsAnswered (commands.Edit (edits.AddNode id x y w h)) result) }
+    ensures call { unsigned_abs id < 10 ^ 18 → IfOpen handle.old.drawing handle.new.drawing (IsFaultAnswered (commands.Edit (edits.AddNode id x y w h)) result) }
     ensures long { 10 ^ 18 ≤ unsigned_abs id → IfOpen handle.old.drawing handle.new.drawing (IsRolledBack long_id_fault result) }
 {
     if LEAST_LONG_ID <= id.unsigned_abs() {
@@ -69,7 +69,7 @@ pub extern "C" fn reroute_add_box(
 pub extern "C" fn reroute_move_box(handle: &mut Handle, id: i64, x: i64, y: i64) -> Fault
     ensures closed { IsNone handle.old.drawing → IsRefusedClosed result handle.new.drawing }
     ensures open { IsSome handle.old.drawing → IsSome handle.new.drawing }
-    ensures call { IfOpen handle.old.drawing handle.new.drawing (IsAnswered (commands.Edit (edits.MoveNode id x y)) result) }
+    ensures call { IfOpen handle.old.drawing handle.new.drawing (IsFaultAnswered (commands.Edit (edits.MoveNode id x y)) result) }
 {
     edit(handle, Edit::MoveNode { id, x, y })
 }
@@ -79,7 +79,7 @@ pub extern "C" fn reroute_move_box(handle: &mut Handle, id: i64, x: i64, y: i64)
 pub extern "C" fn reroute_size_box(handle: &mut Handle, id: i64, w: i64, h: i64) -> Fault
     ensures closed { IsNone handle.old.drawing → IsRefusedClosed result handle.new.drawing }
     ensures open { IsSome handle.old.drawing → IsSome handle.new.drawing }
-    ensures call { IfOpen handle.old.drawing handle.new.drawing (IsAnswered (commands.Edit (edits.SizeNode id w h)) result) }
+    ensures call { IfOpen handle.old.drawing handle.new.drawing (IsFaultAnswered (commands.Edit (edits.SizeNode id w h)) result) }
 {
     edit(handle, Edit::SizeNode { id, w, h })
 }
@@ -89,7 +89,7 @@ pub extern "C" fn reroute_size_box(handle: &mut Handle, id: i64, w: i64, h: i64)
 pub extern "C" fn reroute_drop_box(handle: &mut Handle, id: i64) -> Fault
     ensures closed { IsNone handle.old.drawing → IsRefusedClosed result handle.new.drawing }
     ensures open { IsSome handle.old.drawing → IsSome handle.new.drawing }
-    ensures call { IfOpen handle.old.drawing handle.new.drawing (IsAnswered (commands.Edit (edits.DropNode id)) result) }
+    ensures call { IfOpen handle.old.drawing handle.new.drawing (IsFaultAnswered (commands.Edit (edits.DropNode id)) result) }
 {
     edit(handle, Edit::DropNode { id })
 }
@@ -108,7 +108,7 @@ pub extern "C" fn reroute_add_pin(
 ) -> Fault
     ensures closed { IsNone handle.old.drawing → IsRefusedClosed result handle.new.drawing }
     ensures open { IsSome handle.old.drawing → IsSome handle.new.drawing }
-    ensures call { has_direction directions ≡ true → IfOpen handle.old.drawing handle.new.drawing (IsAnswered (commands.Edit (edits.AddPin id class dx dy (dirs_of directions))) result) }
+    ensures call { has_direction directions ≡ true → IfOpen handle.old.drawing handle.new.drawing (IsFaultAnswered (commands.Edit (edits.AddPin id class dx dy (dirs_of directions))) result) }
     ensures undirected { has_direction directions ≡ false → IfOpen handle.old.drawing handle.new.drawing (IsRolledBack syntax_fault result) }
 {
     let Directions {
@@ -157,7 +157,7 @@ fn roll_back(handle: &mut Handle, why: Fault) -> Fault
 pub extern "C" fn reroute_drop_pin(handle: &mut Handle, id: i64, place: u32) -> Fault
     ensures closed { IsNone handle.old.drawing → IsRefusedClosed result handle.new.drawing }
     ensures open { IsSome handle.old.drawing → IsSome handle.new.drawing }
-    ensures call { IfOpen handle.old.drawing handle.new.drawing (IsAnswered (commands.Edit (edits.DropPin id place)) result) }
+    ensures call { IfOpen handle.old.drawing handle.new.drawing (IsFaultAnswered (commands.Edit (edits.DropPin id place)) result) }
 {
     edit(handle, Edit::DropPin { id, place })
 }
@@ -176,7 +176,7 @@ pub extern "C" fn reroute_connect(
 ) -> Fault
     ensures closed { IsNone handle.old.drawing → IsRefusedClosed result handle.new.drawing }
     ensures open { IsSome handle.old.drawing → IsSome handle.new.drawing }
-    ensures call { IfOpen handle.old.drawing handle.new.drawing (IsAnswered (commands.Edit (edits.AddEdge from to from_class to_class)) result) }
+    ensures call { IfOpen handle.old.drawing handle.new.drawing (IsFaultAnswered (commands.Edit (edits.AddEdge from to from_class to_class)) result) }
     ensures number { result.code ≡ 0 → IfSome handle.old.drawing (λ s. number.new ≡ next_edge s.session.world) }
     ensures kept { result.code ≢ 0 → number.new ≡ number.old }
 {
@@ -258,7 +258,7 @@ pub extern "C" fn reroute_reconnect(
 pub extern "C" fn reroute_cut(handle: &mut Handle, number: u32) -> Fault
     ensures closed { IsNone handle.old.drawing → IsRefusedClosed result handle.new.drawing }
     ensures open { IsSome handle.old.drawing → IsSome handle.new.drawing }
-    ensures call { IfOpen handle.old.drawing handle.new.drawing (IsAnswered (commands.Edit (edits.CutEdge number)) result) }
+    ensures call { IfOpen handle.old.drawing handle.new.drawing (IsFaultAnswered (commands.Edit (edits.CutEdge number)) result) }
 {
     edit(handle, Edit::CutEdge { number })
 }
@@ -273,7 +273,7 @@ pub extern "C" fn reroute_set_classes(
 ) -> Fault
     ensures closed { IsNone handle.old.drawing → IsRefusedClosed result handle.new.drawing }
     ensures open { IsSome handle.old.drawing → IsSome handle.new.drawing }
-    ensures call { IfOpen handle.old.drawing handle.new.drawing (IsAnswered (commands.Edit (edits.SetClasses number from_class to_class)) result) }
+    ensures call { IfOpen handle.old.drawing handle.new.drawing (IsFaultAnswered (commands.Edit (edits.SetClasses number from_class to_class)) result) }
 {
     edit(
         handle,
@@ -296,7 +296,7 @@ pub extern "C" fn reroute_add_checkpoint(
 ) -> Fault
     ensures closed { IsNone handle.old.drawing → IsRefusedClosed result handle.new.drawing }
     ensures open { IsSome handle.old.drawing → IsSome handle.new.drawing }
-    ensures call { IfOpen handle.old.drawing handle.new.drawing (IsAnswered (commands.Edit (edits.AddVia number place x y)) result) }
+    ensures call { IfOpen handle.old.drawing handle.new.drawing (IsFaultAnswered (commands.Edit (edits.AddVia number place x y)) result) }
 {
     edit(
         handle,
@@ -314,7 +314,7 @@ pub extern "C" fn reroute_add_checkpoint(
 pub extern "C" fn reroute_drop_checkpoint(handle: &mut Handle, number: u32, place: u32) -> Fault
     ensures closed { IsNone handle.old.drawing → IsRefusedClosed result handle.new.drawing }
     ensures open { IsSome handle.old.drawing → IsSome handle.new.drawing }
-    ensures call { IfOpen handle.old.drawing handle.new.drawing (IsAnswered (commands.Edit (edits.DropVia number place)) result) }
+    ensures call { IfOpen handle.old.drawing handle.new.drawing (IsFaultAnswered (commands.Edit (edits.DropVia number place)) result) }
 {
     edit(handle, Edit::DropVia { number, place })
 }
@@ -324,7 +324,7 @@ pub extern "C" fn reroute_drop_checkpoint(handle: &mut Handle, number: u32, plac
 pub extern "C" fn reroute_set_penalty(handle: &mut Handle, value: i64) -> Fault
     ensures closed { IsNone handle.old.drawing → IsRefusedClosed result handle.new.drawing }
     ensures open { IsSome handle.old.drawing → IsSome handle.new.drawing }
-    ensures call { IfOpen handle.old.drawing handle.new.drawing (IsAnswered (commands.Edit (edits.Set settings.Penalty value)) result) }
+    ensures call { IfOpen handle.old.drawing handle.new.drawing (IsFaultAnswered (commands.Edit (edits.Set settings.Penalty value)) result) }
 {
     edit(
         handle,
@@ -340,7 +340,7 @@ pub extern "C" fn reroute_set_penalty(handle: &mut Handle, value: i64) -> Fault
 pub extern "C" fn reroute_set_buffer(handle: &mut Handle, value: i64) -> Fault
     ensures closed { IsNone handle.old.drawing → IsRefusedClosed result handle.new.drawing }
     ensures open { IsSome handle.old.drawing → IsSome handle.new.drawing }
-    ensures call { IfOpen handle.old.drawing handle.new.drawing (IsAnswered (commands.Edit (edits.Set settings.Buffer value)) result) }
+    ensures call { IfOpen handle.old.drawing handle.new.drawing (IsFaultAnswered (commands.Edit (edits.Set settings.Buffer value)) result) }
 {
     edit(
         handle,
@@ -356,7 +356,7 @@ pub extern "C" fn reroute_set_buffer(handle: &mut Handle, value: i64) -> Fault
 pub extern "C" fn reroute_set_nudge(handle: &mut Handle, value: i64) -> Fault
     ensures closed { IsNone handle.old.drawing → IsRefusedClosed result handle.new.drawing }
     ensures open { IsSome handle.old.drawing → IsSome handle.new.drawing }
-    ensures call { IfOpen handle.old.drawing handle.new.drawing (IsAnswered (commands.Edit (edits.Set settings.Nudge value)) result) }
+    ensures call { IfOpen handle.old.drawing handle.new.drawing (IsFaultAnswered (commands.Edit (edits.Set settings.Nudge value)) result) }
 {
     edit(
         handle,

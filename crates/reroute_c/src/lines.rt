@@ -2,7 +2,7 @@
 ghost use Rattle.std.specs.Prelude.{◌≡◌, ◌≢◌, IfSome, IsNone, IsSome, false, length};
 ghost use Rattle.drawing.specs.Drawing.{Previews, Reports, cost_of};
 ghost use Rattle.reroute_c.specs.Codes.{memory_fault};
-ghost use Rattle.reroute_c.specs.Lines.{IsCost, IsUnpreviewed, IsWritten, corner_at, gone_at, line_at, no_line};
+ghost use Rattle.reroute_c.specs.Lines.{IsCost, IsUnpreviewed, IsCornerWritten, corner_at, gone_at, line_at, no_line};
 ghost use Rattle.reroute_c.specs.Open.{IfOpen, IsRefusedClosed};
 ghost use Rattle.scene_model.specs.Stale.{answer_of};
 
@@ -163,7 +163,7 @@ pub extern "C" fn reroute_gone(handle: &mut Handle, place: usize) -> u32
 
 /// Writes a corner of a line, if there is one.
 fn write_corner(drawing: &Drawing, place: usize, at: usize, corner: &mut Corner) -> bool
-    ensures { IsWritten (corner_at drawing.now place at) result corner.old corner.new }
+    ensures { IsCornerWritten (corner_at drawing.now place at) result corner.old corner.new }
 {
     let Some(line) = drawing.lines().get(place) else {
         return false;
@@ -186,7 +186,7 @@ pub extern "C" fn reroute_corner(
 ) -> bool
     ensures closed { IsNone handle.old.drawing → result ≡ false }
     ensures closed_kept { IsNone handle.old.drawing → corner.new ≡ corner.old }
-    ensures corner { IfSome handle.old.drawing (λ s. IsWritten (corner_at s place at) result corner.old corner.new) }
+    ensures corner { IfSome handle.old.drawing (λ s. IsCornerWritten (corner_at s place at) result corner.old corner.new) }
     ensures kept { handle.new.drawing ≡ handle.old.drawing }
 {
     let Some(drawing) = handle.take() else {

@@ -1,7 +1,7 @@
 //! The scene by its places: that of the open transaction, if one is open, otherwise the present one.
 ghost use Rattle.std.specs.Prelude.{◌≡◌, IfSome, IsNone, Some, false, true};
 ghost use Rattle.reroute_c.specs.Scenes.{IsWrittenFrom, box_info, box_info_at, checkpoint_at, connector_info, connector_info_at, pin_info, pin_info_at, read_scene, settings_info};
-ghost use Rattle.reroute_c.specs.Lines.{IsWritten};
+ghost use Rattle.reroute_c.specs.Lines.{IsCornerWritten};
 ghost use Rattle.scene_model.specs.Valid.{IsNode};
 
 use crate::edits::Directions;
@@ -201,7 +201,7 @@ pub extern "C" fn reroute_connector(
 
 /// Writes a checkpoint of a connector, if there is one.
 fn write_checkpoint(drawing: &Drawing, of: usize, place: usize, point: &mut Corner) -> bool
-    ensures { IsWritten (checkpoint_at (read_scene drawing.now) of place) result point.old point.new }
+    ensures { IsCornerWritten (checkpoint_at (read_scene drawing.now) of place) result point.old point.new }
 {
     let Some(edge) = drawing.scene().edge_at(of) else {
         return false;
@@ -224,7 +224,7 @@ pub extern "C" fn reroute_checkpoint(
 ) -> bool
     ensures closed { IsNone handle.old.drawing → result ≡ false }
     ensures closed_kept { IsNone handle.old.drawing → point.new ≡ point.old }
-    ensures checkpoint { IfSome handle.old.drawing (λ s. IsWritten (checkpoint_at (read_scene s) of place) result point.old point.new) }
+    ensures checkpoint { IfSome handle.old.drawing (λ s. IsCornerWritten (checkpoint_at (read_scene s) of place) result point.old point.new) }
     ensures kept { handle.new.drawing ≡ handle.old.drawing }
 {
     let Some(drawing) = handle.take() else {
