@@ -1,11 +1,12 @@
 //! What is said of the scene: how much it has, its settings, its boxes with their pins, and its connectors with their
 //! checkpoints.
-ghost use Rattle.std.specs.Prelude.{◌≡◌, ◌++◌, All, IfOk, OnOk};
+ghost use Rattle.std.specs.Prelude.{◌≡◌, ◌++◌, All, IfOk, OnOk, codes};
 ghost use Rattle.std.specs.List.{flat_map};
+ghost use Rattle.fixed_milli.specs.Milli.{milli_text};
 ghost use Rattle.scene_model.specs.Valid.{IsNode};
 ghost use Rattle.drawing.specs.Drawing.{edited_scene};
 ghost use Rattle.live_replies.specs.Scene.{box_line, box_lines, checkpoint_line, classes_text, connector_line, connector_lines, cost_text, counts_line};
-ghost use Rattle.live_replies.specs.Scene.{ends_text, group_text, ids_text, pin_line, place_text, scene_lines, settings_line, size_of};
+ghost use Rattle.live_replies.specs.Scene.{ends_text, group_text, ids_text, lengths_text, pin_line, place_text, scene_lines, settings_line, size_of};
 ghost use Rattle.live_replies.specs.Texts.{ok_line};
 
 use crate::line::{push_corner, push_milli, push_numbered, push_ok, push_with_id};
@@ -27,17 +28,28 @@ fn push_counts(out: &mut Vec<u8>, scene: &Scene) -> Result<(), AllocError>
     Ok(())
 }
 
-/// Appends the line of the settings.
-fn push_settings(alloc: Global, out: &mut Vec<u8>, settings: Settings) -> Result<(), AllocError>
-    ensures { OnOk result (out.new.items ≡ out.old.items ++ settings_line settings) }
+/// Appends two of the settings.
+fn push_costs(alloc: Global, out: &mut Vec<u8>, settings: &Settings) -> Result<(), AllocError>
+    ensures { OnOk result (out.new.items ≡ out.old.items ++ lengths_text settings.now.penalty settings.now.buffer) }
 {
-    let first = Point {
-        x: settings.penalty,
-        y: settings.buffer,
-    };
+    push_milli(alloc, out, settings.penalty)?;
+    push_milli(alloc, out, settings.buffer)
+}
+
+/// Appends the third.
+fn push_nudge(alloc: Global, out: &mut Vec<u8>, settings: &Settings) -> Result<(), AllocError>
+    ensures { OnOk result (out.new.items ≡ out.old.items ++ (codes " " ++ milli_text settings.now.nudge)) }
+{
+    push_milli(alloc, out, settings.nudge)
+}
+
+/// Appends the line of the settings.
+fn push_settings(alloc: Global, out: &mut Vec<u8>, settings: &Settings) -> Result<(), AllocError>
+    ensures { OnOk result (out.new.items ≡ out.old.items ++ settings_line settings.now) }
+{
     out.extend_from_slice(b"settings")?;
-    push_corner(alloc, out, &first)?;
-    push_milli(alloc, out, settings.nudge)?;
+    push_costs(alloc, out, settings)?;
+    push_nudge(alloc, out, settings)?;
     out.push(b'\n')?;
     Ok(())
 }
@@ -80,16 +92,20 @@ fn push_group(out: &mut Vec<u8>, is_group: bool) -> Result<(), AllocError>
     }
 }
 
+/// Appends the centre of a box.
+fn push_centre(alloc: Global, out: &mut Vec<u8>, node: &Node) -> Result<(), AllocError>
+    ensures { OnOk result (out.new.items ≡ out.old.items ++ lengths_text node.now.x node.now.y) }
+{
+    push_milli(alloc, out, node.x)?;
+    push_milli(alloc, out, node.y)
+}
+
 /// Appends the id of a box, and its centre.
 fn push_place(alloc: Global, out: &mut Vec<u8>, node: &Node) -> Result<(), AllocError>
     ensures { OnOk result (out.new.items ≡ out.old.items ++ place_text node.now) }
 {
-    let centre = Point {
-        x: node.x,
-        y: node.y,
-    };
     push_with_id(out, b"box ", node.id)?;
-    push_corner(alloc, out, &centre)
+    push_centre(alloc, out, node)
 }
 
 /// Appends the whole size of a box.
@@ -237,7 +253,7 @@ pub(crate) fn scene_text(alloc: Global, drawing: &Drawing) -> Result<Vec<u8>, Al
     let scene = drawing.scene();
     let mut text = Vec::new(alloc);
     push_counts(&mut text, scene)?;
-    push_settings(alloc, &mut text, scene.settings())?;
+    push_settings(alloc, &mut text, &scene.settings())?;
     push_boxes(alloc, &mut text, scene.nodes())?;
     push_edges(alloc, &mut text, drawing, scene.edges())?;
     push_ok(&mut text)?;
