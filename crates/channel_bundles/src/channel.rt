@@ -62,6 +62,10 @@ impl Placed<'_, '_> {
         ensures { result ≡ compare_keys (key_of_placed routes.now self.now) (key_of_placed routes.now other.now) }
     {
         let (a, b) = (&self.member.run, &other.member.run);
+        let at = a.at.cmp(&b.at);
+        if at != Ordering::Equal {
+            return at;
+        }
         if self.leader == other.leader && is_same_but_for_edge(a, b) {
             return a.edge.cmp(&b.edge);
         }

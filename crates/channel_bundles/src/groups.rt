@@ -191,9 +191,7 @@ pub(crate) fn channels<'a>(
 {
     let all = vec![in bump; 0; members.len()]?;
     let limits = parted(alloc, bump, members, &all, By::Limits, nudge)?;
-    let ranges = parted(alloc, bump, members, &limits, By::Ranges, nudge)?;
-    let again = parted(alloc, bump, members, &ranges, By::Limits, nudge)?;
-    parted(alloc, bump, members, &again, By::Ranges, nudge)
+    parted(alloc, bump, members, &limits, By::Ranges, nudge)
 }
 
 /// The groups of the runs of one edge.

@@ -17,14 +17,10 @@ returns-clause-together c =
     let nudge = c.args.nudge in
     let fits : FitsSigned w64 c.args.nudge = c.ranges.nudge in
     let by_limits = simp to_z-of_z at c.in_ok-limits.ensures.together in
-    let by_limits_again = simp to_z-of_z at c.in_ok-again.ensures.together in
     let members = c.args.members.now in
     let all = c.deref.ensures.value ∙ c.in_ok-all.ensures.items_if_clones_equal (λ y h. h) in
-    IfOk-weaker c.parted-4.result _ _ (λ new together i j l ne.
+    IfOk-weaker c.parted-2.result _ _ (λ new together i j l ne.
     let g : j < length members = l.within in
     let h : i < length members = omega (arith, l.forward, g) in
     let limits = by_limits i j h g (limits_meet nudge members c.deref.result.now i j c.requires.members c.requires.rising c.requires.nudge l (one_together _ _ i j all h g)) in
-    let ranges = c.in_ok-ranges.ensures.together i j h g (ranges_meet nudge members c.deref-2.result.now i j l ne (same _ _ i j c.deref-2.ensures.value limits)) in
-    let again = by_limits_again i j h g
-    (limits_meet nudge members c.deref-3.result.now i j c.requires.members c.requires.rising c.requires.nudge l (same _ _ i j c.deref-3.ensures.value ranges)) in
-    together i j h g (ranges_meet nudge members c.deref-4.result.now i j l ne (same _ _ i j c.deref-4.ensures.value again))) c.parted-4.ensures.together
+    together i j h g (ranges_meet nudge members c.deref-2.result.now i j l ne (same _ _ i j c.deref-2.ensures.value limits))) c.parted-2.ensures.together
