@@ -1,5 +1,5 @@
 -- One element on.
-use Rattle.std.proofs.Common.{◌++◌, refl}
+use Rattle.std.proofs.Common.{◌++◌, refl, ap, ◌∙◌}
 use Rattle.std.specs.List.{flat_map}
 use Rattle.scene_model.specs.Valid.{IsNode}
 use Rattle.gml_scene.proofs.Places.{held_here}
@@ -15,5 +15,5 @@ push_box-requires c =
 
 pub loop-node-preserved : goal.loop-node-preserved
 loop-node-preserved c =
-    one_pushed box_lines (c.args.out.now.items ++ flat_map box_lines c.args.nodes.now) c.loop-node.out.items c.push_box.new.out.items c.args.nodes.now c.loop-node.node-index _
-    c.loop-node-test.true c.loop-node.invariant c.in_ok-push_box.ensures
+    one_pushed box_lines (c.args.out.now.items ++ flat_map box_lines c.args.nodes.now) c.loop-node.out.items c.push_box.new.out.items c.args.nodes.now c.loop-node.node-index c.node-item.result
+    c.loop-node-test.true c.loop-node.invariant (c.in_ok-push_box.ensures ∙ ap (λ n. c.loop-node.out.items ++ box_lines n) c.node-item.is)
