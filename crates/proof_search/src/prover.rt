@@ -14,7 +14,7 @@ use line_arena::LineArena;
 use plane_geom::Solid;
 use proof_model::{Claim, Proof, Rows};
 use route_search::{Finder, Tally};
-use search_problem::Problem;
+use search_problem::{Problem, SortedSolids};
 use std::alloc::{AllocError, Global};
 use walk_model::{Route, Task};
 
@@ -83,7 +83,8 @@ fn spread_rows(
 {
     let stages = task.via.as_slice().len() + 1;
     let mut labels = Labels::new(alloc, arena.places(), stages)?;
-    let problem = Problem::new(alloc, arena, solids, task)?;
+    let sorted = SortedSolids::new(alloc, solids)?;
+    let problem = Problem::new(alloc, arena, solids, &sorted, task)?;
     labels.spread(scope, &problem)?;
     labels.rows(alloc, &problem, spots)
 }

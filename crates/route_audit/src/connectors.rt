@@ -12,7 +12,7 @@ use crate::labels::RowIndex;
 use crate::task::broken_rule;
 use proof_model::{Proof, proved_scenes_hold};
 use scene_store::{Edge, Scene};
-use search_problem::Problem;
+use search_problem::{Problem, SortedSolids};
 use std::alloc::{AllocError, Global};
 use visibility_graph::Graph;
 
@@ -35,7 +35,8 @@ fn rule_at(
     scene.valid();
     let task = scene.task(edge.number)?;
     let solids = graph.floor().solids.as_slice();
-    let problem = Problem::new(alloc, graph.arena(), solids, &task)?;
+    let sorted = SortedSolids::new(alloc, solids)?;
+    let problem = Problem::new(alloc, graph.arena(), solids, &sorted, &task)?;
     broken_rule(index, &problem, &proof.claim, proof.rows.as_slice())
 }
 

@@ -13,6 +13,7 @@ use Rattle.line_arena.specs.Arena.{Arena, IsOn, Pair, line_along}
 use Rattle.line_lists.specs.Lists.{IsNumbered, Lists, number_of, stops_of}
 use Rattle.line_lists.specs.Numbers.{other_way}
 use Rattle.line_lists.specs.declared.stop.Stop.{Stop}
+use Rattle.search_problem.specs.Stubs.{AreSame}
 use Rattle.side_touches.specs.Touches.{AreTouches}
 use Rattle.route_search.specs.declared.lines.Lines.{Lines as SearchLines}
 use Rattle.route_search.specs.declared.lines.FinderLines.{FinderLines}
@@ -60,6 +61,7 @@ pub record AreMatchingLists (a : Arena) (lists : Lists) : Type 0 where
 pub record AreLinesOf (a : Arena) (solids : List Solid) (l : SearchLines) : Type 0 where
   pub are_lists : AreMatchingLists a l.lists
   pub are_touches : ∥ AreTouches l.lists.lines solids l.touches ∥₁
+  pub are_sorted : AreSame solids l.sorted.solids.items
 
 -- the lines of a finder, if there are any
 abbrev pub made_lines : FinderLines → Option SearchLines

@@ -68,7 +68,7 @@ fn search(
     }
     let stages = via.len() + 1;
     spread.rows.fit(alloc, lines.lists.lines().len(), stages)?;
-    let problem = Problem::new(alloc, arena, solids, task)?;
+    let problem = Problem::new(alloc, arena, solids, &lines.sorted, task)?;
     spread.spread(&problem, &lines.lists, &lines.touches)?;
     let follower = Follower {
         problem: &problem,

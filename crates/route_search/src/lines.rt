@@ -6,15 +6,17 @@ ghost use Rattle.route_search.specs.Matching.{AreLinesOf, made_lines};
 use line_arena::LineArena;
 use line_lists::LineLists;
 use plane_geom::Solid;
+use search_problem::SortedSolids;
 use side_touches::Touches;
 use std::alloc::{AllocError, Global};
 
 /// What searches read of the lines of an arena: their crossings in order, and the sides of solids
-/// that touch them. They are of the arena as it was when they were made.
+/// that touch them; and the solids, sorted. They are of the arena as it was when they were made.
 #[derive(Drop)]
 pub struct Lines {
     pub(crate) lists: LineLists,
     pub(crate) touches: Touches,
+    pub(crate) sorted: SortedSolids,
 }
 
 impl Lines {
@@ -26,7 +28,12 @@ impl Lines {
         arena.laws();
         let lists = LineLists::new(alloc, arena)?;
         let touches = Touches::new(alloc, lists.lines(), solids)?;
-        Ok(Lines { lists, touches })
+        let sorted = SortedSolids::new(alloc, solids)?;
+        Ok(Lines {
+            lists,
+            touches,
+            sorted,
+        })
     }
 }
 

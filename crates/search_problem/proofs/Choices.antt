@@ -18,7 +18,7 @@ use Rattle.search_problem.specs.Ends.{AreEndings, AreEntries, IsEndingOf, IsEntr
 use Rattle.search_problem.specs.Origins.{IsSmallEntry}
 use Rattle.search_problem.specs.declared.ends.Ending.{Ending}
 use Rattle.search_problem.specs.declared.ends.Entry.{Entry}
-use Rattle.search_problem.proofs.Stubs.{short_stub}
+use Rattle.search_problem.proofs.StubLengths.{short_stub}
 
 -- a number below the next is below this one, or is this one
 below_next : (n k : ℕ) → n < k + 1 → (n < k) ⊎ (n ≡ k)

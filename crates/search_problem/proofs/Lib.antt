@@ -2,7 +2,9 @@
 pub mod Origins
 pub mod Stages
 pub mod BoundsGrow
-pub mod Stubs
+pub mod StubLengths
+pub mod Sorting
+pub mod SameSolids
 pub mod Headings
 pub mod Choices
 pub mod Least

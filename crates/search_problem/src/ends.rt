@@ -3,15 +3,15 @@ ghost use Rattle.std.specs.Prelude.{◌≡◌, ◌≢◌, ◌+◌, ◌↔◌, �
 ghost use Rattle.line_arena.specs.Arena.{StandsAt};
 ghost use Rattle.move_model.specs.Places.{HasFreeStub, IsEntry};
 ghost use Rattle.move_model.specs.declared.place.Place.{Place};
-ghost use Rattle.plane_geom.specs.Rect.{Meets, RectIsOnSheet};
 ghost use Rattle.search_problem.specs.Ends.{AreEndings, AreEntries, IsEndingOf, IsEntryOf};
 ghost use Rattle.walk_model.specs.Choice.{IsChoice};
 ghost use Rattle.walk_model.specs.Legal.{IsTask};
 
 use crate::stage::stage_at;
+use crate::stubs::SortedSolids;
 use line_arena::{CrossId, LineArena};
 use move_model::Place;
-use plane_geom::{Dir, Point, Solid};
+use plane_geom::{Dir, Point};
 use std::alloc::{AllocError, Global};
 use walk_model::{Choice, Task};
 
@@ -39,46 +39,22 @@ pub struct Ending {
     pub rest: u64,
 }
 
-/// Whether the solid is of another node and the stub of the choice meets it.
-fn is_met(solid: &Solid, choice: &Choice) -> bool
-    requires solid { RectIsOnSheet solid.now.rect }
-    requires choice { IsChoice choice.now }
-    ensures { IsTrue result ↔ (solid.now.node ≢ choice.now.node) × Meets solid.now.rect choice.now.pin choice.now.port }
-{
-    solid.node != choice.node && solid.rect.meets(choice.pin, choice.port)
-}
-
-/// Whether the stub of the choice meets no solid of another node.
-fn is_stub_free(solids: &[Solid], choice: &Choice) -> bool
-    requires solids { All (λ s. RectIsOnSheet s.rect) solids.now }
-    requires choice { IsChoice choice.now }
-    ensures { IsTrue result ↔ HasFreeStub solids.now choice.now }
-{
-    for solid in solids {
-        if is_met(solid, choice) {
-            return false;
-        }
-    }
-    true
-}
-
 /// The entry of the choice, if its stub is free and its port is a crossing.
 fn entry_of(
     arena: &LineArena,
-    solids: &[Solid],
+    sorted: &SortedSolids,
     task: &Task,
     number: u32,
     start: Choice,
 ) -> Option<Entry>
-    requires solids { All (λ s. RectIsOnSheet s.rect) solids.now }
     requires task { IsTask task.now }
     requires choice { IsChoice start }
     requires number { slice_get task.now.starts number ≡ Some start }
     ensures number { IfSome result (λ e. e.choice ≡ number) }
-    ensures entry { IfSome result (λ e. IsEntryOf solids.now arena.now task.now start e) }
-    ensures none { IsNone result → (x : Place) → IsEntry solids.now arena.now task.now.via start x → ⊥ }
+    ensures entry { IfSome result (λ e. IsEntryOf sorted.now.solids.items arena.now task.now start e) }
+    ensures none { IsNone result → (x : Place) → IsEntry sorted.now.solids.items arena.now task.now.via start x → ⊥ }
 {
-    if !is_stub_free(solids, &start) {
+    if !sorted.has_free_stub(&start) {
         return None;
     }
     let crossing = arena.crossing_at(start.port)?;
@@ -97,19 +73,18 @@ fn entry_of(
 /// The ending of the choice, if its stub is free and its port is a crossing.
 fn ending_of(
     arena: &LineArena,
-    solids: &[Solid],
+    sorted: &SortedSolids,
     task: &Task,
     number: u32,
     end: Choice,
 ) -> Option<Ending>
-    requires solids { All (λ s. RectIsOnSheet s.rect) solids.now }
     requires choice { IsChoice end }
     requires number { slice_get task.now.ends number ≡ Some end }
     ensures number { IfSome result (λ e. e.choice ≡ number) }
-    ensures ending { IfSome result (λ e. IsEndingOf solids.now arena.now task.now end e) }
-    ensures none { IsNone result → HasFreeStub solids.now end → (c : ℕ) → StandsAt arena.now c end.port → ⊥ }
+    ensures ending { IfSome result (λ e. IsEndingOf sorted.now.solids.items arena.now task.now end e) }
+    ensures none { IsNone result → HasFreeStub sorted.now.solids.items end → (c : ℕ) → StandsAt arena.now c end.port → ⊥ }
 {
-    if !is_stub_free(solids, &end) {
+    if !sorted.has_free_stub(&end) {
         return None;
     }
     let crossing = arena.crossing_at(end.port)?;
@@ -128,19 +103,18 @@ fn ending_of(
 fn push_entry(
     entries: &mut Vec<Entry>,
     arena: &LineArena,
-    solids: &[Solid],
+    sorted: &SortedSolids,
     task: &Task,
     number: u32,
     start: Choice,
 ) -> Result<(), AllocError>
-    requires solids { All (λ s. RectIsOnSheet s.rect) solids.now }
     requires task { IsTask task.now }
     requires choice { IsChoice start }
     requires number { slice_get task.now.starts number ≡ Some start }
-    requires entries { AreEntries solids.now arena.now task.now number entries.old.items }
-    ensures { OnOk result (AreEntries solids.now arena.now task.now (number + 1) entries.new.items) }
+    requires entries { AreEntries sorted.now.solids.items arena.now task.now number entries.old.items }
+    ensures { OnOk result (AreEntries sorted.now.solids.items arena.now task.now (number + 1) entries.new.items) }
 {
-    if let Some(entry) = entry_of(arena, solids, task, number, start) {
+    if let Some(entry) = entry_of(arena, sorted, task, number, start) {
         entries.push(entry)?;
     }
     Ok(())
@@ -150,18 +124,17 @@ fn push_entry(
 fn push_ending(
     endings: &mut Vec<Ending>,
     arena: &LineArena,
-    solids: &[Solid],
+    sorted: &SortedSolids,
     task: &Task,
     number: u32,
     end: Choice,
 ) -> Result<(), AllocError>
-    requires solids { All (λ s. RectIsOnSheet s.rect) solids.now }
     requires choice { IsChoice end }
     requires number { slice_get task.now.ends number ≡ Some end }
-    requires endings { AreEndings solids.now arena.now task.now number endings.old.items }
-    ensures { OnOk result (AreEndings solids.now arena.now task.now (number + 1) endings.new.items) }
+    requires endings { AreEndings sorted.now.solids.items arena.now task.now number endings.old.items }
+    ensures { OnOk result (AreEndings sorted.now.solids.items arena.now task.now (number + 1) endings.new.items) }
 {
-    if let Some(ending) = ending_of(arena, solids, task, number, end) {
+    if let Some(ending) = ending_of(arena, sorted, task, number, end) {
         endings.push(ending)?;
     }
     Ok(())
@@ -171,16 +144,15 @@ fn push_ending(
 pub fn entries(
     alloc: Global,
     arena: &LineArena,
-    solids: &[Solid],
+    sorted: &SortedSolids,
     task: &Task,
 ) -> Result<Vec<Entry>, AllocError>
-    requires solids { All (λ s. RectIsOnSheet s.rect) solids.now }
     requires task { IsTask task.now }
-    ensures { IfOk result (λ v. AreEntries solids.now arena.now task.now (length task.now.starts) v.items) }
+    ensures { IfOk result (λ v. AreEntries sorted.now.solids.items arena.now task.now (length task.now.starts) v.items) }
 {
     let mut entries = Vec::new(alloc);
     for (number, &start) in task.starts.as_slice().iter().enumerate() {
-        push_entry(&mut entries, arena, solids, task, number as u32, start)?;
+        push_entry(&mut entries, arena, sorted, task, number as u32, start)?;
     }
     Ok(entries)
 }
@@ -189,16 +161,15 @@ pub fn entries(
 pub fn endings(
     alloc: Global,
     arena: &LineArena,
-    solids: &[Solid],
+    sorted: &SortedSolids,
     task: &Task,
 ) -> Result<Vec<Ending>, AllocError>
-    requires solids { All (λ s. RectIsOnSheet s.rect) solids.now }
     requires task { IsTask task.now }
-    ensures { IfOk result (λ v. AreEndings solids.now arena.now task.now (length task.now.ends) v.items) }
+    ensures { IfOk result (λ v. AreEndings sorted.now.solids.items arena.now task.now (length task.now.ends) v.items) }
 {
     let mut endings = Vec::new(alloc);
     for (number, &end) in task.ends.as_slice().iter().enumerate() {
-        push_ending(&mut endings, arena, solids, task, number as u32, end)?;
+        push_ending(&mut endings, arena, sorted, task, number as u32, end)?;
     }
     Ok(endings)
 }

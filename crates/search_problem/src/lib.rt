@@ -8,9 +8,11 @@ mod origin;
 mod problem;
 mod queue;
 mod stage;
+mod stubs;
 
 pub use ends::{Ending, Entry};
 pub use origin::Origin;
 pub use problem::{DIRS, MOST_COST, MOST_RUNS, NOTHING, Problem};
 pub use queue::{Candidate, Queue};
 pub use stage::stage_at;
+pub use stubs::SortedSolids;

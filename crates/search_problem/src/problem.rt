@@ -7,9 +7,11 @@ ghost use Rattle.search_problem.specs.Bounds.{AreStages, bound_of, least_bound_f
 ghost use Rattle.search_problem.specs.Origins.{AreCovered, Covers, IsOrigin, IsSmallEntry};
 ghost use Rattle.search_problem.specs.declared.ends.Entry.{Entry};
 ghost use Rattle.search_problem.specs.Problems.{IsReady};
+ghost use Rattle.search_problem.specs.Stubs.{AreSame};
 
 use crate::ends::{Ending, Entry, endings, entries};
 use crate::origin::{Origin, origin_of};
+use crate::stubs::SortedSolids;
 use line_arena::LineArena;
 use move_model::{Ahead, Place};
 use plane_geom::{Dir, Point, Rect, Solid};
@@ -155,23 +157,25 @@ fn all_stages(
 }
 
 impl<'a> Problem<'a> {
-    /// The problem of the task over the arena of a floor with these solids. The only error is out
-    /// of memory.
+    /// The problem of the task over the arena of a floor with these solids, which are there sorted
+    /// too. The only error is out of memory.
     pub fn new(
         alloc: Global,
         arena: &'a LineArena,
         solids: &'a [Solid],
+        sorted: &SortedSolids,
         task: &'a Task,
     ) -> Result<Problem<'a>, AllocError>
-        requires { (floor : Floor) × IsProblem floor arena.now solids.now task.now }
+        requires problem { (floor : Floor) × IsProblem floor arena.now solids.now task.now }
+        requires sorted { AreSame solids.now sorted.now.solids.items }
         ensures ready { IfOk result IsReady }
         ensures solids { IfOk result (λ p. p.solids.now ≡ solids.now) }
         ensures arena { IfOk result (λ p. p.arena.now ≡ arena.now) }
         ensures task { IfOk result (λ p. p.task.now ≡ task.now) }
     {
         arena.laws();
-        let entries = entries(alloc, arena, solids, task)?;
-        let endings = endings(alloc, arena, solids, task)?;
+        let entries = entries(alloc, arena, sorted, task)?;
+        let endings = endings(alloc, arena, sorted, task)?;
         let first = all_origins(alloc, &entries)?;
         let origins = all_stages(alloc, first, task.penalty, task.via.as_slice())?;
         Ok(Problem {

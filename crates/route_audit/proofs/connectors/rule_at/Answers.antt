@@ -1,9 +1,13 @@
 -- The rules on the connector's task.
-use Rattle.std.proofs.Common.{◌≡◌, ℕ, Ok, Err, Option, Result, sym, ap, subst, ◌∙◌}
+use Rattle.std.proofs.Common.{◌≡◌, ℕ, All, Ok, Err, Option, Result, sym, ap, subst, ◌∙◌}
 use Rattle.std.specs.Prelude.{IfOk, IfSome}
+use Rattle.plane_geom.specs.declared.floor.Floor.{Floor}
+use Rattle.plane_geom.specs.declared.rect.Solid.{Solid}
+use Rattle.plane_geom.specs.Rect.{RectIsOnSheet}
 use Rattle.line_arena.specs.Stands.{StandsFor}
 use Rattle.scene_model.specs.Routing.{floor_of, task_of}
 use Rattle.std.specs.declared.alloc.AllocError.{AllocError}
+use Rattle.scene_model.proofs.ForRouting.Floors.{floors_fit}
 use Rattle.route_audit.specs.Audits.{IsBroken, IsJudged}
 use Rattle.route_audit.proofs.Audited.{is_problem, judged}
 use Rattle.route_audit.proofs.connectors.rule_at.Goals as goal
@@ -14,6 +18,12 @@ weaker (Err e) P Q f h = tt
 
 pub new-requires : goal.new-requires
 new-requires c =
+    let s = c.args.scene.now in
+    let is = c.as_slice-solids.ensures ∙ ap (λ (f : Floor). f.solids) (c.floor.ensures ∙ c.requires.graph) in
+    subst (All (λ (t : Solid). RectIsOnSheet t.rect)) (sym is) (λ k d lt. ((floors_fit s c.valid.ensures).solids k d lt).on_sheet)
+
+pub new-requires-2-clause-problem : goal.new-requires-2-clause-problem
+new-requires-2-clause-problem c =
     let s = c.args.scene.now in
     let e = c.args.edge.now in
     let g = c.args.graph.now in

@@ -1,6 +1,6 @@
 -- A choice without a crossing at its port has no ending; a stub and a connection cost are small.
 use Rattle.std.proofs.Common.{◌+◌, refl, ap, arith}
-use Rattle.search_problem.proofs.Stubs.{short_stub}
+use Rattle.search_problem.proofs.StubLengths.{short_stub}
 use Rattle.search_problem.proofs.ends.ending_of.Goals as goal
 
 pub returns-in_err-crossing-clause-none : goal.returns-in_err-crossing-clause-none
@@ -15,7 +15,7 @@ pub returns-clause-ending : goal.returns-clause-ending
 returns-clause-ending c = record {
   is_end = c.requires.number;
   port = refl;
-  free = c.if-not-is_stub_free.ensures.0 refl;
+  free = c.if-not-has_free_stub.ensures.0 refl;
   here = c.in_ok-crossing.ensures.found;
   dir = c.opposite.ensures;
   stub = c.distance-stub.ensures;

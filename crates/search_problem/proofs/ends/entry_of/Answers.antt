@@ -2,7 +2,7 @@
 use Rattle.std.proofs.Common.{◌+◌, List, refl, ap, subst, arith}
 use Rattle.plane_geom.specs.declared.point.Point.{Point}
 use Rattle.move_model.specs.Places.{ComesTo}
-use Rattle.search_problem.proofs.Stubs.{short_stub}
+use Rattle.search_problem.proofs.StubLengths.{short_stub}
 use Rattle.search_problem.proofs.ends.entry_of.Goals as goal
 
 pub returns-in_err-crossing-clause-none : goal.returns-in_err-crossing-clause-none
@@ -18,7 +18,7 @@ returns-clause-entry c = record {
   is_start = c.requires.number;
   port = refl;
   enters = record {
-    free = c.if-not-is_stub_free.ensures.0 refl;
+    free = c.if-not-has_free_stub.ensures.0 refl;
     here = c.in_ok-crossing.ensures.found;
     heading = refl;
     stage = subst (λ (via : List Point). ComesTo via 0 c.args.start.port c.stage_at.result) c.as_slice.ensures c.stage_at.ensures;

@@ -7,11 +7,11 @@ use Rattle.search_problem.proofs.ends.push_entry.Goals as goal
 
 pub returns-in_ok-push : goal.returns-in_ok-push
 returns-in_ok-push c =
-    let more = entries_more c.args.solids.now c.args.arena.now c.args.task.now c.args.number c.args.entries.now.items c.requires.entries c.args.start c.requires.number
+    let more = entries_more c.args.sorted.now.solids.items c.args.arena.now c.args.task.now c.args.number c.args.entries.now.items c.requires.entries c.args.start c.requires.number
     c.in-Some.entry c.in-Some.ensures.number c.in-Some.ensures.entry in
-    subst (λ (es : List Entry). AreEntries c.args.solids.now c.args.arena.now c.args.task.now (c.args.number + 1) es) (sym c.in_ok-push.ensures.items) more
+    subst (λ (es : List Entry). AreEntries c.args.sorted.now.solids.items c.args.arena.now c.args.task.now (c.args.number + 1) es) (sym c.in_ok-push.ensures.items) more
 
 pub returns-in_default : goal.returns-in_default
 returns-in_default c =
-    entries_none c.args.solids.now c.args.arena.now c.args.task.now c.args.number c.args.entries.now.items c.requires.entries c.args.start c.requires.number
+    entries_none c.args.sorted.now.solids.items c.args.arena.now c.args.task.now c.args.number c.args.entries.now.items c.requires.entries c.args.start c.requires.number
     (c.in_default.ensures.none refl)

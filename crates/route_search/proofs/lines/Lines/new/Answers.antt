@@ -8,4 +8,5 @@ pub returns : goal.returns
 returns c = record {
   are_lists = lists_match c.args.arena.now c.laws.ensures.arena c.in_ok-lists.lists c.in_ok-lists.ensures;
   are_touches = ∣ subst (λ ls. AreTouches ls c.args.solids.now c.in_ok-touches.touches) c.lines.ensures c.in_ok-touches.ensures.touches ∣₁;
+  are_sorted = c.in_ok-sorted.ensures;
 }

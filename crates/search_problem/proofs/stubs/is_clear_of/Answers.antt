@@ -5,7 +5,7 @@ use Rattle.std.proofs.lemmas.List.{take_all}
 use Rattle.std.proofs.lemmas.List.Elements.{All-more}
 use Rattle.plane_geom.specs.Rect.{Meets}
 use Rattle.plane_geom.specs.declared.rect.Solid.{Solid}
-use Rattle.search_problem.proofs.ends.is_stub_free.Goals as goal
+use Rattle.search_problem.proofs.stubs.is_clear_of.Goals as goal
 
 pub loop-solid-preserved : goal.loop-solid-preserved
 loop-solid-preserved c =

@@ -3,7 +3,7 @@ use Rattle.std.proofs.Common.{subst, sym}
 use Rattle.plane_geom.specs.Point.{IsStraight}
 use Rattle.plane_geom.proofs.Headings.{forward_straight}
 use Rattle.walk_model.specs.Choice.{stub_length}
-use Rattle.search_problem.proofs.ends.is_met.Goals as goal
+use Rattle.search_problem.proofs.stubs.is_met.Goals as goal
 
 pub meets-requires-clause-straight : goal.meets-requires-clause-straight
 meets-requires-clause-straight c =
