@@ -1,6 +1,6 @@
 -- What is read of a problem lies on the sheet, and what is ahead by what lines keep is small.
 use Rattle.std.proofs.Common.{◌≡◌, ℕ, ◌<◌, ◌≤◌, List, Option, Some, None, All, Contains, length, refl, sym, subst, arith, unsigned_abs, inl, inr}
-use Rattle.std.specs.Prelude.{ℤ, slice_get}
+use Rattle.std.specs.Prelude.{ℤ, ◌≤ℤ◌, slice_get}
 use Rattle.std.proofs.lemmas.Int.{ints}
 use Rattle.std.proofs.lemmas.List.Elements.{All-contains}
 use Rattle.plane_geom.specs.declared.point.Point.{Point}
@@ -23,7 +23,7 @@ use Rattle.search_problem.specs.declared.problem.Problem.{Problem}
 use Rattle.exit_rows.specs.Exits.{CountsAt, IsSmallKept, ahead_at, least_at}
 use Rattle.exit_rows.specs.declared.exit.Kept.{Kept}
 use Rattle.exit_rows.proofs.Least.{attained}
-use Rattle.exit_spread.specs.Propagating.{IsFurtherAhead}
+use Rattle.exit_spread.specs.Propagating.{IsFurtherAhead, reach_along}
 use Rattle.exit_spread.specs.Offers.{from_after}
 use Rattle.exit_spread.specs.Searching.{IsKeptOf}
 use Rattle.exit_spread.proofs.Known.Attained.{from_cases}
@@ -41,6 +41,13 @@ reach_within East p h = h.x
 reach_within South p h = h.y
 reach_within West p h = let low = h.x.low in let high = h.x.high in record { low = omega (arith, ints, high); high = omega (arith, ints, low) }
 reach_within North p h = let low = h.y.low in let high = h.y.high in record { low = omega (arith, ints, high); high = omega (arith, ints, low) }
+
+-- a coordinate along a line, between two of whose reaches it is
+pub along_within : (d : Dir) (z low high : ℤ) → IsCoordinate low → IsCoordinate high → low ≤ℤ reach_along d z → reach_along d z ≤ℤ high → IsCoordinate z
+along_within East z low high l h from to = let least = l.low in let most = h.high in record { low = omega (arith, ints, least, from); high = omega (arith, ints, most, to) }
+along_within South z low high l h from to = let least = l.low in let most = h.high in record { low = omega (arith, ints, least, from); high = omega (arith, ints, most, to) }
+along_within West z low high l h from to = let least = l.low in let most = h.high in record { low = omega (arith, ints, most, to); high = omega (arith, ints, least, from) }
+along_within North z low high l h from to = let least = l.low in let most = h.high in record { low = omega (arith, ints, most, to); high = omega (arith, ints, least, from) }
 
 pub crossing_within : (p : Problem) (c : ℕ) (q : Point) → IsReady p → StandsAt p.arena.now c q → PointIsOnSheet q
 crossing_within p c q ready here = crossing_on_sheet ready.floor p.arena.now c q ready.arena ready.problem.stands here

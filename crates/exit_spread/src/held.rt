@@ -80,31 +80,31 @@ pub fn held_from(problem: &Problem<'_>, touches: &Touches, run: &Run, before: Di
     greater(touched, checkpoint)
 }
 
-/// Whether a checkpoint is on the whole line of the way through the point.
-fn has_checkpoint(via: &[Point], way: Way, at: Point) -> bool
-    ensures { Any (λ c. across way c ≡ across way at) via.now → IsTrue result }
+/// Whether a checkpoint is on the whole line of the way at the coordinate.
+fn has_checkpoint(via: &[Point], way: Way, at: i64) -> bool
+    ensures { Any (λ c. across way c ≡ at) via.now → IsTrue result }
 {
     for &checkpoint in via {
-        if checkpoint.across(way) == at.across(way) {
+        if checkpoint.across(way) == at {
             return true;
         }
     }
     false
 }
 
-/// Whether the whole line of the way through the point meets the box of the ports.
-fn meets_ports(origin: &Origin, way: Way, at: Point) -> bool
-    ensures { (p : PointOf) → HasWithin origin.now.ports p → across way p ≡ across way at → IsTrue result }
+/// Whether the whole line of the way at the coordinate meets the box of the ports.
+fn meets_ports(origin: &Origin, way: Way, at: i64) -> bool
+    ensures { (p : PointOf) → HasWithin origin.now.ports p → across way p ≡ at → IsTrue result }
 {
     match way {
-        Way::Vertical => origin.ports.left <= at.x && at.x <= origin.ports.right,
-        Way::Horizontal => origin.ports.top <= at.y && at.y <= origin.ports.bottom,
+        Way::Vertical => origin.ports.left <= at && at <= origin.ports.right,
+        Way::Horizontal => origin.ports.top <= at && at <= origin.ports.bottom,
     }
 }
 
-/// Whether an entry may be on the whole line of the way through the point.
-fn has_entry(origins: &[Origin], way: Way, at: Point) -> bool
-    ensures { (p : PointOf) → Any (λ o. HasWithin o.ports p) origins.now → across way p ≡ across way at → IsTrue result }
+/// Whether an entry may be on the whole line of the way at the coordinate.
+fn has_entry(origins: &[Origin], way: Way, at: i64) -> bool
+    ensures { (p : PointOf) → Any (λ o. HasWithin o.ports p) origins.now → across way p ≡ at → IsTrue result }
 {
     for origin in origins {
         if meets_ports(origin, way, at) {
@@ -133,24 +133,24 @@ fn may_be_held(
     touches.may_touch(line, held_to(before, next), heading, end)
 }
 
-/// Whether a run along the line that reaches the point in the heading, and turns there to `next`,
-/// may be part of a first walk: it may begin at an entry or be held.
+/// Whether a run in the heading, along the line whose coordinate is `at`, that comes as far as `end`
+/// and turns there to `next`, may be part of a first walk: it may begin at an entry or be held.
 pub fn may_begin(
     problem: &Problem<'_>,
     touches: &Touches,
     line: usize,
     heading: Dir,
-    at: Point,
+    at: i64,
+    end: i64,
     next: Dir,
 ) -> bool
     requires ready { IsReady problem.now }
     requires line { line < length touches.now }
-    requires within { PointIsOnSheet at }
-    ensures { (lists : Lists) → AreOf problem.now lists touches.now → (c : ℕ) → StandsAt problem.now.arena.now c at →
-        number_of lists c (way_of heading) ≡ line → MayBegin problem.now heading c at next → IsTrue result }
+    requires end { IsCoordinate end }
+    ensures { (lists : Lists) → AreOf problem.now lists touches.now → (c : ℕ) (q : PointOf) → StandsAt problem.now.arena.now c q →
+        number_of lists c (way_of heading) ≡ line → across (way_of heading) q ≡ at → reach heading q ≡ end → MayBegin problem.now heading c q next → IsTrue result }
 {
     let before = crosswise(heading);
-    let end = reach(heading, at);
     may_be_held(touches, line, heading, end, before, next)
         || may_be_held(touches, line, heading, end, before.opposite(), next)
         || has_checkpoint(problem.task.via.as_slice(), heading.way(), at)

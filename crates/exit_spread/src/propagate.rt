@@ -10,12 +10,13 @@ ghost use Rattle.search_problem.specs.Problems.{IsReady};
 ghost use Rattle.walk_model.specs.Cost.{turn};
 ghost use Rattle.exit_rows.specs.Exits.{CountsAt, IsSmallKept, ahead_at};
 ghost use Rattle.exit_spread.specs.Propagating.{Adds, AreOf, IsBehind, IsFurtherAhead, IsMetAt, IsRun, IsSound, IsTurnedAt, IsTurnedOff, reach_along};
+ghost use Rattle.exit_spread.specs.Near.{HasReach};
 ghost use Rattle.exit_spread.specs.Offers.{IsPropagatedAt};
 ghost use Rattle.exit_spread.specs.Searching.{most_stops};
 
 use crate::held::{held_from, may_begin};
-use crate::near::near_from;
-use crate::run::{Run, crosswise, first_begin, last_begin, point_on, stops_between};
+use crate::near::{Near, near_from};
+use crate::run::{Run, crosswise, first_begin, last_begin, point_on, reach_along, stops_between};
 use crate::spread::Spread;
 use exit_rows::Exit;
 use line_arena::CrossId;
@@ -25,6 +26,17 @@ use plane_geom::{Dir, Point};
 use search_problem::{Entry, Problem};
 use side_touches::{Touches, reach};
 use std::alloc::AllocError;
+
+/// The turns from one heading into a run.
+#[derive(Clone, Copy, Debug)]
+pub struct Turns {
+    /// The heading before the turn.
+    pub before: Dir,
+    /// How far on in that heading the line of the run is.
+    pub end: i64,
+    /// Where on the run the turns may be.
+    pub near: Near,
+}
 
 /// The crossing of the stop that is so far along its line.
 fn crossing_along(stops: &[Stop], along: i64) -> Option<CrossId>
@@ -245,41 +257,46 @@ impl Spread {
         Ok(())
     }
 
-    /// Offers to turn into the run at the stop, to a walk that comes with the heading `before`, if
-    /// a run in that heading may begin.
+    /// Offers to turn into the run at the stop, if it is near and a run to it may begin.
     fn offer_turn(
         &mut self,
         problem: &Problem<'_>,
         lists: &LineLists,
         touches: &Touches,
         run: &Run,
-        before: Dir,
+        turns: &Turns,
         stop: &Stop,
     ) -> Result<(), AllocError>
         requires ready { IsReady problem.now }
         requires of { AreOf problem.now lists.now touches.now }
         requires run { IsRun problem.now (number_of lists.now) run.now }
-        requires turn { turn before run.now.heading ≡ 1 }
+        requires turn { turn turns.now.before run.now.heading ≡ 1 }
+        requires end { turns.now.end ≡ reach turns.now.before run.now.end }
         requires stop { Contains (stops_of lists.now run.now.line) stop.now }
         requires from { run.now.kept.from ≤ℤ reach_along run.now.heading stop.now.along }
         requires before { reach_along run.now.heading stop.now.along <ℤ run.now.kept.at }
         requires sound { IsSound problem.now (number_of lists.now) self.old }
         ensures rows { self.new.rows ≡ self.old.rows }
         ensures adds { OnOk result (Adds problem.now (number_of lists.now) self.old self.new 1) }
-        ensures turned { OnOk result (IsTurnedAt problem.now (number_of lists.now) self.new run.now before stop.now) }
+        ensures turned { OnOk result (HasReach turns.now.near (reach_along run.now.heading stop.now.along) →
+            IsTurnedAt problem.now (number_of lists.now) self.new run.now turns.now.before stop.now) }
     {
-        let at = point_on(&lists.lines()[run.line], stop.along);
+        if !turns.near.has(reach_along(run.heading, stop.along)) {
+            return Ok(());
+        }
         if !may_begin(
             problem,
             touches,
             stop.across as usize,
-            before,
-            at,
+            turns.before,
+            stop.along,
+            turns.end,
             run.heading,
         ) {
             return Ok(());
         }
-        let exit = run.turn(before, stop, at, problem.task.penalty);
+        let at = point_on(&lists.lines()[run.line], stop.along);
+        let exit = run.turn(turns.before, stop, at, problem.task.penalty);
         self.offer(problem, at, exit)?;
         Ok(())
     }
@@ -307,17 +324,17 @@ impl Spread {
             return Ok(());
         };
         let origins = problem.origins_after(run.stage);
-        let Some(near) = near_from(origins, run, before, self.best, problem.task.penalty) else {
-            return Ok(());
-        };
-        let from = first_begin(near, &run.kept);
+        let near = near_from(origins, run, before, self.best, problem.task.penalty);
+        let from = first_begin(near.first(), &run.kept);
         let to = last_begin(held, &run.kept);
         if to < from {
             return Ok(());
         }
+        let end = reach(before, run.end);
+        let turns = Turns { before, end, near };
         let behind = stops_between(lists.stops(run.line), run.heading, from, to);
         for stop in behind {
-            self.offer_turn(problem, lists, touches, run, before, stop)?;
+            self.offer_turn(problem, lists, touches, run, &turns, stop)?;
         }
         Ok(())
     }

@@ -100,6 +100,17 @@ pub fn point_on(line: &Line, along: i64) -> Point
     }
 }
 
+/// The reach in the heading of a point so far along its line.
+pub fn reach_along(heading: Dir, along: i64) -> i64
+    requires { IsCoordinate along }
+    ensures { result ≡ reach_along heading along }
+{
+    match heading {
+        Dir::East | Dir::South => along,
+        Dir::West | Dir::North => -along,
+    }
+}
+
 /// From how far on runs to the exit begin at least, where they begin from `near` on.
 pub fn first_begin(near: i64, kept: &Kept) -> i64
     ensures from { kept.now.from ≤ℤ result }

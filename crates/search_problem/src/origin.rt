@@ -97,7 +97,7 @@ impl Origin {
     }
 
     /// Whether the point lies behind the box, for one who leaves the box in the direction.
-    fn lies_behind(&self, p: Point, dir: Dir) -> bool
+    pub fn lies_behind(&self, p: Point, dir: Dir) -> bool
         requires origin { IsOrigin self.now }
         requires within { PointIsOnSheet p }
         ensures { IsTrue result ↔ (behind_by dir self.now.ports p ≡ 0 → ⊥) }

@@ -64,6 +64,29 @@ way_across North East e = refl
 way_across North West e = refl
 way_across _ _ e = absurd (omega (arith, e))
 
+-- for one who comes across the line, a point on it is at its coordinate along the line, and as far on as the line
+across_point : (h d : Dir) (at z : ℤ) → turn h d ≡ 1 → across (way_of h) (point_on (way_of d) at z) ≡ z
+across_point East South at z once = refl
+across_point East North at z once = refl
+across_point West South at z once = refl
+across_point West North at z once = refl
+across_point South East at z once = refl
+across_point South West at z once = refl
+across_point North East at z once = refl
+across_point North West at z once = refl
+across_point _ _ at z once = absurd (omega (arith, once))
+
+as_far : (h d : Dir) (e : Point) (z : ℤ) → turn h d ≡ 1 → reach h (point_on (way_of d) (across (way_of d) e) z) ≡ reach h e
+as_far East South e z once = refl
+as_far East North e z once = refl
+as_far West South e z once = refl
+as_far West North e z once = refl
+as_far South East e z once = refl
+as_far South West e z once = refl
+as_far North East e z once = refl
+as_far North West e z once = refl
+as_far _ _ e z once = absurd (omega (arith, once))
+
 module _ (p : Problem) (lists : Lists) (ready : IsReady p) (of : AreListsOf p.arena.now lists) (r : Run) (run : IsRun p (number_of lists) r) where
   -- the line of the run
   pub record IsRunLine : Type 0 where
@@ -130,6 +153,23 @@ module _ (p : Problem) (lists : Lists) (ready : IsReady p) (of : AreListsOf p.ar
         leads = λ h bend.
             one_number (line_along (rising (other_way w)) is.pair) s.across (number_of lists s.crossing (other_way w)) cross.0 other.0 cross.1 other.1
             ∙ ap (number_of lists s.crossing) (ap other_way l.way ∙ sym (way_across h r.heading bend));
+      }
+
+  -- where the stop stands, for one who comes across the line
+  pub record IsAcross (s : Stop) (h : Dir) (q : Point) : Type 0 where
+    pub across : across (way_of h) q ≡ s.along
+    pub reach : reach h q ≡ reach h r.end
+
+  pub stop_across : (s : Stop) → Contains (stops_of lists r.line) s → (h : Dir) → turn h r.heading ≡ 1 → (q : Point) → StandsAt p.arena.now s.crossing q → IsAcross s h q
+  stop_across s has h once q here =
+      let l = run_line in
+      let d = r.heading in
+      let is : q ≡ point_on (way_of d) (across (way_of d) r.end) s.along =
+      one_point p.arena.now s.crossing q (point_on l.line.way l.line.at s.along) ready.arena here (stop_here s has).stands
+      ∙ ap (λ w. point_on w l.line.at s.along) l.way ∙ ap (λ z. point_on (way_of d) z s.along) l.at in
+      record {
+        across = ap (across (way_of h)) is ∙ across_point h d (across (way_of d) r.end) s.along once;
+        reach = ap (reach h) is ∙ as_far h d r.end s.along once;
       }
 
   -- the stop of a crossing behind the run's exit

@@ -1,6 +1,7 @@
 -- Turns that cost too much are left out; and no line has more stops than the bound that is counted with.
-use Rattle.std.proofs.Common.{◌≡◌, ◌⊎◌, ℕ, ℤ, ◌+◌, ◌*◌, ◌<◌, ◌≤◌, ◌<ℤ◌, ◌≤ℤ◌, Bool, true, false, List, [], get_or, length, ap, refl, inl, inr, arith}
+use Rattle.std.proofs.Common.{◌≡◌, ◌⊎◌, ℕ, ℤ, pos, negsuc, ◌-ℤ◌, ◌+◌, ◌*◌, ◌<◌, ◌≤◌, ◌<ℤ◌, ◌≤ℤ◌, Bool, true, false, List, [], get_or, length, ap, refl, inl, inr, arith}
 use Rattle.std.specs.Prelude.{int_lt, sum_by}
+use Rattle.std.specs.Int.{int_gap}
 use Rattle.std.proofs.lemmas.Bool.{cases_lt}
 use Rattle.std.proofs.lemmas.Int.{ints}
 use Rattle.std.proofs.lemmas.List.{get_or_past}
@@ -34,6 +35,12 @@ few xs n = elim (cases_lt n (length xs)) as (λ _. length (get_or xs n []) ≤ s
 
 pub few_stops : (lists : Lists) (n : ℕ) → length (stops_of lists n) ≤ most_stops lists
 few_stops lists n = few lists.stops n
+
+pub gap_upto : (a b : ℤ) → (b -ℤ a) ≤ℤ pos (int_gap a b)
+gap_upto (pos a) (pos b) = omega (arith, ints)
+gap_upto (pos a) (negsuc b) = omega (arith, ints)
+gap_upto (negsuc a) (pos b) = omega (arith, ints)
+gap_upto (negsuc a) (negsuc b) = omega (arith, ints)
 
 by_test : (a b : ℤ) (t : Bool) → int_lt a b ≡ t → (a <ℤ b) ⊎ (b ≤ℤ a)
 by_test a b true e = inl (grind (arith, ints))

@@ -16,7 +16,7 @@ use Rattle.move_model.specs.Places.{ComesTo}
 use Rattle.search_problem.specs.Problems.{IsReady}
 use Rattle.search_problem.specs.declared.problem.Problem.{Problem}
 use Rattle.exit_rows.specs.Exits.{IsLate, IsSmallAhead, IsSmallKept, IsUndercut}
-use Rattle.exit_rows.specs.Rows.{HasRow, IsMarked, Keeps, SameRooms, kept_in}
+use Rattle.exit_rows.specs.Rows.{HasRow, IsMarked, Keeps, kept_in}
 use Rattle.exit_rows.specs.Weights.{CountAlike, rows_weight}
 use Rattle.exit_rows.specs.declared.exit.Exit.{Exit}
 use Rattle.exit_rows.specs.declared.exit.Kept.{Kept}

@@ -6,4 +6,4 @@ use Rattle.plane_geom.specs.declared.point.Point.{Point}
 use Rattle.exit_spread.proofs.held.has_entry.Given as goal
 
 abbrev pub invariant-loop-origin : goal.invariant-loop-origin
-invariant-loop-origin l = All (λ o. (p : Point) → HasWithin o.ports p → across l.way p ≡ across l.way l.at → ⊥) (take l.origin-index l.origins)
+invariant-loop-origin l = All (λ o. (p : Point) → HasWithin o.ports p → across l.way p ≡ l.at → ⊥) (take l.origin-index l.origins)

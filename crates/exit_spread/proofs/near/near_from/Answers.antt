@@ -1,5 +1,5 @@
 -- The least bound is that of one of the origins.
-use Rattle.std.proofs.Common.{◌≤◌, ◌<◌, ℕ, zero, suc, ◌+◌, List, [], ◌∷◌, All, min, length, take, get_or, pos, subst, inl, inr, arith}
+use Rattle.std.proofs.Common.{◌≤◌, ℕ, suc, ◌+◌, List, [], ◌∷◌, All, min, take, pos, subst, inl, inr, arith}
 use Rattle.std.specs.Prelude.{fold}
 use Rattle.std.proofs.lemmas.Bool.{cases_lt}
 use Rattle.std.proofs.lemmas.Int.{ints}
@@ -33,10 +33,10 @@ loop-origin-preserved c =
     let bound : Origin → Point → ℕ = λ o q. bound_from c.args.penalty o q c.args.before in
     let origins = c.args.origins.now in
     let i = c.loop-origin.origin-index in
-    All-more (λ o. IsNear c.args.run.now (bound o) c.args.penalty c.args.best c.lesser-near.result) origins i no_origin c.loop-origin-test.true
-    (All-weaker (λ o. IsNear c.args.run.now (bound o) c.args.penalty c.args.best c.loop-origin.near) (λ o. IsNear c.args.run.now (bound o) c.args.penalty c.args.best c.lesser-near.result)
-    (λ o was q on before cheap. c.lesser-near.ensures.first (reach c.args.run.now.heading q) (was q on before cheap)) (take i origins) c.loop-origin.invariant)
-    (λ q on before cheap. c.lesser-near.ensures.second (reach c.args.run.now.heading q) (c.near_origin.ensures q on before cheap))
+    All-more (λ o. IsNear c.args.run.now (bound o) c.args.penalty c.args.best c.join-near.result) origins i no_origin c.loop-origin-test.true
+    (All-weaker (λ o. IsNear c.args.run.now (bound o) c.args.penalty c.args.best c.loop-origin.near) (λ o. IsNear c.args.run.now (bound o) c.args.penalty c.args.best c.join-near.result)
+    (λ o was q on before cheap. c.join-near.ensures.first (reach c.args.run.now.heading q) (was q on before cheap)) (take i origins) c.loop-origin.invariant)
+    (λ q on before cheap. c.join-near.ensures.second (reach c.args.run.now.heading q) (c.near_origin.ensures q on before cheap))
 
 pub returns : goal.returns
 returns c = λ q on before cheap.

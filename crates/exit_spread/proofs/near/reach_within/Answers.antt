@@ -1,15 +1,9 @@
 -- Each step back from `at` takes one, and one more before the range.
-use Rattle.std.proofs.Common.{ℤ, pos, negsuc, ◌≤ℤ◌, ◌-ℤ◌, arith}
-use Rattle.std.specs.Int.{int_gap}
+use Rattle.std.proofs.Common.{arith}
 use Rattle.std.proofs.lemmas.Int.{ints}
 use Rattle.exit_rows.proofs.Orders.{gap_above}
+use Rattle.exit_spread.proofs.Spreading.Turning.{gap_upto}
 use Rattle.exit_spread.proofs.near.reach_within.Goals as goal
-
-gap_upto : (a b : ℤ) → (b -ℤ a) ≤ℤ pos (int_gap a b)
-gap_upto (pos a) (pos b) = omega (arith, ints)
-gap_upto (pos a) (negsuc b) = omega (arith, ints)
-gap_upto (negsuc a) (pos b) = omega (arith, ints)
-gap_upto (negsuc a) (negsuc b) = omega (arith, ints)
 
 pub returns-then-from-high : goal.returns-then-from-high
 returns-then-from-high c = λ z before near.

@@ -11,6 +11,7 @@ use Rattle.plane_geom.specs.Point.{IsCoordinate}
 use Rattle.line_arena.specs.Arena.{StandsAt}
 use Rattle.line_lists.specs.Lists.{number_of}
 use Rattle.line_lists.specs.declared.stop.Stop.{Stop}
+use Rattle.exit_spread.specs.Near.{HasReach}
 use Rattle.exit_spread.specs.Propagating.{IsBehind, IsTurnOffered, IsTurnedAt, reach_along}
 use Rattle.exit_spread.specs.Offers.{IsHeldUpTo, MayBegin}
 use Rattle.exit_rows.specs.Exits.{ahead_at}
@@ -23,7 +24,7 @@ use Rattle.exit_spread.proofs.Spreading.Behind.{end_within, run_small, same_acro
 use Rattle.exit_spread.proofs.Spreading.OnLine.{line_listed, reach_of_along, stop_at, stops}
 use Rattle.exit_spread.proofs.Spreading.Turning.{few_stops, left_out}
 use Rattle.exit_spread.proofs.spread.Spread.turn_off.Goals as goal
-use Rattle.exit_spread.proofs.spread.Spread.turn_off.Goals.{After-first_begin-from, After-last_begin-to, After-near_from}
+use Rattle.exit_spread.proofs.spread.Spread.turn_off.Goals.{After-first_begin-from, After-last_begin-to, After-near_from-near}
 
 pub returns-in_default-clause-turned : goal.returns-in_default-clause-turned
 returns-in_default-clause-turned c = λ k q b held may.
@@ -32,8 +33,8 @@ returns-in_default-clause-turned c = λ k q b held may.
 pub origins_after-origins-requires : goal.origins_after-origins-requires
 origins_after-origins-requires c = record { ready = c.requires.ready; stage = stage_within c.args.problem.now c.args.lists.now c.requires.ready c.requires.of.are_lists c.args.run.now c.requires.run }
 
-pub near_from-requires : goal.near_from-requires
-near_from-requires c =
+pub near_from-near-requires : goal.near_from-near-requires
+near_from-near-requires c =
     let p = c.args.problem.now in
     let lists = c.args.lists.now in
     let ready = c.requires.ready in
@@ -42,23 +43,24 @@ near_from-requires c =
       origins = c.origins_after-origins.ensures.origins;
       kept = run_small p lists ready are c.args.run.now c.requires.run;
       end = end_within p lists ready are c.args.run.now c.requires.run;
+      turn = c.requires.turn;
       best = c.requires.sound.best.most;
       penalty = ready.problem.is_task.penalty;
     }
 
 -- where the walk is no further back than that, or costs too much
-near_or_dear : (c : After-near_from) (s : Spread) → s.best ≤ c.args.self.now.best → (k : ℕ) (q : Point) → IsBehind c.args.problem.now (number_of c.args.lists.now) c.args.run.now k q →
-    IsSomeAnd c.near_from.result (λ z. z ≤ℤ reach c.args.run.now.heading q) ⊎ IsTurnOffered c.args.problem.now (number_of c.args.lists.now) s c.args.run.now c.args.before k q
+near_or_dear : (c : After-near_from-near) (s : Spread) → s.best ≤ c.args.self.now.best → (k : ℕ) (q : Point) → IsBehind c.args.problem.now (number_of c.args.lists.now) c.args.run.now k q →
+    HasReach c.near_from-near.result (reach c.args.run.now.heading q) ⊎ IsTurnOffered c.args.problem.now (number_of c.args.lists.now) s c.args.run.now c.args.before k q
 near_or_dear c s lower k q b =
     let p = c.args.problem.now in
     let r = c.args.run.now in
     let cost = (ahead_at r.kept (reach r.heading q)).cost + p.task.now.penalty + bound_at p (place_at k r.stage c.args.before) q in
-    elim (cases_lt c.args.self.now.best cost) as (λ _. IsSomeAnd c.near_from.result (λ z. z ≤ℤ reach r.heading q) ⊎ IsTurnOffered p (number_of c.args.lists.now) s r c.args.before k q) [
+    elim (cases_lt c.args.self.now.best cost) as (λ _. HasReach c.near_from-near.result (reach r.heading q) ⊎ IsTurnOffered p (number_of c.args.lists.now) s r c.args.before k q) [
       | inl dear ↦ inr (left_out p (number_of c.args.lists.now) s r c.args.before k q c.requires.turn (omega (arith, dear, lower)))
       | inr cheap ↦ inl (
           let on = same_across p c.args.lists.now c.requires.ready c.requires.of.are_lists r c.requires.run k q b in
           let bound = ap (λ os. least_bound_from p.task.now.penalty os q c.args.before) c.origins_after-origins.ensures.exact in
-          c.near_from.ensures q on b.counts.before (omega (arith, cheap, bound)))
+          c.near_from-near.ensures q on b.counts.before (omega (arith, cheap, bound)))
     ]
 
 pub last_begin-to-requires : goal.last_begin-to-requires
@@ -74,21 +76,12 @@ reaches c k q b held =
     let both = simp to_z-of_z at c.last_begin-to.ensures.both in
     both z far b.counts.before
 
-pub returns-in_default-near_from-clause-turned : goal.returns-in_default-near_from-clause-turned
-returns-in_default-near_from-clause-turned c = λ k q b held may.
-    let at = (goal.at.returns-in_default-near_from-clause-turned c).After-near_from in
-    elim (near_or_dear at c.args.self.now (omega arith) k q b) as (λ _. IsTurnOffered c.args.problem.now (number_of c.args.lists.now) c.args.self.now c.args.run.now c.args.before k q) [
-      | inl near ↦ absurd (subst (λ o. IsSomeAnd o (λ z. z ≤ℤ reach c.args.run.now.heading q)) c.in_default-near_from.is near)
-      | inr dear ↦ dear
-    ]
-
--- and then no further back than where runs begin
-begins_or : {T : Type 0} (c : After-first_begin-from) (z : ℤ) → c.args.run.now.kept.from ≤ℤ z → IsSomeAnd c.near_from.result (λ y. y ≤ℤ z) ⊎ T → (c.first_begin-from.result ≤ℤ z) ⊎ T
-begins_or {T} c z from (inl near) =
-    let fits : FitsSigned w64 c.in-Some-near_from.near = search rules in
+-- where the walk is near, it is no further back than where runs begin
+begins : (c : After-first_begin-from) (z : ℤ) → c.args.run.now.kept.from ≤ℤ z → HasReach c.near_from-near.result z → c.first_begin-from.result ≤ℤ z
+begins c z from near =
+    let fits : FitsSigned w64 c.first.result = search rules in
     let both = simp to_z-of_z at c.first_begin-from.ensures.both in
-    inl (both z from (subst (λ o. IsSomeAnd o (λ y. y ≤ℤ z)) c.in-Some-near_from.is near))
-begins_or {T} c z from (inr other) = inr other
+    both z from (c.first.ensures z near)
 
 pub returns-then-to-from-clause-turned : goal.returns-then-to-from-clause-turned
 returns-then-to-from-clause-turned c = λ k q b held may.
@@ -97,10 +90,13 @@ returns-then-to-from-clause-turned c = λ k q b held may.
     let from_fits : FitsSigned w64 c.first_begin-from.result = search rules in
     let nearer = simp to_z-of_z at c.if-to-from.true in
     let upto = reaches at.After-last_begin-to k q b held in
-    elim (begins_or at.After-first_begin-from (reach c.args.run.now.heading q) b.counts.from (near_or_dear at.After-near_from c.args.self.now (omega arith) k q b)) as (λ _. IsTurnOffered c.args.problem.now (number_of c.args.lists.now) c.args.self.now c.args.run.now c.args.before k q) [
-      | inl from ↦ absurd (omega (arith, ints, nearer, upto, from))
+    elim (near_or_dear at.After-near_from-near c.args.self.now (omega arith) k q b) as (λ _. IsTurnOffered c.args.problem.now (number_of c.args.lists.now) c.args.self.now c.args.run.now c.args.before k q) [
+      | inl near ↦ absurd (let from = begins at.After-first_begin-from (reach c.args.run.now.heading q) b.counts.from near in omega (arith, ints, nearer, upto, from))
       | inr dear ↦ dear
     ]
+
+pub reach-end-requires : goal.reach-end-requires
+reach-end-requires c = end_within c.args.problem.now c.args.lists.now c.requires.ready c.requires.of.are_lists c.args.run.now c.requires.run
 
 pub stops-requires : goal.stops-requires
 stops-requires c = line_listed c.args.problem.now c.args.lists.now c.requires.ready c.requires.of.are_lists c.args.run.now c.requires.run
@@ -175,9 +171,9 @@ loop-stop-preserved c =
     record {
       rows = c.in_ok-offer_turn.ensures.rows ∙ c.loop-stop.invariant.rows;
       adds = adds_both p n old mid new i 1 c.loop-stop.invariant.adds more;
-      turned = All-more (IsTurnedAt p n new r h) xs i c.stop-item.result c.loop-stop-test.true
-          (λ k d lt. turned_on p n mid new 1 more r h (get_or (take i xs) k d) (c.loop-stop.invariant.turned k d lt))
-          (subst (IsTurnedAt p n new r h) c.stop-item.is c.in_ok-offer_turn.ensures.turned);
+      turned = All-more (λ (s : Stop). HasReach c.near_from-near.result (reach_along r.heading s.along) → IsTurnedAt p n new r h s) xs i c.stop-item.result c.loop-stop-test.true
+          (λ k d lt near. turned_on p n mid new 1 more r h (get_or (take i xs) k d) (c.loop-stop.invariant.turned k d lt near))
+          (subst (λ (s : Stop). HasReach c.near_from-near.result (reach_along r.heading s.along) → IsTurnedAt p n new r h s) c.stop-item.is c.in_ok-offer_turn.ensures.turned);
     }
 
 pub returns-clause-adds : goal.returns-clause-adds
@@ -199,9 +195,10 @@ returns-clause-turned c = λ k q b held may.
     let new = c.loop-stop.self in
     let z = reach r.heading q in
     let at = goal.at.returns-clause-turned c in
-    elim (begins_or at.After-first_begin-from z b.counts.from (near_or_dear at.After-near_from new c.loop-stop.invariant.adds.best k q b)) as (λ _. IsTurnOffered p n new r h k q) [
+    elim (near_or_dear at.After-near_from-near new c.loop-stop.invariant.adds.best k q b) as (λ _. IsTurnOffered p n new r h k q) [
       | inr dear ↦ dear
-      | inl from ↦ (
+      | inl near ↦ (
+          let from = begins at.After-first_begin-from z b.counts.from near in
           let xs = c.stops_between-behind.result.now in
           let fits : FitsSigned w64 c.first_begin-from.result = search rules in
           let to_fits : FitsSigned w64 c.last_begin-to.result = search rules in
@@ -211,8 +208,9 @@ returns-clause-turned c = λ k q b held may.
           let far : reach_along r.heading s.along ≡ z = ap (reach_along r.heading) found.1.along ∙ reach_of_along r.heading q in
           let upto = reaches at.After-last_begin-to k q b held in
           let has : Contains xs s = (members s).1 (subst (λ ys. Contains ys s) (sym c.stops.ensures) found.1.has, omega (arith, ints, far, from), omega (arith, ints, far, upto)) in
-          let all : All (IsTurnedAt p n new r h) xs = subst (All (IsTurnedAt p n new r h)) (take_all c.loop-stop.stop-index xs c.loop-stop-test.false) c.loop-stop.invariant.turned in
+          let turned : Stop → Type 0 = λ t. HasReach c.near_from-near.result (reach_along r.heading t.along) → IsTurnedAt p n new r h t in
+          let all : All turned xs = subst (All turned) (take_all c.loop-stop.stop-index xs c.loop-stop-test.false) c.loop-stop.invariant.turned in
           let same = found.1.crossing in
           subst (λ j. IsTurnOffered p n new r h j q) same
-          (All-contains (IsTurnedAt p n new r h) xs s all has q (subst (λ j. StandsAt p.arena.now j q) (sym same) b.here) (subst (λ j. MayBegin p h j q r.heading) (sym same) may)))
+          (All-contains turned xs s all has (subst (HasReach c.near_from-near.result) (sym far) near) q (subst (λ j. StandsAt p.arena.now j q) (sym same) b.here) (subst (λ j. MayBegin p h j q r.heading) (sym same) may)))
     ]
