@@ -1,4 +1,5 @@
 -- What is known along a first walk by the exits that lines keep.
+pub mod ByEndings
 pub mod AheadOrder
 pub mod Numbers
 pub mod Lines

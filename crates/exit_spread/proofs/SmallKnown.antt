@@ -53,14 +53,15 @@ offerable penalty h s v few short within small =
     lean false c = omega (arith, ints, small.lean, c)
 
 module _ (p : Problem) (number_of : ℕ → Way → ℕ) (s : Spread) (ready : IsReady p) (searching : IsSearching p number_of s None None) where
+  -- what the line of a crossing keeps is small
+  pub small_row : (k c : ℕ) (at : Point) (d : Dir) → StandsAt p.arena.now c at → All IsSmallKept (kept_in s.rows k (number_of c (way_of d)) d)
+  small_row k c at d here = All-weaker (IsKeptOf p number_of k (number_of c (way_of d)) d) IsSmallKept (λ e. kept_small p number_of ready k (number_of c (way_of d)) d e) (kept_in s.rows k (number_of c (way_of d)) d) (searching.kept k c d at here)
+
   small_towards : (x : Place) (at : Point) (d : Dir) (v : Ahead) → StandsAt p.arena.now x.crossing at → known_towards p number_of s x at d ≡ Some v → IsOfferable v
   small_towards x at d v here h =
       let within = crossing_within p x.crossing at ready here in
-      let line = number_of x.crossing (way_of d) in
-      let row = kept_in s.rows x.stage line d in
       let of = mapped_from (turned p x.heading at d) (known_along p number_of s x at d) v h in
-      let small : All IsSmallKept row = All-weaker (IsKeptOf p number_of x.stage line d) IsSmallKept (λ e. kept_small p number_of ready x.stage line d e) row (searching.kept x.stage x.crossing d at here) in
-      let further = least_small row (reach d at) of.0 small (reach_within d at within) of.1 in
+      let further = least_small (kept_in s.rows x.stage (number_of x.crossing (way_of d)) d) (reach d at) of.0 (small_row x.stage x.crossing at d here) (reach_within d at within) of.1 in
       subst IsOfferable of.2 (offerable p.task.now.penalty x.heading (record { from = at; dir = d; steps = 0 }) of.0 ready.problem.is_task.penalty (omega (arith, further.cost)) within further)
 
   small_ending_known : (x : Place) (e : Ending) (v : Ahead) → Contains p.endings.items e → by_ending p x e ≡ Some v → IsOfferable v

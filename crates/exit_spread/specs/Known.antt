@@ -16,6 +16,10 @@ use Rattle.exit_rows.specs.Rows.{kept_in}
 use Rattle.exit_spread.specs.declared.spread.Spread.{Spread}
 use Rattle.exit_spread.specs.Ways.{turned}
 
+-- what is known to lie ahead of a walk that arrives at the place, which is at the point, in the direction, by the line with that number
+abbrev pub known_by_line : Problem → Spread → Place → Point → ℕ → Dir → Option Ahead
+known_by_line p s x at l d = option_map (turned p x.heading at d) (least_at (kept_in s.rows x.stage l d) (reach d at))
+
 -- what is known to lie ahead of the place, which is at the point, in the direction
 abbrev pub known_along : Problem → (ℕ → Way → ℕ) → Spread → Place → Point → Dir → Option Ahead
 known_along p number_of s x at d = least_at (kept_in s.rows x.stage (number_of x.crossing (way_of d)) d) (reach d at)
@@ -24,11 +28,15 @@ known_along p number_of s x at d = least_at (kept_in s.rows x.stage (number_of x
 abbrev pub known_towards : Problem → (ℕ → Way → ℕ) → Spread → Place → Point → Dir → Option Ahead
 known_towards p number_of s x at d = option_map (turned p x.heading at d) (known_along p number_of s x at d)
 
--- what is ahead of the place by the stub of the ending, if the walk may end there
+-- what is ahead of the place by the stub of the ending
+abbrev pub ahead_by : Problem → Place → Ending → Ahead
+ahead_by p x e = with_stretch p.task.now.penalty x.heading (record { from = e.port; dir = e.dir; steps = e.rest }) nothing
+
+-- the same, if the walk may end there
 abbrev pub by_ending : Problem → Place → Ending → Option Ahead
 by_ending p x e =
     if e.crossing == x.crossing && x.stage == length p.task.now.via
-    then Some (with_stretch p.task.now.penalty x.heading (record { from = e.port; dir = e.dir; steps = e.rest }) nothing)
+    then Some (ahead_by p x e)
     else None
 
 -- the least that is known in any direction

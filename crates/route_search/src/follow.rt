@@ -172,21 +172,24 @@ impl<'a> Follower<'a> {
         ensures { IsTrue result ↔ MayEnd self.now.problem.now standing.now dir ending.now }
     {
         let place = standing.place;
+        if ending.crossing != place.crossing
+            || ending.dir != dir
+            || place.stage as usize != self.problem.task.via.as_slice().len()
+        {
+            return false;
+        }
         let stub = Stretch {
             from: ending.port,
             dir,
             steps: ending.rest,
         };
-        place.stage as usize == self.problem.task.via.as_slice().len()
-            && ending.crossing == place.crossing
-            && ending.dir == dir
-            && makes(
-                NOTHING,
-                place.heading,
-                stub,
-                self.problem.task.penalty,
-                standing.ahead,
-            )
+        makes(
+            NOTHING,
+            place.heading,
+            stub,
+            self.problem.task.penalty,
+            standing.ahead,
+        )
     }
 
     /// The earliest end stub in the direction by which the walk may end.
