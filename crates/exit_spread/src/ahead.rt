@@ -7,7 +7,7 @@ ghost use Rattle.search_problem.specs.Problems.{IsReady};
 ghost use Rattle.plane_geom.specs.Point.{PointIsOnSheet};
 ghost use Rattle.exit_rows.specs.Exits.{IsSmallKept};
 ghost use Rattle.exit_rows.specs.Rows.{HasRow, kept_in};
-ghost use Rattle.exit_spread.specs.Known.{ahead_by, known, known_by_line, known_onwards};
+ghost use Rattle.exit_spread.specs.Known.{ahead_by, known, known_by_line, known_onwards, known_towards};
 ghost use Rattle.exit_spread.specs.Searching.{IsSearching};
 
 use crate::propagate::turned;
@@ -36,7 +36,7 @@ fn ahead_by(problem: &Problem<'_>, place: &Place, ending: &Ending) -> Ahead
 impl Spread {
     /// What is known to lie ahead of the place, which is at the point, in the direction, by the line
     /// with that number.
-    fn ahead_towards(
+    fn ahead_by_line(
         &self,
         problem: &Problem<'_>,
         place: &Place,
@@ -54,6 +54,26 @@ impl Spread {
             .rows
             .ahead_along(place.stage, line, dir, reach(dir, at))?;
         Some(turned(place.heading, at, dir, problem.task.penalty, ahead))
+    }
+
+    /// What is known to lie ahead of the place in the direction.
+    pub fn ahead_towards(
+        &self,
+        problem: &Problem<'_>,
+        lists: &LineLists,
+        place: &Place,
+        dir: Dir,
+    ) -> Option<Ahead>
+        requires ready { IsReady problem.now }
+        requires lists { AreListsOf problem.now.arena.now lists.now }
+        requires searching { IsSearching problem.now (number_of lists.now) self.now None None }
+        requires stage { place.now.stage ≤ length problem.now.task.now.via }
+        requires here { (at : PointOf) × StandsAt problem.now.arena.now place.now.crossing at }
+        ensures { (at : PointOf) → StandsAt problem.now.arena.now place.now.crossing at → result ≡ known_towards problem.now (number_of lists.now) self.now place.now at dir }
+    {
+        let at = problem.arena.point(place.crossing);
+        let line = lists.line_of(problem.arena.index(place.crossing), dir.way());
+        self.ahead_by_line(problem, place, at, line, dir)
     }
 
     /// What is known to lie ahead of the place in all directions.
@@ -74,10 +94,10 @@ impl Spread {
         let index = problem.arena.index(place.crossing);
         let row = lists.line_of(index, Way::Horizontal);
         let column = lists.line_of(index, Way::Vertical);
-        let east = self.ahead_towards(problem, place, at, row, Dir::East);
-        let south = self.ahead_towards(problem, place, at, column, Dir::South);
-        let west = self.ahead_towards(problem, place, at, row, Dir::West);
-        let north = self.ahead_towards(problem, place, at, column, Dir::North);
+        let east = self.ahead_by_line(problem, place, at, row, Dir::East);
+        let south = self.ahead_by_line(problem, place, at, column, Dir::South);
+        let west = self.ahead_by_line(problem, place, at, row, Dir::West);
+        let north = self.ahead_by_line(problem, place, at, column, Dir::North);
         lesser(lesser(lesser(east, south), west), north)
     }
 

@@ -2,12 +2,11 @@
 use Rattle.std.specs.Prelude.{ℕ, ◌≡◌, ◌⊎◌, ◌-◌, ◌<◌, ◌≤◌, List, length, Option, Some, None, Contains, IfSome}
 use Rattle.plane_geom.specs.declared.point.Dir.{Dir}
 use Rattle.walk_model.specs.Order.{rank}
-use Rattle.move_model.specs.declared.place.Place.{Place}
-use Rattle.move_model.specs.declared.ahead.Ahead.{Ahead}
 use Rattle.move_model.specs.Ahead.{nothing, with_stretch}
 use Rattle.move_model.specs.Places.{IsMove}
 use Rattle.search_problem.specs.declared.ends.Ending.{Ending}
 use Rattle.search_problem.specs.declared.problem.Problem.{Problem}
+use Rattle.route_search.specs.Known.{Knowledge}
 use Rattle.route_search.specs.declared.follow.Move.{Move}
 use Rattle.route_search.specs.declared.follow.Next.{Next}
 use Rattle.route_search.specs.declared.follow.Next.TheVariants.{Stop, Go}
@@ -37,20 +36,21 @@ IsTailIn p s d endings b =
     ((d ≡ s.place.heading) × (s.tail ≡ Some b))
     ⊎ ((e : Ending) × Contains endings e × MayEnd p s d e × (b ≡ record { steps = e.stub; end = e.choice }))
 
--- the move in the direction leads to a place of which is known what gives what is ahead of the walk here
-pub record IsMoveIn (p : Problem) (known : Place → Option Ahead) (s : Standing) (d : Dir) (m : Move) : Type 0 where
+-- what is known in the direction is what is ahead of the walk here, and the move leads to a place of which is known what gives that
+pub record IsMoveIn (p : Problem) (known : Knowledge) (s : Standing) (d : Dir) (m : Move) : Type 0 where
   pub move : IsMove p.arena.now p.task.now.via s.place m.steps m.to
   pub dir : m.to.heading ≡ d
-  pub is_known : known m.to ≡ Some m.ahead
+  pub leads : known.towards s.place d ≡ Some s.ahead
+  pub is_known : known.ahead m.to ≡ Some m.ahead
   pub fits : with_stretch p.task.now.penalty s.place.heading (record { from = move.begin; dir = d; steps = m.steps }) m.ahead ≡ s.ahead
 
 -- no walk at this position continues in the direction
-pub record IsNoneIn (p : Problem) (known : Place → Option Ahead) (s : Standing) (d : Dir) : Type 0 where
+pub record IsNoneIn (p : Problem) (known : Knowledge) (s : Standing) (d : Dir) : Type 0 where
   pub tails : (b : Tail) → IsTailIn p s d p.endings.items b → ⊥
   pub moves : (m : Move) → IsMoveIn p known s d m → ⊥
 
 -- it ends with the earliest tail, which is no longer than any move
-pub record StopsIn (p : Problem) (known : Place → Option Ahead) (s : Standing) (d : Dir) (b : Tail) : Type 0 where
+pub record StopsIn (p : Problem) (known : Knowledge) (s : Standing) (d : Dir) (b : Tail) : Type 0 where
   pub tail : IsEarliest (IsTailIn p s d p.endings.items) (Some b)
   pub short : (m : Move) → IsMoveIn p known s d m → b.steps ≤ m.steps
 
@@ -60,7 +60,7 @@ left_after n None = None
 left_after n (Some b) = Some (record { steps = b.steps - n; end = b.end })
 
 -- it continues by a move, along an earliest tail that is longer, if there is one
-pub record GoesIn (p : Problem) (known : Place → Option Ahead) (s : Standing) (d : Dir) (after : Standing) : Type 0 where
+pub record GoesIn (p : Problem) (known : Knowledge) (s : Standing) (d : Dir) (after : Standing) : Type 0 where
   pub move : Move
   pub is_move : IsMoveIn p known s d move
   pub best : Option Tail
@@ -76,11 +76,11 @@ IsJoined tail step (Go further) =
     × (further ≡ record { place = m.to; ahead = m.ahead; tail = left_after m.steps tail })
 
 -- the first continuation in the direction of the walks at this position
-abbrev pub IsNextIn : Problem → (Place → Option Ahead) → Standing → Dir → Next → Type 0
+abbrev pub IsNextIn : Problem → Knowledge → Standing → Dir → Next → Type 0
 IsNextIn p known s d (Stop b) = StopsIn p known s d b
 IsNextIn p known s d (Go further) = GoesIn p known s d further
 
 -- and no walk continues in an earlier direction
-pub record IsNext (p : Problem) (known : Place → Option Ahead) (s : Standing) (d : Dir) (n : Next) : Type 0 where
+pub record IsNext (p : Problem) (known : Knowledge) (s : Standing) (d : Dir) (n : Next) : Type 0 where
   pub next : IsNextIn p known s d n
   pub none_before : (e : Dir) → rank e < rank d → IsNoneIn p known s e

@@ -1,5 +1,5 @@
 -- The entry of the first walk, and what is known along it. No public clause cites this module.
-use Rattle.std.specs.Prelude.{◌≡◌, ◌≢◌, ◌+◌, ◌+ℤ◌, List, ◌++◌, Option, Some, None, Contains, All}
+use Rattle.std.specs.Prelude.{◌≡◌, ◌≢◌, ◌+◌, ◌+ℤ◌, List, ◌++◌, ◌∷◌, Option, Some, None, Contains, All}
 use Rattle.std.specs.Ordering.{nat_cmp, ordering_then}
 use Rattle.std.specs.declared.cmp.Ordering.TheVariants.{Less, Greater}
 use Rattle.plane_geom.specs.Along.{across, way_of}
@@ -12,6 +12,7 @@ use Rattle.move_model.specs.Ahead.{ahead, ahead_cmp}
 use Rattle.move_model.specs.Ways.{GoesAlongWay, Leads, Leg, steps_of_way}
 use Rattle.search_problem.specs.declared.ends.Entry.{Entry}
 use Rattle.search_problem.specs.declared.problem.Problem.{Problem}
+use Rattle.route_search.specs.Known.{Knowledge}
 
 -- the key of a whole walk that enters there and has this ahead
 abbrev pub whole_from : Entry → Ahead → Ahead
@@ -43,17 +44,20 @@ pub record IsBetterOf (known : Place → Option Ahead) (e : Entry) (found better
   pub less : (v : Ahead) → known e.place ≡ Some v → IsLessThan e v found → better ≡ Some (e, v)
   pub not_less : (v : Ahead) → known e.place ≡ Some v → (IsLessThan e v found → ⊥) → better ≡ found
 
--- a first walk and its way, along which exactly what is ahead is known
-pub record IsKnownAlong (p : Problem) (known : Place → Option Ahead) (t : Triple) : Type 0 where
+-- a first walk and its way, along which exactly what is ahead is known, also in the direction in which it goes on
+pub record IsKnownAlong (p : Problem) (known : Knowledge) (t : Triple) : Type 0 where
   pub first : IsFirst p.solids.now p.task.now t
   pub along : GoesAlongWay p.solids.now p.arena.now p.task.now t
   pub exact : (passed legs : List Leg) (x : Place) (at : Point) → along.legs ≡ passed ++ legs →
       Leads p.arena.now p.task.now.via along.entry passed x → StandsAt p.arena.now x.crossing at →
-      known x ≡ Some (ahead p.task.now.penalty x.heading at (steps_of_way legs along.end) along.end.cost)
+      known.ahead x ≡ Some (ahead p.task.now.penalty x.heading at (steps_of_way legs along.end) along.end.cost)
+  pub towards : (passed : List Leg) (l : Leg) (legs : List Leg) (x : Place) (at : Point) → along.legs ≡ passed ++ l ∷ legs →
+      Leads p.arena.now p.task.now.via along.entry passed x → StandsAt p.arena.now x.crossing at →
+      known.towards x l.to.heading ≡ Some (ahead p.task.now.penalty x.heading at (steps_of_way (l ∷ legs) along.end) along.end.cost)
 
 -- a first walk enters there, and this is ahead of it
-pub record EntersAt (p : Problem) (known : Place → Option Ahead) (entry : Entry) (v : Ahead) (t : Triple) : Type 0 where
+pub record EntersAt (p : Problem) (known : Knowledge) (entry : Entry) (v : Ahead) (t : Triple) : Type 0 where
   pub way : IsKnownAlong p known t
   pub start : entry.choice ≡ t.start
   pub place : entry.place ≡ way.along.entry
-  pub is_known : known entry.place ≡ Some v
+  pub is_known : known.ahead entry.place ≡ Some v

@@ -8,7 +8,7 @@ ghost use Rattle.route_search.specs.Following.{IsEarliest, IsJoined, IsMoveIn, I
 ghost use Rattle.route_search.specs.declared.follow.Move.{Move};
 ghost use Rattle.route_search.specs.declared.follow.Tail.{Tail};
 ghost use Rattle.exit_spread.specs.Propagating.{IsOfferable};
-ghost use Rattle.route_search.specs.Known.{IsKnowing, IsPlace, known_of};
+ghost use Rattle.route_search.specs.Known.{IsKnowing, IsPlace, knowledge_of, known_of, towards_of};
 ghost use Rattle.route_search.specs.Starting.{EntersAt, IsBetterOf, IsLeastEntry, whole_from};
 ghost use Rattle.search_problem.specs.declared.ends.Entry.{Entry};
 ghost use Rattle.search_problem.specs.Origins.{IsSmallEntry};
@@ -68,6 +68,13 @@ struct Move {
 pub enum Next {
     Stop(Tail),
     Go(Standing),
+}
+
+/// Whether the two are the same.
+fn are_same(one: Ahead, other: Ahead) -> bool
+    ensures { IsTrue result ↔ (one ≡ other) }
+{
+    one == other
 }
 
 /// Whether `ahead` is `behind` extended by the stretch, for a walk that enters the stretch with
@@ -163,6 +170,21 @@ impl<'a> Follower<'a> {
         self.spread.ahead_of(self.problem, self.lists, place)
     }
 
+    /// Whether what is known in the direction is what is ahead of the walk at the position.
+    fn leads(&self, standing: &Standing, dir: Dir) -> bool
+        requires knowing { IsKnowing self.now }
+        requires place { IsPlace self.now.problem.now standing.now.place }
+        ensures { IsTrue result ↔ (towards_of self.now standing.now.place dir ≡ Some standing.now.ahead) }
+    {
+        let towards = self
+            .spread
+            .ahead_towards(self.problem, self.lists, &standing.place, dir);
+        let Some(known) = towards else {
+            return false;
+        };
+        are_same(known, standing.ahead)
+    }
+
     /// Whether a walk at the position may end with the stub of the ending, which leads in the
     /// direction.
     fn may_end(&self, standing: &Standing, dir: Dir, ending: &Ending) -> bool
@@ -211,9 +233,12 @@ impl<'a> Follower<'a> {
     fn move_in(&self, standing: &Standing, dir: Dir) -> Option<Move>
         requires knowing { IsKnowing self.now }
         requires place { IsPlace self.now.problem.now standing.now.place }
-        ensures is { IfSome result (IsMoveIn self.now.problem.now (known_of self.now) standing.now dir) }
-        ensures none { IsNone result → (m : Move) → IsMoveIn self.now.problem.now (known_of self.now) standing.now dir m → ⊥ }
+        ensures is { IfSome result (IsMoveIn self.now.problem.now (knowledge_of self.now) standing.now dir) }
+        ensures none { IsNone result → (m : Move) → IsMoveIn self.now.problem.now (knowledge_of self.now) standing.now dir m → ⊥ }
     {
+        if !self.leads(standing, dir) {
+            return None;
+        }
         let crossing = self
             .problem
             .arena
@@ -253,8 +278,8 @@ impl<'a> Follower<'a> {
     fn next_in(&self, standing: &Standing, dir: Dir) -> Option<Next>
         requires knowing { IsKnowing self.now }
         requires place { IsPlace self.now.problem.now standing.now.place }
-        ensures is { IfSome result (IsNextIn self.now.problem.now (known_of self.now) standing.now dir) }
-        ensures none { IsNone result → IsNoneIn self.now.problem.now (known_of self.now) standing.now dir }
+        ensures is { IfSome result (IsNextIn self.now.problem.now (knowledge_of self.now) standing.now dir) }
+        ensures none { IsNone result → IsNoneIn self.now.problem.now (knowledge_of self.now) standing.now dir }
     {
         let tail = self.tail_in(standing, dir);
         let step = self.move_in(standing, dir);
@@ -265,8 +290,8 @@ impl<'a> Follower<'a> {
     fn next(&self, standing: &Standing) -> Option<(Dir, Next)>
         requires knowing { IsKnowing self.now }
         requires place { IsPlace self.now.problem.now standing.now.place }
-        ensures is { IfSome result (λ r. IsNext self.now.problem.now (known_of self.now) standing.now r.0 r.1) }
-        ensures none { IsNone result → (d : Dir) → IsNoneIn self.now.problem.now (known_of self.now) standing.now d }
+        ensures is { IfSome result (λ r. IsNext self.now.problem.now (knowledge_of self.now) standing.now r.0 r.1) }
+        ensures none { IsNone result → (d : Dir) → IsNoneIn self.now.problem.now (knowledge_of self.now) standing.now d }
     {
         for dir in DIRS {
             if let Some(next) = self.next_in(standing, dir) {
@@ -280,7 +305,7 @@ impl<'a> Follower<'a> {
     fn follow(&self, alloc: Global, entry: Entry, ahead: Ahead) -> Result<Route, AllocError>
         requires knowing { IsKnowing self.now }
         requires entry { Contains self.now.problem.now.entries.items entry }
-        requires enters { (t : Triple) × EntersAt self.now.problem.now (known_of self.now) entry ahead t }
+        requires enters { (t : Triple) × EntersAt self.now.problem.now (knowledge_of self.now) entry ahead t }
         ensures { IfOk result (λ r. (t : Triple) × IsFirst self.now.problem.now.solids.now self.now.problem.now.task.now t × IsRouteOf self.now.problem.now.task.now r t) }
     {
         let start = self.problem.task.starts.as_slice()[entry.choice as usize];

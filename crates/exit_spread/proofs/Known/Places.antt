@@ -161,6 +161,12 @@ module _ (p : Problem) (number_of : ℕ → Way → ℕ) (s : Spread) (ready : I
         (offers_on p number_of s ready numbered spread t first along) (keeps p number_of s ready numbered spread t first along) x at l rest h in
         by_known x at l.to.heading found.n.station.to found.next (left p ready t first along l.to.heading at (l ∷ rest)) h.here found.known
 
+    -- and so for a walk that arrives at the place
+    pub towards_exactly : (x : Place) (at : Point) (l : Leg) (rest : List Leg) → Rest p ready t first along x at (l ∷ rest) →
+        known_towards p number_of s x at l.to.heading ≡ Some (left p ready t first along x.heading at (l ∷ rest))
+    towards_exactly x at l rest h =
+        ap (option_map (turned p x.heading at l.to.heading)) (exactly_along x at l rest h) ∙ ap Some (sym (bend_left p ready t first along x at l rest h))
+
     module _ (x : Place) (at : Point) (rest : List Leg) (h : Rest p ready t first along x at rest) where
       abbrev v : Ahead
       v = left p ready t first along x.heading at rest
@@ -192,6 +198,5 @@ module _ (p : Problem) (number_of : ℕ → Way → ℕ) (s : Spread) (ready : I
     pub known_exactly : (x : Place) (at : Point) (rest : List Leg) → Rest p ready t first along x at rest → known p number_of s x at ≡ Some (left p ready t first along x.heading at rest)
     known_exactly x at [] h = exactly x at [] h (by_ending_there x at [] h (rest_way p.solids.now p.arena.now p.task.now t along x at [] h) refl)
     known_exactly x at (l ∷ rest) h =
-        let towards = ap (option_map (turned p x.heading at l.to.heading)) (exactly_along x at l rest h) ∙ ap Some (sym (bend_left p ready t first along x at l rest h)) in
         exactly x at (l ∷ rest) h
-        (endings_keep p x (left p ready t first along x.heading at (l ∷ rest)) p.endings.items (known_onwards p number_of s x at) (onwards x at (l ∷ rest) h l.to.heading towards))
+        (endings_keep p x (left p ready t first along x.heading at (l ∷ rest)) p.endings.items (known_onwards p number_of s x at) (onwards x at (l ∷ rest) h l.to.heading (towards_exactly x at l rest h)))

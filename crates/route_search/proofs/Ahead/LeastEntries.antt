@@ -19,7 +19,7 @@ use Rattle.search_problem.specs.declared.ends.Entry.{Entry}
 use Rattle.search_problem.specs.declared.problem.Problem.{Problem}
 use Rattle.search_problem.proofs.Choices.{entries_small}
 use Rattle.exit_spread.specs.Propagating.{IsOfferable}
-use Rattle.route_search.specs.Known.{IsAttained, IsPlace}
+use Rattle.route_search.specs.Known.{IsAttained, IsPlace, Knowledge}
 use Rattle.route_search.specs.Starting.{EntersNoLater, IsBetterOf, IsLeastEntry, IsLeastOf, IsLessThan, whole_from}
 use Rattle.exit_rows.proofs.Orders.{ahead_total}
 
@@ -38,11 +38,11 @@ module _ (p : Problem) (ready : IsReady p) (e : Entry) (has : Contains p.entries
       (entries_small p.solids.now p.arena.now p.task.now (length p.task.now.starts) p.entries.items ready.problem.is_task ready.entries) has
 
 -- so is an entry that was found, with what is known of it
-pub found_is_small : (p : Problem) (known : Place → Option Ahead) → IsReady p → IsAttained p known → (found : Option (Entry × Ahead)) (f : Entry × Ahead) → found ≡ Some f →
-    IfSome found (λ g. Contains p.entries.items g.0 × (known g.0.place ≡ Some g.1)) → IsSmallEntry f.0 × IsOfferable f.1
+pub found_is_small : (p : Problem) (known : Knowledge) → IsReady p → IsAttained p known → (found : Option (Entry × Ahead)) (f : Entry × Ahead) → found ≡ Some f →
+    IfSome found (λ g. Contains p.entries.items g.0 × (known.ahead g.0.place ≡ Some g.1)) → IsSmallEntry f.0 × IsOfferable f.1
 found_is_small p known ready searching found f same h =
-    let is : Contains p.entries.items f.0 × (known f.0.place ≡ Some f.1) =
-    subst (λ o. IfSome o (λ g. Contains p.entries.items g.0 × (known g.0.place ≡ Some g.1))) same h in
+    let is : Contains p.entries.items f.0 × (known.ahead f.0.place ≡ Some f.1) =
+    subst (λ o. IfSome o (λ g. Contains p.entries.items g.0 × (known.ahead g.0.place ≡ Some g.1))) same h in
     (entry_is_small p ready f.0 is.0, searching.small f.0.place f.1 is.1)
 
 -- what was found among the first entries is one of all

@@ -1,5 +1,5 @@
 -- Entries of which something is known begin legal walks, and the first walk begins at one of them.
-use Rattle.std.proofs.Common.{◌≡◌, ℕ, ◌<◌, ◌≤◌, Option, Some, None, List, [], ◌++◌, All, length, refl, sym, ap, subst, ◌∙◌, inl, inr, arith}
+use Rattle.std.proofs.Common.{◌≡◌, ℕ, ◌<◌, ◌≤◌, Option, Some, None, List, [], ◌∷◌, ◌++◌, All, length, refl, sym, ap, subst, ◌∙◌, inl, inr, arith}
 use Rattle.std.specs.Prelude.{Contains, slice_get}
 use Rattle.std.specs.Ordering.{nat_cmp, ordering_then}
 use Rattle.std.specs.Cmp.{nat_cmp_is}
@@ -35,7 +35,7 @@ use Rattle.search_problem.specs.Problems.{IsReady}
 use Rattle.search_problem.specs.declared.ends.Entry.{Entry}
 use Rattle.search_problem.specs.declared.problem.Problem.{Problem}
 use Rattle.exit_spread.specs.Ways.{IsWayAhead}
-use Rattle.route_search.specs.Known.{IsKnownFirst}
+use Rattle.route_search.specs.Known.{IsKnownFirst, Knowledge}
 use Rattle.route_search.specs.Starting.{EntersAt, EntersNoLater, IsLeastEntry, whole_from}
 use Rattle.exit_rows.proofs.Orders.{ahead_total}
 use Rattle.exit_spread.proofs.Known.AheadOrder.{neither_greater}
@@ -105,9 +105,9 @@ module _ (p : Problem) (ready : IsReady p) where
       let same : of_some.1 ≡ s = let both : Some of_some.1 ≡ Some s = sym of_some.2.is_start ∙ ap (slice_get p.task.now.starts) found.2 ∙ is_start in cc in
       (found.0, found.1, found.2, subst (λ c. IsEntryOf p.solids.now p.arena.now p.task.now c found.0) same of_some.2)
 
-module _ (p : Problem) (known : Place → Option Ahead) (ready : IsReady p) (spread : IsKnownFirst p known) where
+module _ (p : Problem) (known : Knowledge) (ready : IsReady p) (spread : IsKnownFirst p known) where
   -- an entry of which something is known begins a legal walk
-  pub entered : (e : Entry) (v : Ahead) → Contains p.entries.items e → known e.place ≡ Some v →
+  pub entered : (e : Entry) (v : Ahead) → Contains p.entries.items e → known.ahead e.place ≡ Some v →
       (s : Choice) × IsEntryOf p.solids.now p.arena.now p.task.now s e × Begins p e.choice s v
   entered e v has is = enters_by p ready e v has (spread.all.attained e.place v is)
 
@@ -136,23 +136,27 @@ module _ (p : Problem) (known : Place → Option Ahead) (ready : IsReady p) (spr
     enters_there = one_entry p ready along.start entry.0.place along.entry entry.3.enters along.enters
 
     exact_along : (passed legs : List Leg) (x : Place) (at : Point) → along.legs ≡ passed ++ legs → Leads p.arena.now p.task.now.via along.entry passed x →
-        StandsAt p.arena.now x.crossing at → known x ≡ Some (ahead p.task.now.penalty x.heading at (steps_of_way legs along.end) along.end.cost)
+        StandsAt p.arena.now x.crossing at → known.ahead x ≡ Some (ahead p.task.now.penalty x.heading at (steps_of_way legs along.end) along.end.cost)
     exact_along passed legs x at split leads here = spread.exact t first along x at legs (record { front = passed; legs = split; leads = leads; here = here })
 
+    towards_along : (passed : List Leg) (l : Leg) (legs : List Leg) (x : Place) (at : Point) → along.legs ≡ passed ++ l ∷ legs → Leads p.arena.now p.task.now.via along.entry passed x →
+        StandsAt p.arena.now x.crossing at → known.towards x l.to.heading ≡ Some (ahead p.task.now.penalty x.heading at (steps_of_way (l ∷ legs) along.end) along.end.cost)
+    towards_along passed l legs x at split leads here = spread.towards t first along x at l legs (record { front = passed; legs = split; leads = leads; here = here })
+
     -- what is known there is what is ahead of the first walk
-    entry_known : known entry.0.place ≡ Some rest
-    entry_known = ap known enters_there ∙ exact_along [] along.legs along.entry along.start.port refl refl along.enters.here
+    entry_known : known.ahead entry.0.place ≡ Some rest
+    entry_known = ap known.ahead enters_there ∙ exact_along [] along.legs along.entry along.start.port refl refl along.enters.here
 
   -- where nothing is known of any entry there is no legal walk
-  pub no_walk : All (λ e. known e.place ≡ None) p.entries.items → HasNoWalk p.solids.now p.task.now
+  pub no_walk : All (λ e. known.ahead e.place ≡ None) p.entries.items → HasNoWalk p.solids.now p.task.now
   no_walk none t legal =
       let some = (one_first p.solids.now p.task.now).some t legal in
       let d = entry some.0 some.1 in
-      let empty : known d.0.place ≡ None = All-contains (λ (e : Entry). known e.place ≡ None) p.entries.items d.0 none d.1 in
+      let empty : known.ahead d.0.place ≡ None = All-contains (λ (e : Entry). known.ahead e.place ≡ None) p.entries.items d.0 none d.1 in
       absurd (let wrong : ◌≡◌ {A = Option Ahead} None (Some (rest some.0 some.1)) = sym empty ∙ entry_known some.0 some.1 in cc)
 
   -- and the first walk enters at the least entry
-  pub first_enters : (e : Entry) (v : Ahead) → IsLeastEntry known p.entries.items e v → (t : Triple) × EntersAt p known e v t
+  pub first_enters : (e : Entry) (v : Ahead) → IsLeastEntry known.ahead p.entries.items e v → (t : Triple) × EntersAt p known e v t
   first_enters e v h =
       let solids = p.solids.now in
       let task = p.task.now in
@@ -164,7 +168,7 @@ module _ (p : Problem) (known : Place → Option Ahead) (ready : IsReady p) (spr
       let d = entry t first in
       let my_whole : whole task mine.2.walk ≡ whole_from e v = mine.2.is_whole ∙ by_entry p ready mine.0 e v mine.1 in
       let its_whole : whole task t ≡ whole_from d.0 w = first_whole t first ∙ by_entry p ready (along t first).start d.0 w d.3 in
-      let no_later = All-contains (λ (f : Entry). (u : Ahead) → known f.place ≡ Some u → EntersNoLater e v f u) p.entries.items d.0 h.least d.1 w (entry_known t first) in
+      let no_later = All-contains (λ (f : Entry). (u : Ahead) → known.ahead f.place ≡ Some u → EntersNoLater e v f u) p.entries.items d.0 h.least d.1 w (entry_known t first) in
       let same : whole_from e v ≡ whole_from d.0 w = neither_greater (whole_from e v) (whole_from d.0 w)
       (λ greater. no_later (ap (λ o. ordering_then o (nat_cmp e.choice d.0.choice)) greater))
       (λ greater. least solids task t mine.2.walk first mine.2.legal ((λ i. ahead_cmp (its_whole i) (my_whole i)) ∙ greater)) in
@@ -184,7 +188,7 @@ module _ (p : Problem) (known : Place → Option Ahead) (ready : IsReady p) (spr
       (subst (λ c. IsEntry solids p.arena.now task.via c e.place) start mine.1.enters) (along t first).enters in (
         t,
         record {
-          way = record { first = first; along = along t first; exact = exact_along t first };
+          way = record { first = first; along = along t first; exact = exact_along t first; towards = towards_along t first };
           start = choice;
           place = place;
           is_known = h.is_known;

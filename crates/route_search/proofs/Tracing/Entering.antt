@@ -1,5 +1,5 @@
 -- The first walk enters the lines, with nothing passed but the stub of its start choice.
-use Rattle.std.proofs.Common.{Option, ◌≡◌, ◌+◌, ◌<◌, ◌≤◌, Some, None, List, [], ◌∷◌, ◌++◌, Contains, length, replicate, inl, refl, sym, ap, subst, ◌∙◌, arith}
+use Rattle.std.proofs.Common.{◌≡◌, ◌+◌, ◌<◌, ◌≤◌, Some, None, List, [], ◌∷◌, ◌++◌, Contains, length, replicate, inl, refl, sym, ap, subst, ◌∙◌, arith}
 use Rattle.std.specs.Prelude.{slice_get}
 use Rattle.std.proofs.lemmas.List.Elements.{All-contains}
 use Rattle.std.proofs.lemmas.Option.{same_Some}
@@ -24,11 +24,12 @@ use Rattle.search_problem.specs.Ends.{IsEntryOf}
 use Rattle.search_problem.specs.Problems.{IsReady}
 use Rattle.search_problem.specs.declared.ends.Entry.{Entry}
 use Rattle.search_problem.specs.declared.problem.Problem.{Problem}
+use Rattle.route_search.specs.Known.{Knowledge}
 use Rattle.route_search.specs.Starting.{EntersAt}
 use Rattle.route_search.proofs.Tracing.Corners.{corners_from}
 use Rattle.route_search.proofs.Tracing.Following.{IsFollowing}
 
-module _ (p : Problem) (known : Place → Option Ahead) (ready : IsReady p) (entry : Entry) (v : Ahead) (t : Triple) (e : EntersAt p known entry v t) where
+module _ (p : Problem) (known : Knowledge) (ready : IsReady p) (entry : Entry) (v : Ahead) (t : Triple) (e : EntersAt p known entry v t) where
   abbrev start : Choice
   start = e.way.along.start
 
@@ -45,7 +46,7 @@ module _ (p : Problem) (known : Place → Option Ahead) (ready : IsReady p) (ent
   ahead_is =
       let along = e.way.along in
       same_Some v (ahead p.task.now.penalty along.entry.heading start.port rest end.cost)
-      (sym e.is_known ∙ ap known e.place ∙ e.way.exact [] along.legs along.entry start.port refl refl along.enters.here)
+      (sym e.is_known ∙ ap known.ahead e.place ∙ e.way.exact [] along.legs along.entry start.port refl refl along.enters.here)
       ∙ ap (λ d. ahead p.task.now.penalty d start.port rest end.cost) along.enters.heading
 
   steps_are : t.walk.steps ≡ replicate (stub_length start) start.dir ++ rest

@@ -1,5 +1,5 @@
 -- The first walk is followed step by step: what is found at each step is how it goes on.
-use Rattle.std.proofs.Common.{Option, ◌≡◌, ◌≢◌, ◌⊎◌, ℕ, suc, zero, ◌+◌, ◌<◌, ◌≤◌, Some, List, [], ◌∷◌, ◌++◌, length, replicate, inl, inr, refl, sym, ap, subst, ◌∙◌, arith, append_assoc, append-nil}
+use Rattle.std.proofs.Common.{◌≡◌, ◌≢◌, ◌⊎◌, ℕ, suc, zero, ◌+◌, ◌<◌, ◌≤◌, Some, List, [], ◌∷◌, ◌++◌, length, replicate, inl, inr, refl, sym, ap, subst, ◌∙◌, arith, append_assoc, append-nil}
 use Rattle.std.specs.Prelude.{slice_get}
 use Rattle.std.specs.Ordering.{nat_cmp, ordering_then}
 use Rattle.std.specs.declared.cmp.Ordering.TheVariants.{Greater}
@@ -37,7 +37,7 @@ use Rattle.route_search.specs.declared.follow.Standing.{Standing}
 use Rattle.route_search.specs.declared.follow.Tail.{Tail}
 use Rattle.route_search.specs.Following.{IsMoveIn, IsNext, IsNextIn, IsNoLater, IsTailIn}
 use Rattle.route_search.specs.Starting.{IsKnownAlong}
-use Rattle.route_search.specs.Known.{IsAttained}
+use Rattle.route_search.specs.Known.{IsAttained, Knowledge}
 use Rattle.route_search.proofs.Moving.Directions.{same_rank}
 use Rattle.exit_spread.proofs.Sizes.{small_ending}
 use Rattle.route_search.proofs.Tracing.Tails.{stub_tail}
@@ -82,7 +82,7 @@ some_way : (solids : List Solid) (a : Arena) (via : List Point) (x : Place) (leg
 some_way solids a via x [] e is way = subst HasSteps (append-nil (replicate (stub_length e) (opposite e.dir))) (some_stretch (stub_length e) (opposite e.dir) [] is.apart)
 some_way solids a via x (l ∷ ls) e is way = some_stretch l.steps l.to.heading (steps_of_way ls e) way.0.some
 
-module _ (p : Problem) (known : Place → Option Ahead) (t : Triple) (h : IsKnownAlong p known t) where
+module _ (p : Problem) (known : Knowledge) (t : Triple) (h : IsKnownAlong p known t) where
   -- the steps of the stub and of the legs
   abbrev pub steps_by : List Leg → List Dir
   steps_by legs = replicate (stub_length h.along.start) h.along.start.dir ++ steps_along legs
@@ -255,6 +255,8 @@ module _ (p : Problem) (known : Place → Option Ahead) (t : Triple) (h : IsKnow
               move = record {
                 move = m;
                 dir = refl;
+                leads = h.towards f.passed k legs s.place f.at all f.leads f.here
+                    ∙ ap (λ ds. Some (ahead task.penalty s.place.heading f.at ds end.cost)) (sym left) ∙ ap Some (sym f.makes);
                 is_known = is_this;
                 fits =
                     ap (λ (q : Point). with_stretch task.penalty s.place.heading stretch (ahead task.penalty d q (steps_of_way legs end) end.cost)) m.straight

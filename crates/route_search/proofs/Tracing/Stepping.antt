@@ -16,7 +16,6 @@ use Rattle.walk_model.specs.Walk.{after}
 use Rattle.walk_model.proofs.Ranking.OneAnswer.{corners, corners_after}
 use Rattle.walk_model.proofs.CornerByCorner.Scan.{after-append, after-replicate}
 use Rattle.walk_laws.proofs.OnKeptLines.Lines.{chosen}
-use Rattle.move_model.specs.declared.place.Place.{Place}
 use Rattle.move_model.specs.declared.ahead.Ahead.{Ahead}
 use Rattle.move_model.specs.declared.ahead.Stretch.{Stretch}
 use Rattle.move_model.specs.Ahead.{ahead, with_stretch}
@@ -29,7 +28,7 @@ use Rattle.route_search.specs.declared.follow.Next.TheVariants.{Stop, Go}
 use Rattle.route_search.specs.declared.follow.Standing.{Standing}
 use Rattle.route_search.specs.declared.follow.Tail.{Tail}
 use Rattle.route_search.specs.Following.{GoesIn, IsMoveIn, IsNext, IsTailIn, left_after}
-use Rattle.route_search.specs.Known.{IsAttained}
+use Rattle.route_search.specs.Known.{IsAttained, Knowledge}
 use Rattle.route_search.specs.Starting.{IsKnownAlong}
 use Rattle.route_search.proofs.Tracing.Corners.{corner_between, corners_behind, stretch_parts}
 use Rattle.route_search.proofs.Tracing.Following.{EndsBy, GoesBy, GoesOn, GoesOut, IsFollowing, IsRival, how_on, leads_on, no_earlier, rival_tail, steps_by, stops_with, the_direction}
@@ -58,7 +57,7 @@ steps_on (k ∷ ks) l ds =
     let run = replicate k.steps k.to.heading in
     append_assoc run (steps_along (ks ++ l ∷ [])) ds ∙ ap (λ zs. run ++ zs) (steps_on ks l ds) ∙ sym (append_assoc run (steps_along ks) (replicate l.steps l.to.heading ++ ds))
 
-module _ (p : Problem) (known : Place → Option Ahead) (t : Triple) (h : IsKnownAlong p known t) (ready : IsReady p) (s : Standing) (points : List Point) (f : IsFollowing p known t h s points) where
+module _ (p : Problem) (known : Knowledge) (t : Triple) (h : IsKnownAlong p known t) (ready : IsReady p) (s : Standing) (points : List Point) (f : IsFollowing p known t h s points) where
   -- the points up to the place, where the walk goes on in the direction
   abbrev pub points_to : Dir → List Point
   points_to d = if turn s.place.heading d == 0 then points else points ++ (f.at ∷ [])

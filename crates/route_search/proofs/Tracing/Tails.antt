@@ -2,7 +2,6 @@
 use Rattle.std.proofs.Common.{◌≡◌, ◌⊎◌, ◌↔◌, ℕ, ◌≤◌, Option, Some, None, IfSome, IsNone, List, [], ◌∷◌, ◌++◌, Contains, inl, inr, refl, sym, ap, subst, ◌∙◌, arith}
 use Rattle.std.proofs.lemmas.List.Elements.{Contains-append_left, Contains-push, Contains-push_cases}
 use Rattle.plane_geom.specs.declared.point.Dir.{Dir}
-use Rattle.move_model.specs.declared.ahead.Ahead.{Ahead}
 use Rattle.move_model.specs.declared.place.Place.{Place}
 use Rattle.move_model.specs.Places.{IsMove}
 use Rattle.line_arena.specs.Arena.{IsArena}
@@ -10,6 +9,7 @@ use Rattle.line_arena.proofs.Arenas.ArenaLaws.{one_point}
 use Rattle.move_model.proofs.Moving.Moves.{one_move}
 use Rattle.search_problem.specs.declared.ends.Ending.{Ending}
 use Rattle.search_problem.specs.declared.problem.Problem.{Problem}
+use Rattle.route_search.specs.Known.{Knowledge}
 use Rattle.route_search.specs.declared.follow.Move.{Move}
 use Rattle.route_search.specs.declared.follow.Next.{Next}
 use Rattle.route_search.specs.declared.follow.Next.TheVariants.{Stop, Go}
@@ -83,7 +83,7 @@ module _ (p : Problem) (s : Standing) (d : Dir) where
         by b (inl t) = let f = h.first b t in (r, refl, no_later_chain r f.0 b (subst (λ o. IfSome o (IsNoLater r)) f.1 others) f.2)
         by b (inr t) = (r, refl, subst (IsNoLater r) (sym t.1) here)
 
-module _ (p : Problem) (known : Place → Option Ahead) (s : Standing) (d : Dir) (arena : IsArena p.arena.now) where
+module _ (p : Problem) (known : Knowledge) (s : Standing) (d : Dir) (arena : IsArena p.arena.now) where
   -- there is one move in a direction
   pub the_only : (m : Move) (n : ℕ) (y : Place) → (is : IsMoveIn p known s d m) → (other : IsMove p.arena.now p.task.now.via s.place n y) → y.heading ≡ d
       → (m.steps ≡ n) × ((m.to ≡ y) × (is.move.begin ≡ other.begin))

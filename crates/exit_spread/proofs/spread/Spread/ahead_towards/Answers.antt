@@ -1,36 +1,36 @@
--- What the line's exits give there, with the turn in front.
-use Rattle.std.proofs.Common.{◌≡◌, Some, None, sym, ap, ◌∙◌, arith, rules, w64, to_z, of_z}
-use Rattle.std.proofs.lemmas.Int.{ints}
-use Rattle.std.specs.Option.{option_map}
-use Rattle.plane_geom.specs.Along.{reach}
-use Rattle.move_model.specs.declared.ahead.Ahead.{Ahead}
-use Rattle.exit_rows.specs.Exits.{least_at}
-use Rattle.exit_rows.specs.Rows.{kept_in}
-use Rattle.exit_spread.specs.Ways.{turned}
-use Rattle.exit_spread.proofs.Sizes.{least_small, reach_within}
+-- By the number of the direction's line.
+use Rattle.std.proofs.Common.{◌≡◌, All, sym, subst, ◌∙◌}
+use Rattle.plane_geom.specs.Along.{way_of}
+use Rattle.line_arena.proofs.Arenas.ArenaLaws.{one_point}
+use Rattle.line_lists.specs.Lists.{number_of}
+use Rattle.exit_rows.specs.Exits.{IsSmallKept}
+use Rattle.exit_rows.specs.Rows.{HasRow, kept_in}
+use Rattle.exit_spread.specs.Known.{known_by_line}
+use Rattle.exit_spread.proofs.Sizes.{crossing_within}
+use Rattle.exit_spread.proofs.SmallKnown.{small_row}
 use Rattle.exit_spread.proofs.spread.Spread.ahead_towards.Goals as goal
-use Rattle.exit_spread.proofs.spread.Spread.ahead_towards.Goals.{After-ahead_along}
+use Rattle.exit_spread.proofs.spread.Spread.ahead_towards.Goals.{After-line_of-line}
 
--- what the line keeps gives
-along : (c : After-ahead_along) → c.ahead_along.result ≡ least_at (kept_in c.args.self.now.rows c.args.place.now.stage c.args.line c.args.dir) (reach c.args.dir c.args.at)
-along c =
-    let z : to_z w64 (of_z w64 c.reach.result) ≡ reach c.args.dir c.args.at = (let exact = c.reach.ensures.value in omega (arith, ints, exact)) in
-    c.ahead_along.ensures ∙ ap (least_at (kept_in c.args.self.now.rows c.args.place.now.stage c.args.line c.args.dir)) z
+-- the number of the line
+line_is : (c : After-line_of-line) → number_of c.args.lists.now c.args.place.now.crossing (way_of c.args.dir) ≡ c.line_of-line.result
+line_is c = sym (c.line_of-line.ensures ∙ (λ i. number_of c.args.lists.now (c.index.ensures.number i) (c.way.ensures i)))
 
-pub turned-requires-clause-ahead : goal.turned-requires-clause-ahead
-turned-requires-clause-ahead c =
-    least_small (kept_in c.args.self.now.rows c.args.place.now.stage c.args.line c.args.dir) (reach c.args.dir c.args.at)
-    c.in_ok-ahead.ahead c.requires.small (reach_within c.args.dir c.args.at c.requires.at) (sym (along (goal.at.turned-requires-clause-ahead c).After-ahead_along) ∙ c.in_ok-ahead.was)
+pub ahead_by_line-requires-clause-at : goal.ahead_by_line-requires-clause-at
+ahead_by_line-requires-clause-at c = crossing_within c.args.problem.now c.args.place.now.crossing c.point-at.result c.requires.ready c.point-at.ensures
 
-pub returns-in_err-ahead : goal.returns-in_err-ahead
-returns-in_err-ahead c =
-    let none : least_at (kept_in c.args.self.now.rows c.args.place.now.stage c.args.line c.args.dir) (reach c.args.dir c.args.at) ≡ None =
-    sym (along (goal.at.returns-in_err-ahead c).After-ahead_along) ∙ c.in_err-ahead.was in
-    let result : c.from_residual.result ≡ None = search rules in
-    result ∙ sym (ap (option_map (turned c.args.problem.now c.args.place.now.heading c.args.at c.args.dir)) none)
+pub ahead_by_line-requires-clause-room : goal.ahead_by_line-requires-clause-room
+ahead_by_line-requires-clause-room c =
+    subst (HasRow c.args.self.now.rows c.args.place.now.stage) (line_is (goal.at.ahead_by_line-requires-clause-room c).After-line_of-line)
+    (c.requires.searching.rooms c.args.place.now.stage c.args.place.now.crossing c.args.dir c.point-at.result c.requires.stage c.point-at.ensures)
+
+pub ahead_by_line-requires-clause-small : goal.ahead_by_line-requires-clause-small
+ahead_by_line-requires-clause-small c =
+    subst (λ l. All IsSmallKept (kept_in c.args.self.now.rows c.args.place.now.stage l c.args.dir)) (line_is (goal.at.ahead_by_line-requires-clause-small c).After-line_of-line)
+    (small_row c.args.problem.now (number_of c.args.lists.now) c.args.self.now c.requires.ready c.requires.searching c.args.place.now.stage c.args.place.now.crossing c.point-at.result c.args.dir c.point-at.ensures)
 
 pub returns : goal.returns
-returns c =
-    let some : least_at (kept_in c.args.self.now.rows c.args.place.now.stage c.args.line c.args.dir) (reach c.args.dir c.args.at) ≡ Some c.in_ok-ahead.ahead =
-    sym (along (goal.at.returns c).After-ahead_along) ∙ c.in_ok-ahead.was in
-    ap (λ (v : Ahead). Some v) c.turned.ensures ∙ sym (ap (option_map (turned c.args.problem.now c.args.place.now.heading c.args.at c.args.dir)) some)
+returns c at here =
+    let p = c.args.problem.now in
+    let point : c.point-at.result ≡ at = one_point p.arena.now c.args.place.now.crossing c.point-at.result at c.requires.ready.arena c.point-at.ensures here in
+    let line = sym (line_is (goal.at.returns c).After-line_of-line) in
+    c.ahead_by_line.ensures ∙ (λ i. known_by_line p c.args.self.now c.args.place.now (point i) (line i) c.args.dir)

@@ -1,6 +1,6 @@
 -- Entries, and what is known of them, are small.
 use Rattle.std.proofs.Common.{sym, ◌∙◌}
-use Rattle.route_search.specs.Known.{known_of}
+use Rattle.route_search.specs.Known.{knowledge_of}
 use Rattle.route_search.proofs.Ahead.Knowing.{all_attained}
 use Rattle.route_search.proofs.Ahead.LeastEntries.{entry_is_place, entry_is_small, found_is_small}
 use Rattle.route_search.proofs.follow.Follower.better.Goals as goal
@@ -16,8 +16,8 @@ whole-requires-clause-ahead c = (all_attained c.args.self.now c.requires.knowing
 
 pub whole-requires-in-Some-found-clause-entry : goal.whole-requires-in-Some-found-clause-entry
 whole-requires-in-Some-found-clause-entry c =
-    (found_is_small c.args.self.now.problem.now (known_of c.args.self.now) c.requires.knowing.ready (all_attained c.args.self.now c.requires.knowing) c.args.found (c.in-Some-found.other, c.in-Some-found.known) c.in-Some-found.is c.requires.found).0
+    (found_is_small c.args.self.now.problem.now (knowledge_of c.args.self.now) c.requires.knowing.ready (all_attained c.args.self.now c.requires.knowing) c.args.found (c.in-Some-found.other, c.in-Some-found.known) c.in-Some-found.is c.requires.found).0
 
 pub whole-requires-in-Some-found-clause-ahead : goal.whole-requires-in-Some-found-clause-ahead
 whole-requires-in-Some-found-clause-ahead c =
-    (found_is_small c.args.self.now.problem.now (known_of c.args.self.now) c.requires.knowing.ready (all_attained c.args.self.now c.requires.knowing) c.args.found (c.in-Some-found.other, c.in-Some-found.known) c.in-Some-found.is c.requires.found).1
+    (found_is_small c.args.self.now.problem.now (knowledge_of c.args.self.now) c.requires.knowing.ready (all_attained c.args.self.now c.requires.knowing) c.args.found (c.in-Some-found.other, c.in-Some-found.known) c.in-Some-found.is c.requires.found).1

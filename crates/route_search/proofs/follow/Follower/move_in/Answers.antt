@@ -6,12 +6,18 @@ use Rattle.plane_geom.proofs.Signed.{distance_bound}
 use Rattle.line_arena.specs.Arena.{LiesFurther}
 use Rattle.move_model.specs.declared.place.Place.{Place}
 use Rattle.move_model.specs.Ahead.{with_stretch}
-use Rattle.route_search.specs.Known.{known_of}
+use Rattle.route_search.specs.Known.{knowledge_of, known_of}
 use Rattle.route_search.proofs.Ahead.Knowing.{all_attained}
 use Rattle.exit_spread.proofs.Sizes.{across_small, crossing_within}
 use Rattle.route_search.proofs.Tracing.Tails.{the_only}
 use Rattle.route_search.proofs.Moving.TheMoves.{the_move}
 use Rattle.route_search.proofs.follow.Follower.move_in.Goals as goal
+
+pub returns-then-not-leads-clause-none : goal.returns-then-not-leads-clause-none
+returns-then-not-leads-clause-none c none m is =
+    let made = c.leads.ensures.1 is.leads in
+    let test = c.if-not-leads.true in
+    absurd (cc)
 
 pub returns-in_err-crossing-clause-none : goal.returns-in_err-crossing-clause-none
 returns-in_err-crossing-clause-none c none m is =
@@ -30,7 +36,7 @@ returns-in_err-ahead-clause-none c none m is =
     let stage = rw c.as_slice.ensures at c.stage_at-stage.ensures in
     let there = the_move p s.place c.args.dir c.in_ok-crossing.crossing c.stage_at-stage.result c.distance.result c.point-from.result c.point-at.result c.distance.ensures c.requires.knowing.ready c.point-from.ensures c.point-at.ensures c.in_ok-crossing.ensures.nearest stage in
     let to : Place = record { crossing = c.in_ok-crossing.crossing; stage = c.stage_at-stage.result; heading = c.args.dir } in
-    let only = the_only p (known_of c.args.self.now) s c.args.dir c.requires.knowing.ready.arena m _ to is there.0 refl in
+    let only = the_only p (knowledge_of c.args.self.now) s c.args.dir c.requires.knowing.ready.arena m _ to is there.0 refl in
     let is_this : known_of c.args.self.now to ≡ Some m.ahead = ap (known_of c.args.self.now) (sym only.1.0) ∙ is.is_known in
     absurd (let e : Some m.ahead ≡ None = sym is_this ∙ sym c.ahead_of.ensures ∙ c.in_err-ahead.was in cc)
 
@@ -62,7 +68,7 @@ returns-then-not-makes-clause-none c none m is =
     let stage = rw c.as_slice.ensures at c.stage_at-stage.ensures in
     let there = the_move p s.place c.args.dir c.in_ok-crossing.crossing c.stage_at-stage.result c.distance.result c.point-from.result c.point-at.result c.distance.ensures c.requires.knowing.ready c.point-from.ensures c.point-at.ensures c.in_ok-crossing.ensures.nearest stage in
     let to : Place = record { crossing = c.in_ok-crossing.crossing; stage = c.stage_at-stage.result; heading = c.args.dir } in
-    let only = the_only p (known_of c.args.self.now) s c.args.dir c.requires.knowing.ready.arena m _ to is there.0 refl in
+    let only = the_only p (knowledge_of c.args.self.now) s c.args.dir c.requires.knowing.ready.arena m _ to is there.0 refl in
     let is_this : Some c.in_ok-ahead.ahead ≡ Some m.ahead = sym c.in_ok-ahead.was ∙ c.ahead_of.ensures ∙ ap (known_of c.args.self.now) (sym only.1.0) ∙ is.is_known in
     let ahead : c.in_ok-ahead.ahead ≡ m.ahead = cc in
     let begin : is.move.begin ≡ c.point-from.result = only.1.1 ∙ there.1 in
@@ -83,6 +89,7 @@ returns-clause-is c =
     record {
       move = there.0;
       dir = refl;
+      leads = c.if-not-leads.ensures.0 (search rules);
       is_known = sym c.ahead_of.ensures ∙ c.in_ok-ahead.was;
       fits = ap (λ (q : Point). with_stretch p.task.now.penalty s.place.heading (record { from = q; dir = c.args.dir; steps = c.distance.result }) c.in_ok-ahead.ahead) there.1 ∙ fits;
     }
