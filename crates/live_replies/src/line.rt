@@ -7,7 +7,7 @@ ghost use Rattle.live_replies.specs.Texts.{connector_text, corner_text, corners_
 
 use itoa::Buffer;
 use plane_geom::Point;
-use std::alloc::{AllocError, Global};
+use std::alloc::AllocError;
 use walk_model::WrittenRoute;
 
 /// Appends a text and the digits of a number after it.
@@ -29,7 +29,7 @@ pub(crate) fn push_with_id(out: &mut Vec<u8>, text: &[u8], id: i64) -> Result<()
 }
 
 /// Appends a space and a length in units.
-pub(crate) fn push_milli(alloc: Global, out: &mut Vec<u8>, value: i64) -> Result<(), AllocError>
+pub(crate) fn push_milli(out: &mut Vec<u8>, value: i64) -> Result<(), AllocError>
     ensures { OnOk result (out.new.items ≡ out.old.items ++ (codes " " ++ milli_text value)) }
 {
     out.push(b' ')?;
@@ -37,50 +37,38 @@ pub(crate) fn push_milli(alloc: Global, out: &mut Vec<u8>, value: i64) -> Result
 }
 
 /// Appends a corner.
-pub(crate) fn push_corner(
-    alloc: Global,
-    out: &mut Vec<u8>,
-    corner: &Point,
-) -> Result<(), AllocError>
+pub(crate) fn push_corner(out: &mut Vec<u8>, corner: &Point) -> Result<(), AllocError>
     ensures { OnOk result (out.new.items ≡ out.old.items ++ corner_text corner.now) }
 {
-    push_milli(alloc, out, corner.x)?;
-    push_milli(alloc, out, corner.y)
+    push_milli(out, corner.x)?;
+    push_milli(out, corner.y)
 }
 
-fn push_corners(alloc: Global, out: &mut Vec<u8>, corners: &[Point]) -> Result<(), AllocError>
+fn push_corners(out: &mut Vec<u8>, corners: &[Point]) -> Result<(), AllocError>
     ensures { OnOk result (out.new.items ≡ out.old.items ++ corners_text corners.now) }
 {
     for corner in corners {
-        push_corner(alloc, out, corner)?;
+        push_corner(out, corner)?;
     }
     Ok(())
 }
 
 /// Appends the line that says which corners a connector's line has.
-pub(crate) fn push_drawn(
-    alloc: Global,
-    out: &mut Vec<u8>,
-    line: &WrittenRoute,
-) -> Result<(), AllocError>
+pub(crate) fn push_drawn(out: &mut Vec<u8>, line: &WrittenRoute) -> Result<(), AllocError>
     ensures { OnOk result (out.new.items ≡ out.old.items ++ drawn_text line.now) }
 {
     push_numbered(out, b"line ", u64::from(line.edge))?;
-    push_corners(alloc, out, line.points.as_slice())?;
+    push_corners(out, line.points.as_slice())?;
     out.push(b'\n')?;
     Ok(())
 }
 
 /// Appends the line of each connector.
-pub(crate) fn push_all_drawn(
-    alloc: Global,
-    out: &mut Vec<u8>,
-    lines: &[WrittenRoute],
-) -> Result<(), AllocError>
+pub(crate) fn push_all_drawn(out: &mut Vec<u8>, lines: &[WrittenRoute]) -> Result<(), AllocError>
     ensures { OnOk result (out.new.items ≡ out.old.items ++ drawn_texts lines.now) }
 {
     for line in lines {
-        push_drawn(alloc, out, line)?;
+        push_drawn(out, line)?;
     }
     Ok(())
 }

@@ -28,28 +28,28 @@ fn push_counts(out: &mut Vec<u8>, scene: &Scene) -> Result<(), AllocError>
     Ok(())
 }
 
-/// Appends two of the settings.
-fn push_costs(alloc: Global, out: &mut Vec<u8>, settings: &Settings) -> Result<(), AllocError>
+/// Appends the penalty of a bend and the buffer around boxes.
+fn push_costs(out: &mut Vec<u8>, settings: &Settings) -> Result<(), AllocError>
     ensures { OnOk result (out.new.items ≡ out.old.items ++ lengths_text settings.now.penalty settings.now.buffer) }
 {
-    push_milli(alloc, out, settings.penalty)?;
-    push_milli(alloc, out, settings.buffer)
+    push_milli(out, settings.penalty)?;
+    push_milli(out, settings.buffer)
 }
 
-/// Appends the third.
-fn push_nudge(alloc: Global, out: &mut Vec<u8>, settings: &Settings) -> Result<(), AllocError>
+/// Appends the wanted distance of runs that were nudged apart.
+fn push_nudge(out: &mut Vec<u8>, settings: &Settings) -> Result<(), AllocError>
     ensures { OnOk result (out.new.items ≡ out.old.items ++ (codes " " ++ milli_text settings.now.nudge)) }
 {
-    push_milli(alloc, out, settings.nudge)
+    push_milli(out, settings.nudge)
 }
 
 /// Appends the line of the settings.
-fn push_settings(alloc: Global, out: &mut Vec<u8>, settings: &Settings) -> Result<(), AllocError>
+fn push_settings(out: &mut Vec<u8>, settings: &Settings) -> Result<(), AllocError>
     ensures { OnOk result (out.new.items ≡ out.old.items ++ settings_line settings.now) }
 {
     out.extend_from_slice(b"settings")?;
-    push_costs(alloc, out, settings)?;
-    push_nudge(alloc, out, settings)?;
+    push_costs(out, settings)?;
+    push_nudge(out, settings)?;
     out.push(b'\n')?;
     Ok(())
 }
@@ -64,7 +64,7 @@ fn push_pin(alloc: Global, out: &mut Vec<u8>, pin: &Pin) -> Result<(), AllocErro
     };
     let letters = letters_of(alloc, pin.dirs)?;
     push_numbered(out, b"pin ", u64::from(pin.class))?;
-    push_corner(alloc, out, &offset)?;
+    push_corner(out, &offset)?;
     out.extend_from_slice(b" ")?;
     out.extend_from_slice(&letters)?;
     out.push(b'\n')?;
@@ -93,23 +93,23 @@ fn push_group(out: &mut Vec<u8>, is_group: bool) -> Result<(), AllocError>
 }
 
 /// Appends the centre of a box.
-fn push_centre(alloc: Global, out: &mut Vec<u8>, node: &Node) -> Result<(), AllocError>
+fn push_centre(out: &mut Vec<u8>, node: &Node) -> Result<(), AllocError>
     ensures { OnOk result (out.new.items ≡ out.old.items ++ lengths_text node.now.x node.now.y) }
 {
-    push_milli(alloc, out, node.x)?;
-    push_milli(alloc, out, node.y)
+    push_milli(out, node.x)?;
+    push_milli(out, node.y)
 }
 
 /// Appends the id of a box, and its centre.
-fn push_place(alloc: Global, out: &mut Vec<u8>, node: &Node) -> Result<(), AllocError>
+fn push_place(out: &mut Vec<u8>, node: &Node) -> Result<(), AllocError>
     ensures { OnOk result (out.new.items ≡ out.old.items ++ place_text node.now) }
 {
     push_with_id(out, b"box ", node.id)?;
-    push_centre(alloc, out, node)
+    push_centre(out, node)
 }
 
 /// Appends the whole size of a box.
-fn push_size(alloc: Global, out: &mut Vec<u8>, node: &Node) -> Result<(), AllocError>
+fn push_size(out: &mut Vec<u8>, node: &Node) -> Result<(), AllocError>
     requires { IsNode node.now }
     ensures { OnOk result (out.new.items ≡ out.old.items ++ size_of node.now) }
 {
@@ -117,16 +117,16 @@ fn push_size(alloc: Global, out: &mut Vec<u8>, node: &Node) -> Result<(), AllocE
         x: 2 * node.half_w,
         y: 2 * node.half_h,
     };
-    push_corner(alloc, out, &size)
+    push_corner(out, &size)
 }
 
 /// Appends the line of a box.
-fn push_box_line(alloc: Global, out: &mut Vec<u8>, node: &Node) -> Result<(), AllocError>
+fn push_box_line(out: &mut Vec<u8>, node: &Node) -> Result<(), AllocError>
     requires { IsNode node.now }
     ensures { OnOk result (out.new.items ≡ out.old.items ++ box_line node.now) }
 {
-    push_place(alloc, out, node)?;
-    push_size(alloc, out, node)?;
+    push_place(out, node)?;
+    push_size(out, node)?;
     push_group(out, node.group)?;
     out.push(b'\n')?;
     Ok(())
@@ -137,7 +137,7 @@ fn push_box(alloc: Global, out: &mut Vec<u8>, node: &Node) -> Result<(), AllocEr
     requires { IsNode node.now }
     ensures { OnOk result (out.new.items ≡ out.old.items ++ box_lines node.now) }
 {
-    push_box_line(alloc, out, node)?;
+    push_box_line(out, node)?;
     push_pins(alloc, out, node.pins.as_slice())
 }
 
@@ -163,21 +163,21 @@ fn push_cost(out: &mut Vec<u8>, cost: Option<u64>) -> Result<(), AllocError>
 }
 
 /// Appends the line of each checkpoint.
-fn push_checkpoints(alloc: Global, out: &mut Vec<u8>, via: &[Point]) -> Result<(), AllocError>
+fn push_checkpoints(out: &mut Vec<u8>, via: &[Point]) -> Result<(), AllocError>
     ensures { OnOk result (out.new.items ≡ out.old.items ++ flat_map checkpoint_line via.now) }
 {
     for point in via {
-        push_checkpoint(alloc, out, point)?;
+        push_checkpoint(out, point)?;
     }
     Ok(())
 }
 
 /// Appends the line of a checkpoint.
-fn push_checkpoint(alloc: Global, out: &mut Vec<u8>, point: &Point) -> Result<(), AllocError>
+fn push_checkpoint(out: &mut Vec<u8>, point: &Point) -> Result<(), AllocError>
     ensures { OnOk result (out.new.items ≡ out.old.items ++ checkpoint_line point.now) }
 {
     out.extend_from_slice(b"checkpoint")?;
-    push_corner(alloc, out, point)?;
+    push_corner(out, point)?;
     out.push(b'\n')?;
     Ok(())
 }
@@ -219,29 +219,19 @@ fn push_edge_line(out: &mut Vec<u8>, drawing: &Drawing, edge: &Edge) -> Result<(
 }
 
 /// Appends the lines of a connector and of its checkpoints.
-fn push_edge(
-    alloc: Global,
-    out: &mut Vec<u8>,
-    drawing: &Drawing,
-    edge: &Edge,
-) -> Result<(), AllocError>
+fn push_edge(out: &mut Vec<u8>, drawing: &Drawing, edge: &Edge) -> Result<(), AllocError>
     ensures { OnOk result (out.new.items ≡ out.old.items ++ connector_lines drawing.now.session.book edge.now) }
 {
     push_edge_line(out, drawing, edge)?;
-    push_checkpoints(alloc, out, edge.via.as_slice())
+    push_checkpoints(out, edge.via.as_slice())
 }
 
 /// Appends the lines of each connector.
-fn push_edges(
-    alloc: Global,
-    out: &mut Vec<u8>,
-    drawing: &Drawing,
-    edges: &[Edge],
-) -> Result<(), AllocError>
+fn push_edges(out: &mut Vec<u8>, drawing: &Drawing, edges: &[Edge]) -> Result<(), AllocError>
     ensures { OnOk result (out.new.items ≡ out.old.items ++ flat_map (connector_lines drawing.now.session.book) edges.now) }
 {
     for edge in edges {
-        push_edge(alloc, out, drawing, edge)?;
+        push_edge(out, drawing, edge)?;
     }
     Ok(())
 }
@@ -253,9 +243,9 @@ pub(crate) fn scene_text(alloc: Global, drawing: &Drawing) -> Result<Vec<u8>, Al
     let scene = drawing.scene();
     let mut text = Vec::new(alloc);
     push_counts(&mut text, scene)?;
-    push_settings(alloc, &mut text, &scene.settings())?;
+    push_settings(&mut text, &scene.settings())?;
     push_boxes(alloc, &mut text, scene.nodes())?;
-    push_edges(alloc, &mut text, drawing, scene.edges())?;
+    push_edges(&mut text, drawing, scene.edges())?;
     push_ok(&mut text)?;
     Ok(text)
 }

@@ -14,7 +14,7 @@ pub(crate) fn changes_text(alloc: Global, compared: &Compared) -> Result<Vec<u8>
     ensures { IfOk result (λ text. text.items ≡ changes_text (changes compared.now) ++ ok_line) }
 {
     let mut text = Vec::new(alloc);
-    push_changes(alloc, &mut text, compared)?;
+    push_changes(&mut text, compared)?;
     push_ok(&mut text)?;
     Ok(text)
 }
@@ -24,7 +24,7 @@ pub(crate) fn lines_text(alloc: Global, lines: &[WrittenRoute]) -> Result<Vec<u8
     ensures { IfOk result (λ text. text.items ≡ drawn_texts lines.now ++ ok_line) }
 {
     let mut text = Vec::new(alloc);
-    push_all_drawn(alloc, &mut text, lines)?;
+    push_all_drawn(&mut text, lines)?;
     push_ok(&mut text)?;
     Ok(text)
 }

@@ -1,4 +1,6 @@
 -- The lemmas on both phases of nudging and on the lines of a scene, callees first.
+pub mod RoutesAlike
+pub mod Lengths
 pub mod AlongRuns
 pub mod MovedRuns
 pub mod EachPhase

@@ -16,7 +16,7 @@ use Rattle.scene_model.specs.Routing.{solids, task_of}
 use Rattle.scene_model.specs.Scene.{Scene}
 use Rattle.channel_bundles.specs.declared.channel.RunBundle.{RunBundle}
 use Rattle.channel_bundles.specs.declared.route.PhaseRoute.{PhaseRoute}
-use Rattle.nudge_phases.specs.Alike.{AreRoutesAlike, IsRouteAlike}
+use Rattle.nudge_phases.proofs.RoutesAlike.{AreRoutesAlike, IsRouteAlike}
 use Rattle.nudge_phases.specs.Moved.{IsMoved, IsPutAt, moved_run}
 use Rattle.nudge_phases.specs.Phase.{IsPhase}
 use Rattle.nudge_phases.proofs.BothPhases.OneNudged.{one_nudged}

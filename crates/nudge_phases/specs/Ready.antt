@@ -13,10 +13,6 @@ use Rattle.walk_model.specs.Choice.{IsChoice}
 use Rattle.walk_model.specs.Legal.{IsLegal}
 use Rattle.nudge_phases.specs.LegalRuns.{walk_along}
 
--- the runs of the way have some length, so that the runs beside them are in the order of its heading
-abbrev pub HaveLength : Way → List Run → Type 0
-HaveLength way runs = All (λ r. r.way ≡ way → r.lo <ℤ r.hi) runs
-
 -- the ports of the route lie on its first and on its last run
 pub record HoldsPorts (route : PhaseRoute) : Type 0 where
   pub source : Holds (line_of_run (run_at route.runs.items 0)) route.anchors.source_port

@@ -15,7 +15,8 @@ use Rattle.nudge_phases.specs.LegalRuns.{IsLegalAlong, walk_along}
 use Rattle.nudge_phases.specs.Lines.{IsNudged, KeepsLegal}
 use Rattle.channel_bundles.specs.Route.{IsPhaseRoute}
 use Rattle.nudge_phases.specs.Apart.{KeepsApart}
-use Rattle.nudge_phases.specs.Ready.{AreRaw, HaveLength, IsReady}
+use Rattle.nudge_phases.specs.Ready.{AreRaw, IsReady}
+use Rattle.nudge_phases.proofs.Lengths.{HaveLength}
 use Rattle.nudge_phases.proofs.AlongRuns.FromTheWalk.{from_walk}
 use Rattle.nudge_phases.proofs.AlongRuns.ToTheWalk.{legal_walk}
 use Rattle.nudge_phases.proofs.EachPhase.AfterX.{horizontal, x_ready, x_edges, x_vertical}

@@ -17,7 +17,7 @@ use Rattle.channel_bundles.specs.Route.{IsPhaseRoute}
 use Rattle.channel_bundles.specs.Limits.{MayMove}
 use Rattle.channel_bundles.specs.Links.{IsNudge}
 use Rattle.nudge_phases.specs.LegalRuns.{walk_along}
-use Rattle.nudge_phases.specs.Alike.{AreRoutesAlike, IsRouteAlike}
+use Rattle.nudge_phases.proofs.RoutesAlike.{AreRoutesAlike, IsRouteAlike}
 use Rattle.nudge_phases.specs.Lines.{IsNudged, IsWrittenLine}
 use Rattle.nudge_phases.specs.Ready.{AreRaw, AreWalked, IsReady}
 use Rattle.nudge_phases.proofs.OneOfEach.OneResult.{one_phase}

@@ -16,7 +16,8 @@ use Rattle.walk_model.specs.Legal.{IsLegal}
 use Rattle.channel_bundles.specs.declared.route.PhaseRoute.{PhaseRoute}
 use Rattle.nudge_phases.specs.LegalRuns.{walk_along, steps_of_run}
 use Rattle.nudge_phases.specs.Phase.{IsPhase}
-use Rattle.nudge_phases.specs.Ready.{AreRaw, HaveLength, HoldsPorts, IsReady}
+use Rattle.nudge_phases.specs.Ready.{AreRaw, HoldsPorts, IsReady}
+use Rattle.nudge_phases.proofs.Lengths.{HaveLength}
 use Rattle.channel_bundles.specs.Limits.{MayMove}
 use Rattle.nudge_phases.proofs.MovedRuns.Corners.{may_stay, short_may_stay}
 use Rattle.nudge_phases.proofs.AlongRuns.FromTheWalk.{from_walk, source_held, target_held}

@@ -36,7 +36,8 @@ use Rattle.nudge_phases.proofs.MovedRuns.OnePlace.{one_place}
 use Rattle.separation_model.specs.Rounded.{IsRoundedDown}
 use Rattle.nudge_phases.specs.Moved.{IsPutAt}
 use Rattle.nudge_phases.specs.Phase.{IsSolutionOf}
-use Rattle.nudge_phases.specs.Ready.{HaveLength, HoldsPorts}
+use Rattle.nudge_phases.specs.Ready.{HoldsPorts}
+use Rattle.nudge_phases.proofs.Lengths.{HaveLength}
 use Rattle.nudge_phases.proofs.AlongRuns.Ends.{far_end}
 use Rattle.nudge_phases.proofs.MovedRuns.Ends.{turned}
 use Rattle.nudge_phases.proofs.MovedRuns.Corners.{IsSettled, begin_at, end_at}

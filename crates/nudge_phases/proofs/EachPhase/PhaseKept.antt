@@ -19,7 +19,8 @@ use Rattle.channel_bundles.specs.Limits.{MayMove}
 use Rattle.nudge_phases.specs.Moved.{IsMoved, moved_run}
 use Rattle.nudge_phases.specs.Phase.{IsPhase}
 use Rattle.nudge_phases.specs.LegalRuns.{IsLegalAlong}
-use Rattle.nudge_phases.specs.Ready.{HaveLength, IsReady}
+use Rattle.nudge_phases.specs.Ready.{IsReady}
+use Rattle.nudge_phases.proofs.Lengths.{HaveLength}
 use Rattle.nudge_phases.proofs.MovedRuns.Ends.{turned}
 use Rattle.nudge_phases.proofs.MovedRuns.Corners.{IsSettled, moved_runs, keeps_source, keeps_target, keeps_length, keeps_legal_along, new_way, short_stays, may_stay}
 use Rattle.nudge_phases.specs.Apart.{KeepsApart}

@@ -26,7 +26,8 @@ use Rattle.channel_bundles.specs.declared.channel.RunBundle.{RunBundle}
 use Rattle.channel_bundles.specs.Route.{IsPhaseRoute, is_way}
 use Rattle.channel_bundles.specs.Links.{item_of}
 use Rattle.channel_bundles.specs.Bundles.{AreBundles}
-use Rattle.nudge_phases.specs.Alike.{AreAlike, AreRoutesAlike, IsAlike, IsRouteAlike}
+use Rattle.nudge_phases.specs.Alike.{AreAlike, IsAlike}
+use Rattle.nudge_phases.proofs.RoutesAlike.{AreRoutesAlike, IsRouteAlike}
 use Rattle.nudge_phases.specs.Moved.{IsPutAt, corner, moved_run, runs_way, stretch}
 use Rattle.nudge_phases.specs.Phase.{IsPhase, IsSolutionOf}
 use Rattle.nudge_phases.proofs.OneOfEach.OneBundles.{one_list_of_bundles}

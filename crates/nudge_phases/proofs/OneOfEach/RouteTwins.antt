@@ -22,7 +22,7 @@ use Rattle.channel_bundles.specs.declared.channel.RunBundle.{RunBundle}
 use Rattle.channel_bundles.specs.Route.{HasToLeave, HasToReach, IsFixed, of_way, runs_of_way}
 use Rattle.channel_bundles.specs.Limits.{HasLimits, IsReached, MayStandAt, Sweeps}
 use Rattle.channel_bundles.specs.Bundles.{AreBundles, AreBundlesOf, AreInOrder, IsStanding, Standing, members_of}
-use Rattle.nudge_phases.specs.Alike.{AreRoutesAlike, IsRouteAlike}
+use Rattle.nudge_phases.proofs.RoutesAlike.{AreRoutesAlike, IsRouteAlike}
 use Rattle.nudge_phases.proofs.MovedRuns.Bundled.{standing_run}
 use Rattle.nudge_phases.proofs.EachPhase.FromPhase.{same_number, other_number}
 
