@@ -32,14 +32,17 @@ pub fn least_cost(problem: &Problem<'_>) -> u64
     least
 }
 
-/// A limit that is further from the least cost by at least the penalty of two bends, and about four
-/// times as far as this one.
+/// A limit above this one: two bends above the least cost, then about ten, then the most.
 pub fn raised(limit: u64, least: u64, penalty: u64) -> u64
     requires limit { limit ≤ most_cost }
     requires penalty { penalty ≤ 10 ^ 9 }
     ensures rises { limit < most_cost → limit < result }
     ensures most { result ≤ most_cost }
 {
-    let further = limit.saturating_sub(least) * 3 + penalty * 2 + 1;
-    MOST_COST.min(limit + further)
+    let two_bends = penalty * 2 + 1;
+    let above = limit.saturating_sub(least);
+    if above > two_bends {
+        return MOST_COST;
+    }
+    MOST_COST.min(limit + above * 3 + two_bends)
 }

@@ -264,7 +264,7 @@ impl Spread {
     /// Lets lines keep the exits of all walks that may be first.
     ///
     /// Few exits matter where the limit is little more than what the first walk costs. So limits rise
-    /// from a lower bound, until a walk costs less.
+    /// from a lower bound, until a walk costs less; after two of them any walk is looked for.
     pub fn spread(
         &mut self,
         problem: &Problem<'_>,
