@@ -15,6 +15,7 @@ use crate::network::wants_of;
 use bumpalo::Bump;
 use separation_model::{Bundle, Rule, latest_positions, rules_by_left};
 use std::alloc::AllocError;
+use std::iter::once;
 
 /// Whole places that meet the bundle with the gap, and last the wall's place.
 ///
@@ -77,10 +78,9 @@ fn draw_back(places: &mut [i64], latest: &[i64])
 fn with_wall<'a>(bump: &'a Bump, places: &[i64]) -> Result<Vec<Fraction, &'a Bump>, AllocError>
     ensures { IfOk result (λ all. all.items ≡ map whole places.now ++ whole (pos 0) ∷ []) }
 {
-    let mut all = Vec::with_capacity(bump, places.len() + 1)?;
-    for at in places {
-        all.push(Fraction::whole(*at))?;
-    }
-    all.push(Fraction::whole(0))?;
-    Ok(all)
+    places
+        .iter()
+        .map(|at| Fraction::whole(*at))
+        .chain(once(Fraction::whole(0)))
+        .collect(bump)
 }
