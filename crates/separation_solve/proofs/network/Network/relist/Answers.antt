@@ -1,0 +1,48 @@
+-- The goals of `Network::relist`: the lists alone are new.
+use Rattle.std.proofs.Common.{length, OnOk, arith, refl, sym, subst, ap, ◌∙◌}
+use Rattle.std.specs.Vec.{with_items}
+use Rattle.std.proofs.lemmas.List.{with_items_is}
+use Rattle.std.proofs.lemmas.Result.{on_ok_weaker}
+use Rattle.separation_solve.specs.Network.{ListsTight}
+use Rattle.separation_solve.proofs.network.Network.relist.Goals as goal
+
+pub returns-clause-frame : goal.returns-clause-frame
+returns-clause-frame c =
+    let n = c.args.self.now in
+    let f = c.requires.frame in
+    let count = c.list_tight.auto.lists ∙ c.deref_mut-2.ensures.len in
+    let lists = ap length (with_items_is (with_items n.tight c.clear_lists.new.lists) c.list_tight.new.lists count) ∙ count in
+    on_ok_weaker c.list_tight.result (λ same. record {
+      few = f.few;
+      weights = f.weights;
+      excess = f.excess;
+      places = f.places;
+      lists = omega (arith, lists, n.tight.ok, f.lists);
+      flow = f.flow;
+      light = f.light;
+      heavy = f.heavy;
+      wants = f.wants;
+      links = f.links;
+      limited = f.limited;
+    }) c.list_tight.ensures.count
+
+pub returns-clause-kept : goal.returns-clause-kept
+returns-clause-kept c = record {
+  spots = c.requires.kept.spots;
+  wall_num = c.requires.kept.wall_num;
+  wall_den = c.requires.kept.wall_den;
+  kept = c.requires.kept.kept;
+}
+
+pub returns-clause-tight : goal.returns-clause-tight
+returns-clause-tight c =
+    let n = c.args.self.now in
+    let tight = rw (c.deref.ensures.value, c.deref-2.ensures.value) at c.list_tight.ensures.tight in
+    let lists = with_items_is (with_items n.tight c.clear_lists.new.lists) c.list_tight.new.lists (c.list_tight.auto.lists ∙ c.deref_mut-2.ensures.len) in
+    subst (λ lists. OnOk c.list_tight.result (ListsTight n.places.items n.links.items lists)) (sym lists) tight
+
+pub returns-clause-bundle : goal.returns-clause-bundle
+returns-clause-bundle c = record { links = refl; wants = refl; weights = refl; mirrored = refl }
+
+pub returns-clause-places : goal.returns-clause-places
+returns-clause-places c = refl
