@@ -1,5 +1,5 @@
 -- What does not hang on which side is left.
-use Rattle.std.proofs.Common.{◌≡◌, ℕ, ◌/◌, Bool, true, false, ℤ, pos, neg_ℤ, List, [], ◌∷◌, map, length, slice_index, if◌then◌else◌, refl, ap, sym, ◌∙◌}
+use Rattle.std.proofs.Common.{◌≡◌, ℕ, ◌/◌, arith, Bool, true, false, ℤ, pos, neg_ℤ, List, [], ◌∷◌, map, length, slice_index, if◌then◌else◌, refl, ap, sym, ◌∙◌}
 use Rattle.std.proofs.lemmas.List.{length-map}
 use Rattle.separation_solve.specs.Block.{factorial, objective, squared}
 use Rattle.separation_model.specs.Bundle.{int_at}
@@ -7,7 +7,8 @@ use Rattle.separation_solve.specs.Fraction.{most_weight}
 use Rattle.separation_model.specs.Sum.{sum_below}
 use Rattle.separation_solve.specs.declared.fraction.Fraction.{Fraction}
 use Rattle.separation_solve.specs.declared.network.Network.{Network}
-use Rattle.separation_solve.specs.Network.{IsSameBundle, place_at, turned_place, upright_places, upright_wants}
+use Rattle.separation_model.specs.declared.bundle.Bundle.{Bundle}
+use Rattle.separation_solve.specs.Network.{IsFrame, IsNetworkOf, IsSameBundle, KeepsBundle, items_of, place_at, turned_place, upright_links, upright_places, upright_wants}
 use Rattle.separation_solve.proofs.Networks.Mirrored.{int_at-negated, place_at-turned}
 use Rattle.separation_model.proofs.Arithmetic.Ring.{ring, var, minus, ◌⊗◌, ◌⊖◌}
 use Rattle.separation_model.proofs.Arithmetic.Sums.{sum_below-same}
@@ -47,3 +48,23 @@ same_objective old new same places =
     ∙ ap (λ ws. objective_of (factorial most_weight) old.weights.items ws (upright_places new)) same.wants
     ∙ ap (objective_of (factorial most_weight) old.weights.items (upright_wants old)) places
     ∙ sym (objective-upright old)
+
+-- the bundle's data that have not changed are of the same bundle
+pub kept_same : {old new : Network} → KeepsBundle old new → IsSameBundle old new
+kept_same keeps = record {
+  links = rw (keeps.links, keeps.mirrored) refl;
+  wants = rw (keeps.wants, keeps.mirrored) refl;
+  weights = ap (λ weights. weights.items) keeps.weights;
+}
+
+pub kept_places : {old new : Network} → KeepsBundle old new → new.places ≡ old.places → upright_places new ≡ upright_places old
+kept_places keeps places = rw (places, keeps.mirrored) refl
+
+pub same_on : {old mid new : Network} → IsSameBundle old mid → IsSameBundle mid new → IsSameBundle old new
+same_on same on = record { links = on.links ∙ same.links; wants = on.wants ∙ same.wants; weights = on.weights ∙ same.weights }
+
+pub network_on : {b : Bundle} {gap : ℤ} {old new : Network} → IsNetworkOf b gap old → IsSameBundle old new → IsNetworkOf b gap new
+network_on is on = record { links = on.links ∙ is.links; wants = on.wants ∙ is.wants; weights = on.weights ∙ is.weights }
+
+pub same_items : {old new : Network} → IsSameBundle old new → IsFrame old → IsFrame new → items_of old ≡ items_of new
+same_items same was now = omega (arith, was.weights, now.weights, ap length same.weights)

@@ -1,5 +1,5 @@
 -- Each move lowers the sum of squares, and a balanced network is a solution.
-use Rattle.std.proofs.Common.{◌<◌, Result, IfOk, unsigned_abs, subst}
+use Rattle.std.proofs.Common.{◌≡◌, ◌+◌, ◌<◌, ℤ, Vec, length, Result, IfOk, unsigned_abs, arith, sym, subst}
 use Rattle.std.proofs.lemmas.Result.{IfOk-weaker}
 use Rattle.separation_model.specs.declared.bundle.Bundle.{Bundle}
 use Rattle.separation_model.specs.declared.bundle.Solution.{Solution}
@@ -8,7 +8,10 @@ use Rattle.separation_model.specs.Bundle.{IsBundle}
 use Rattle.separation_model.specs.Certified.{IsAccepted}
 use Rattle.separation_model.specs.Least.{IsLeast}
 use Rattle.separation_model.proofs.Optimum.Certificates.{certified_least}
-use Rattle.separation_solve.proofs.Networks.Upright.{same_objective}
+use Rattle.separation_solve.specs.Reach.{IsTable}
+use Rattle.separation_model.specs.Arena.{Arena}
+use Rattle.separation_solve.specs.Network.{items_of}
+use Rattle.separation_solve.proofs.Networks.Upright.{kept_same, network_on, same_objective}
 use Rattle.separation_solve.proofs.solver.solve.Goals as goal
 
 pub loop-reach-smaller : goal.loop-reach-smaller
@@ -27,3 +30,20 @@ returns-then-is_empty-clause-least c = least_result c.args.bundle.now c.at_rest.
 
 pub returns-clause-least : goal.returns-clause-least
 returns-clause-least c = least_result c.args.bundle.now c.into_solution.result c.requires.bundle c.into_solution.ensures.accepted
+
+pub loop-reach-init : goal.loop-reach-init
+loop-reach-init c =
+    let n = c.in_ok-network.network in
+    let made = c.in_ok-network.ensures in
+    let count : c.len.result ≡ items_of n + 1 = omega (arith, c.len.ensures, n.places.ok, made.sound.frame.places) in
+    record { sound = made.sound; of_bundle = made.of_bundle; table = subst (λ count. IsTable count c.in_ok-reach.reach) count c.in_ok-reach.ensures }
+
+pub loop-reach-preserved : goal.loop-reach-preserved
+loop-reach-preserved c =
+    let was = c.in_ok-balance.ensures in
+    let kept = c.in_ok-shift.ensures.bundle in
+    record {
+      sound = c.in_ok-shift.ensures.sound;
+      of_bundle = network_on (network_on c.loop-reach.invariant.of_bundle was.same) (kept_same kept);
+      table = subst (λ (wants : Vec ℤ Arena). IsTable (length wants.items + 1) c.balance.new.reach) (sym kept.wants) was.table;
+    }
