@@ -55,18 +55,15 @@ impl<'a> Network<'a> {
     {
         let places = start_places(bump, bundle, gap)?;
         let links = links_of(bump, bundle, gap)?;
-        let tight = empty_lists(bump, places.len())?;
-        let flow = vec![in bump; 0; links.len()]?;
-        let excess = vec![in bump; 0; bundle.items.len()]?;
         let mut network = Network {
-            links,
-            tight,
+            tight: empty_lists(bump, places.len())?,
             wants: wants_of(bump, &bundle.items)?,
             weights: weights_of(bump, &bundle.items)?,
             mirrored: false,
+            flow: vec![in bump; 0; links.len()]?,
+            excess: vec![in bump; 0; bundle.items.len()]?,
+            links,
             places,
-            flow,
-            excess,
         };
         network.relist()?;
         network.release();

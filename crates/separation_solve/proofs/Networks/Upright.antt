@@ -8,7 +8,7 @@ use Rattle.separation_model.specs.Sum.{sum_below}
 use Rattle.separation_solve.specs.declared.fraction.Fraction.{Fraction}
 use Rattle.separation_solve.specs.declared.network.Network.{Network}
 use Rattle.separation_model.specs.declared.bundle.Bundle.{Bundle}
-use Rattle.separation_solve.specs.Network.{IsFrame, IsNetworkOf, IsSameBundle, KeepsBundle, items_of, place_at, turned_place, upright_links, upright_places, upright_wants}
+use Rattle.separation_solve.specs.Network.{IsFrame, IsNetworkOf, IsSameBundle, KeepsBundle, items_of, place_at, turned_place, upright_places, upright_wants}
 use Rattle.separation_solve.proofs.Networks.Mirrored.{int_at-negated, place_at-turned}
 use Rattle.separation_model.proofs.Arithmetic.Ring.{ring, var, minus, ◌⊗◌, ◌⊖◌}
 use Rattle.separation_model.proofs.Arithmetic.Sums.{sum_below-same}

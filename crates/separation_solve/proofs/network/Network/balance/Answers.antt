@@ -1,5 +1,5 @@
 -- The goals of `Network::balance` that the check leaves.
-use Rattle.std.proofs.Common.{◌+◌, ℤ, Vec, length, arith, ap, sym, subst, ◌∙◌}
+use Rattle.std.proofs.Common.{◌+◌, ℤ, Vec, length, arith, sym, subst, ◌∙◌}
 use Rattle.std.proofs.lemmas.Option.{MatchOption-at_some}
 use Rattle.separation_model.specs.Arena.{Arena}
 use Rattle.separation_solve.specs.Network.{total_size}

@@ -50,3 +50,6 @@ pub returns-clause-places : goal.returns-clause-places
 returns-clause-places c =
     let n = c.args.self.now in
     upright-turned turned_place turned_place_twice n.mirrored n.places.items _ (turned_items turned_place n.places c.deref_mut-3.result.now c.turn_places.new.places c.deref_mut-3.ensures.value c.turn_places.ensures)
+
+pub returns-clause-excess : goal.returns-clause-excess
+returns-clause-excess c = turned_items neg_ℤ c.args.self.now.excess c.deref_mut-4.result.now c.turn_excess.new.excess c.deref_mut-4.ensures.value c.turn_excess.ensures

@@ -1,10 +1,18 @@
 -- The goals of `Network::relist`: the lists alone are new.
-use Rattle.std.proofs.Common.{length, OnOk, arith, refl, sym, subst, ap, ◌∙◌}
+use Rattle.std.proofs.Common.{◌≡◌, ◌+◌, All, length, OnOk, arith, refl, sym, subst, ap, ◌∙◌}
 use Rattle.std.specs.Vec.{with_items}
+use Rattle.std.proofs.lemmas.List.Elements.{All-from_get_or}
 use Rattle.std.proofs.lemmas.List.{with_items_is}
 use Rattle.std.proofs.lemmas.Result.{on_ok_weaker}
-use Rattle.separation_solve.specs.Network.{ListsTight}
+use Rattle.separation_solve.specs.Network.{IsLink, ListsTight, items_of, no_link}
 use Rattle.separation_solve.proofs.network.Network.relist.Goals as goal
+
+pub list_tight-requires-clause-links : goal.list_tight-requires-clause-links
+list_tight-requires-clause-links c =
+    let n = c.args.self.now in
+    let links = All-from_get_or (IsLink (items_of n + 1)) n.links.items no_link c.requires.frame.links in
+    let count : items_of n + 1 ≡ length c.deref.result.now = omega (arith, c.deref.ensures.len, n.places.ok, c.requires.frame.places) in
+    subst (λ count. All (IsLink count) c.deref-2.result.now) count (subst (All (IsLink (items_of n + 1))) (sym c.deref-2.ensures.value) links)
 
 pub returns-clause-frame : goal.returns-clause-frame
 returns-clause-frame c =

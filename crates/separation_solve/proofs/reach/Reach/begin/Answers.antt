@@ -1,7 +1,7 @@
 -- The goals of `Reach::begin` that the check leaves.
-use Rattle.std.proofs.Common.{◌<◌, ◌++◌, ◌∷◌, [], Some, None, length, set, replicate, arith, refl, ap, ◌∙◌, to_z, of_z, to_z-of_z, pos, ◌-ℤ◌}
+use Rattle.std.proofs.Common.{ℕ, ◌<◌, ◌++◌, ◌∷◌, [], Option, Some, None, length, set, replicate, arith, refl, ap, ◌∙◌, to_z, of_z, to_z-of_z, pos, ◌-ℤ◌}
 use mir.Syntax.{w128}
-use Rattle.std.proofs.lemmas.List.{get_or_read}
+use Rattle.std.proofs.lemmas.List.{get_or_read, length-replicate}
 use Rattle.separation_model.specs.Bundle.{int_at}
 use Rattle.separation_solve.specs.declared.reach.Step.{Step}
 use Rattle.separation_solve.proofs.LightFractions.Spots.{cast_is}
@@ -25,3 +25,6 @@ returns c =
     let first : Step = record { node = c.args.start; via = None; offset = pos 0; capacity = to_z w128 (of_z w128 (pos 0 -ℤ to_z w128 (of_z w128 c.index.result.now))) } in
     reach_new n c.args.start _ first sound c.requires.item c.requires.short refl refl refl capacity (c.in_ok-push.ensures.items ∙ ap (λ l. l ++ first ∷ []) c.clear.ensures.steps)
     (ap (λ l. set l c.args.start (Some 0)) (c.clear.ensures.found ∙ ap (λ k. replicate k None) c.requires.table.nodes))
+
+pub index_mut-requires : goal.index_mut-requires
+index_mut-requires c = omega (arith, c.requires.item, c.requires.table.nodes, c.clear.new.self.found.ok, ap length c.clear.ensures.found, length-replicate {A = Option ℕ})
