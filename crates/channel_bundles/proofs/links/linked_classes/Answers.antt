@@ -1,18 +1,20 @@
 -- The links of one run after another are joined; the trees are then the classes.
-use Rattle.std.proofs.Common.{subst, sym, rules, w64, FitsSigned}
+use Rattle.std.proofs.Common.{◌<◌, ap, length, subst, sym, ◌∙◌, w64, FitsSigned}
 use Rattle.std.proofs.lemmas.Int.{to_z-of_z}
+use Rattle.std.specs.Prelude.{EachIndex, slice_index}
 use Rattle.channel_bundles.specs.Groups.{AreNext, AreTogether}
+use Rattle.channel_bundles.specs.Links.{AreClear}
 use Rattle.channel_bundles.proofs.Linking.{linked_begins, linked_classes, linked_more_by}
 use Rattle.channel_bundles.proofs.links.linked_classes.Goals as goal
 
 pub loop-at-init : goal.loop-at-init
 loop-at-init c =
-    let fits : FitsSigned w64 c.args.nudge = search rules in
+    let fits : FitsSigned w64 c.args.nudge = c.ranges.nudge in
     simp to_z-of_z (linked_begins _ _ _ c.in_ok-forest.ensures.count c.in_ok-forest.ensures.apart)
 
 pub loop-at-preserved : goal.loop-at-preserved
 loop-at-preserved c =
-    let fits : FitsSigned w64 c.args.nudge = search rules in
+    let fits : FitsSigned w64 c.args.nudge = c.ranges.nudge in
     let is = simp to_z-of_z at c.loop-at.invariant in
     let near = c.join_links_of.ensures in
     let own = c.join_links_of-in-loop-at.ensures in
@@ -27,6 +29,17 @@ loop-at-preserved c =
 
 pub returns : goal.returns
 returns c =
-    let fits : FitsSigned w64 c.args.nudge = search rules in
+    let fits : FitsSigned w64 c.args.nudge = c.ranges.nudge in
     let is = simp to_z-of_z at c.loop-at.invariant in
     linked_classes c.args.nudge c.args.members.now c.loop-at.forest.above.items c.loop-at.at _ is c.loop-at-test.false c.in_ok-classes.ensures.classes
+
+pub join_links_of-requires-clause-clear : goal.join_links_of-requires-clause-clear
+join_links_of-requires-clause-clear c = subst (AreClear c.args.members.now) (sym c.deref-in-loop-at.ensures.value) c.in_ok-clear.ensures
+
+pub join_links_of-requires-clause-next : goal.join_links_of-requires-clause-next
+join_links_of-requires-clause-next c = ap length c.deref-in-loop-at-2.ensures.value ∙ c.in_ok-near.ensures.count ∙ ap length c.deref.ensures.value ∙ c.in_ok-channels.ensures.groups.all
+
+pub join_links_of-requires-clause-after : goal.join_links_of-requires-clause-after
+join_links_of-requires-clause-after c =
+    let next = c.in_ok-near.ensures in
+    subst (λ xs. EachIndex xs (λ i. i < slice_index xs i)) (sym c.deref-in-loop-at-2.ensures.value) (λ i h. next.after i (subst (λ n. i < n) next.count h))
